@@ -1,0 +1,179 @@
+//! Accepted sheets: a model of some profile, its rows in another order,
+//! sometimes filled up to the sizes that `conlist` lends.
+
+use oracle::model::Renames;
+use oracle::sheet::{Field, NAME_BYTES, NAME_ROWS, SHEET_BYTES, Sheet, TABLE_ROWS};
+use oracle::{MOST_VISITS, endpoint};
+
+use crate::draft::Draft;
+
+/// A kind of model: how often, what it is called, how it is made.
+type Profile = (usize, &'static str, fn(&mut Draft));
+
+const PROFILES: &[Profile] = &[
+    (10, "deep chains", Draft::deep_chains),
+    (4, "short chains", Draft::short_chains),
+    (11, "component tree", Draft::component_tree),
+    (10, "arrays", Draft::arrays),
+    (8, "group connections", Draft::group_connections),
+    (10, "groups across packages", Draft::groups_across_packages),
+    (9, "chains and groups", Draft::chains_and_groups),
+    (14, "resolution", Draft::resolution),
+    (28, "one reference", Draft::one_reference),
+    (4, "depth limit", Draft::depth_limit),
+    (2, "self nesting", Draft::self_nesting),
+    (4, "visit limit", Draft::visit_limit),
+    (3, "composed limit", Draft::composed_limit),
+    (3, "row limit", Draft::row_limit),
+    (4, "diagnostic limit", Draft::diagnostic_limit),
+    (3, "group row limit", Draft::group_row_limit),
+    (5, "group diagnostic limit", Draft::group_diagnostic_limit),
+    (3, "text limit", Draft::text_limit),
+    (4, "several limits", Draft::several_limits),
+];
+
+/// The profiles in which the names of renames decide something.
+const WILD_PROFILES: &[Profile] = &[
+    (1, "groups across packages", Draft::groups_across_packages),
+    (2, "resolution", Draft::resolution),
+];
+
+/// More comparisons of features than this, and the original takes long.
+const MOST_COMPARISONS: u64 = 2_000_000;
+
+/// An accepted sheet, and the name of its profile. Tries with numbers made from
+/// the seed, until a sheet has the right size and the original is quick on it.
+pub fn accepted(seed: u64, wild: bool) -> (Vec<u8>, &'static str) {
+    let profile = weighted(seed, if wild { WILD_PROFILES } else { PROFILES });
+    for attempt in 0..1000 {
+        let sheet = attempted(seed, attempt, wild, profile);
+        if let Some(tables) = Sheet::accepted(&sheet)
+            && is_quick(&tables)
+        {
+            return (sheet, profile.1);
+        }
+    }
+    panic!("no accepted sheet for seed {seed}");
+}
+
+/// One of the tries of a seed with a profile, whatever comes of it.
+pub fn attempted_of(seed: u64, attempt: u64, profile: &str) -> Vec<u8> {
+    let mut profiles = PROFILES.iter();
+    let found = profiles.find(|(_, name, _)| *name == profile);
+    attempted(seed, attempt, false, *found.expect("the name of a profile"))
+}
+
+fn attempted(seed: u64, attempt: u64, wild: bool, (_, _, make): Profile) -> Vec<u8> {
+    let number = seed.wrapping_mul(1000).wrapping_add(attempt);
+    let mut draft = Draft::new(number, wild);
+    if draft.random.chance(20) {
+        draft.name("unused");
+    }
+    make(&mut draft);
+    draft.classify_components();
+    reorder(&mut draft);
+    fill_up(&mut draft);
+    draft.sheet.bytes()
+}
+
+/// The profiles take turns, each as often as its weight says.
+fn weighted(seed: u64, profiles: &[Profile]) -> Profile {
+    let total: usize = profiles.iter().map(|(weight, ..)| weight).sum();
+    // A step that has no factor in common with the total mixes the turns.
+    let mut turn = (seed.wrapping_mul(61) % total as u64) as usize;
+    for profile in profiles {
+        if turn < profile.0 {
+            return *profile;
+        }
+        turn -= profile.0;
+    }
+    unreachable!("the weights sum up to the total")
+}
+
+fn is_quick(sheet: &Sheet) -> bool {
+    let counts = endpoint::counts(sheet, Renames::Exact, MOST_VISITS);
+    let pairs = counts.chunks(2);
+    let comparisons: u64 = pairs.map(|pair| pair[0].features * pair[1].features).sum();
+    comparisons <= MOST_COMPARISONS
+}
+
+/// Puts rows into another order, as far as their meaning allows.
+fn reorder(draft: &mut Draft) {
+    if draft.random.chance(60) {
+        reorder_components(draft);
+    }
+    let Draft { random, sheet, .. } = draft;
+    if random.chance(60) {
+        random.shuffle(&mut sheet.connections);
+    }
+    if random.chance(60) {
+        random.shuffle(&mut sheet.features);
+    }
+    if random.chance(40) {
+        random.shuffle(&mut sheet.declared_features);
+    }
+    if random.chance(40) {
+        random.shuffle(&mut sheet.imports);
+    }
+}
+
+/// Another order of the components, every parent still before its children.
+fn reorder_components(draft: &mut Draft) {
+    let count = draft.sheet.components.len();
+    let mut open = vec![0];
+    let mut order = Vec::new();
+    let mut new_row = vec![0; count];
+    while !open.is_empty() {
+        let next = open.swap_remove(draft.random.below(open.len()));
+        new_row[next as usize] = order.len() as u32;
+        order.push(next);
+        open.extend(draft.children(next));
+    }
+    let moved = |row: Field| row.map(|row| new_row[row as usize]);
+    let sheet = &mut draft.sheet;
+    let components = order.iter().map(|&row| sheet.components[row as usize]);
+    sheet.components = components.collect();
+    for component in &mut sheet.components {
+        component[1] = moved(component[1]);
+    }
+    for feature in &mut sheet.features {
+        feature[1] = moved(feature[1]);
+    }
+    for connection in &mut sheet.connections {
+        connection[1] = moved(connection[1]);
+    }
+}
+
+/// Sometimes: features of no matter up to 96, or unused names up to 256, or up
+/// to 16,384 bytes of sheet exactly.
+fn fill_up(draft: &mut Draft) {
+    if draft.random.chance(3) {
+        while draft.sheet.features.len() < TABLE_ROWS {
+            let name = draft.name("spare");
+            draft.feature(name, 0, 0);
+        }
+    }
+    if draft.random.chance(3) {
+        let whole = draft.random.chance(60);
+        fill_names(draft, whole);
+    }
+}
+
+fn fill_names(draft: &mut Draft, whole: bool) {
+    const AROUND: usize = "N \n".len();
+    let mut left = SHEET_BYTES.saturating_sub(draft.sheet.bytes().len());
+    while draft.sheet.names.len() < NAME_ROWS && left > AROUND {
+        let wanted = match whole {
+            true => NAME_BYTES,
+            false => draft.random.range(1, 20),
+        };
+        let mut length = wanted.min(left - AROUND);
+        let rest = left - AROUND - length;
+        // What is left must be nothing or enough for a line.
+        if (1..=AROUND).contains(&rest) && length > AROUND + 1 {
+            length -= AROUND + 1;
+        }
+        draft.sheet.names.push("y".repeat(length));
+        left -= AROUND + length;
+    }
+}

@@ -1,0 +1,670 @@
+//! Damaged sheets: one for every refusal that a sheet can reach, each with many
+//! causes, and sheets with two faults, on which the order of the checks decides.
+//!
+//! Refusal 10 cannot be reached: the reader only makes whole rows, at most 96 or
+//! 256 of them, and good names inside the byte table. Nor can the byte table of
+//! refusal 5 be full: it is as long as the longest sheet.
+
+// Every damage of lines has the same signature, also one that adds no line.
+#![allow(clippy::ptr_arg)]
+
+use oracle::sheet::{
+    Field, LETTERS, Meaning, NAME_BYTES, NAME_ROWS, SHEET_BYTES, TABLE_ROWS, bound, columns,
+};
+use oracle::{Options, conlist};
+
+use crate::accepted::attempted_of;
+use crate::draft::{Draft, GROUP_CONNECTION, Holder, NO_REFERENCE};
+use crate::random::Random;
+
+type Line = Vec<u8>;
+
+/// At which level a damage is done. A sheet with two takes them in this order.
+#[derive(Clone, Copy)]
+enum Damage {
+    Tables(fn(&mut Draft)),
+    Lines(fn(&mut Random, &mut Vec<Line>)),
+    Bytes(fn(&mut Random, &mut Vec<u8>)),
+}
+
+const DAMAGES: &[(&str, Damage)] = &[
+    ("1 too long", Damage::Bytes(too_long)),
+    ("2 letter unknown", Damage::Lines(letter_unknown)),
+    ("2 empty line", Damage::Lines(empty_line)),
+    (
+        "2 last line without LF",
+        Damage::Bytes(last_line_without_lf),
+    ),
+    ("3 letter out of order", Damage::Lines(letter_out_of_order)),
+    ("4 length of the line", Damage::Lines(length_of_the_line)),
+    ("4 field is no number", Damage::Lines(field_is_no_number)),
+    ("4 leading zero", Damage::Lines(leading_zero)),
+    ("4 missing not allowed", Damage::Lines(missing_not_allowed)),
+    ("4 N without its space", Damage::Lines(name_without_space)),
+    ("4 name length", Damage::Lines(name_length)),
+    ("4 name byte", Damage::Lines(name_byte)),
+    ("5 N rows", Damage::Lines(too_many_names)),
+    ("5 rows", Damage::Lines(too_many_rows)),
+    ("6 name number", Damage::Tables(name_past_its_table)),
+    ("6 component row", Damage::Tables(component_past_its_table)),
+    ("6 package row", Damage::Tables(package_past_its_table)),
+    ("6 holder row", Damage::Tables(holder_past_its_table)),
+    ("6 kind", Damage::Tables(kind_past_its_range)),
+    ("6 flag", Damage::Tables(flag_past_its_range)),
+    ("6 holder kind", Damage::Tables(holder_kind_past_its_range)),
+    ("6 direction", Damage::Tables(direction_past_its_range)),
+    ("6 what", Damage::Tables(what_past_its_range)),
+    ("7 no component", Damage::Tables(no_component)),
+    ("7 root has a parent", Damage::Tables(root_has_a_parent)),
+    ("7 parent missing", Damage::Tables(parent_missing)),
+    ("7 parent not smaller", Damage::Tables(parent_not_smaller)),
+    ("8 end without feature", Damage::Tables(end_without_feature)),
+    (
+        "8 package without type",
+        Damage::Tables(package_without_type),
+    ),
+    (
+        "8 implementation without type",
+        Damage::Tables(implementation_without_type),
+    ),
+    (
+        "8 package rename with a name",
+        Damage::Tables(package_rename_with_a_name),
+    ),
+    (
+        "8 rename without a name",
+        Damage::Tables(rename_without_a_name),
+    ),
+    ("9 packages", Damage::Tables(clashing_packages)),
+    ("9 types", Damage::Tables(clashing_types)),
+    (
+        "9 implementations",
+        Damage::Tables(clashing_implementations),
+    ),
+    ("9 group types", Damage::Tables(clashing_group_types)),
+    ("9 renames", Damage::Tables(clashing_renames)),
+];
+
+/// Accepted sheets whose listing is refused: the refusal, and the profile.
+const REFUSED_LISTINGS: &[(u32, &str)] = &[
+    (11, "row limit"),
+    (11, "group row limit"),
+    (12, "diagnostic limit"),
+    (12, "group diagnostic limit"),
+    (13, "self nesting"),
+    (13, "visit limit"),
+    (14, "composed limit"),
+    (15, "text limit"),
+    (11, "several limits"),
+    (13, "several limits"),
+];
+
+/// How many turns of each round go to sheets with two faults.
+const TURNS_OF_TWO_FAULTS: usize = 7;
+
+/// A sheet that earns a refusal, and what was done to it. The damages take
+/// turns with the seed.
+pub fn damaged(seed: u64) -> (Vec<u8>, String) {
+    let round = DAMAGES.len() + REFUSED_LISTINGS.len() + TURNS_OF_TWO_FAULTS;
+    let turn = (seed % round as u64) as usize;
+    if let Some((label, damage)) = DAMAGES.get(turn) {
+        return (with_damages(seed, &[*damage]), label.to_string());
+    }
+    if let Some((refusal, profile)) = REFUSED_LISTINGS.get(turn - DAMAGES.len()) {
+        let sheet = refused_listing(seed, *refusal, profile);
+        return (sheet, format!("{refusal} {profile}"));
+    }
+    let mut random = Random::new(!seed);
+    let (one, other) = (random.pick(DAMAGES), random.pick(DAMAGES));
+    let sheet = with_damages(seed, &[one.1, other.1]);
+    (sheet, format!("{}, {}", one.0, other.0))
+}
+
+fn with_damages(seed: u64, damages: &[Damage]) -> Vec<u8> {
+    let mut draft = Draft::new(seed, false);
+    every_letter(&mut draft);
+    for damage in damages {
+        if let Damage::Tables(damage) = damage {
+            damage(&mut draft);
+        }
+    }
+    let mut lines = draft.sheet.lines();
+    let random = &mut draft.random;
+    for damage in damages {
+        if let Damage::Lines(damage) = damage {
+            damage(random, &mut lines);
+        }
+    }
+    let mut bytes = Vec::new();
+    for line in lines {
+        bytes.extend(line);
+        bytes.push(b'\n');
+    }
+    for damage in damages {
+        if let Damage::Bytes(damage) = damage {
+            damage(random, &mut bytes);
+        }
+    }
+    bytes
+}
+
+/// A sheet of this profile whose listing earns this refusal.
+fn refused_listing(seed: u64, refusal: u32, profile: &str) -> Vec<u8> {
+    let line = format!("R{refusal:6}     0 -\n");
+    for attempt in 0..1000 {
+        let sheet = attempted_of(seed, attempt, profile);
+        if conlist(&sheet, Options::default()) == Ok(line.clone()) {
+            return sheet;
+        }
+    }
+    panic!("no sheet of the profile {profile} earns {refusal}");
+}
+
+/// A small accepted sheet with rows of every letter.
+fn every_letter(draft: &mut Draft) {
+    let pitch = draft.name("pitch");
+    let library = draft.name("lib");
+    let (drive, plug, socket) = (
+        draft.name("drive"),
+        draft.name("plug"),
+        draft.name("socket"),
+    );
+    let (one, other) = (draft.name("i"), draft.name("j"));
+    for name in [pitch, library] {
+        draft.package(name);
+    }
+    for package in 0..2 {
+        let imported = draft.random.pick(&[pitch, library]);
+        draft.import(package, imported);
+        let private = draft.random.chance(30);
+        draft.component_type(package, drive, private);
+        draft.implementation(package, drive, one, private);
+        draft.implementation(package, drive, other, private);
+        draft.group_type(package, plug, private);
+    }
+    draft.group_type(0, socket, false);
+    draft.set_inverse_of(2, [library, plug, None]);
+    draft.set_extends(0, [None, socket, None]);
+    let (bus, position) = (draft.name("bus"), draft.name("pos"));
+    draft.declared_feature(Holder::Type(0), bus, 8, [pitch, plug, None]);
+    draft.declared_feature(Holder::GroupType(1), position, 0, NO_REFERENCE);
+    draft.declared_feature(Holder::GroupType(0), bus, 8, [None, socket, one]);
+    let alias = draft.name("alias");
+    draft.package_rename(0, alias, library);
+    draft.named_rename(0, 1, alias, [library, drive]);
+    draft.named_rename(1, 2, alias, [pitch, plug]);
+    let root = draft.root();
+    let (axis, motor) = (draft.name("axis[1]"), draft.name("motor"));
+    let first = draft.component(axis, Some(root), Some(1));
+    for _ in 0..draft.random.range(1, 3) {
+        draft.component(motor, Some(first), None);
+    }
+    for component in 0..draft.sheet.components.len() as u32 {
+        draft.set_classifier(component, pitch, drive);
+    }
+    draft.set_pattern(0, "One_To_One");
+    for _ in 0..draft.random.range(1, 3) {
+        draft.feature(bus, first, 8);
+    }
+    draft.connection(root, GROUP_CONNECTION, [axis, bus, None, bus]);
+    draft.connection(first, 0, [motor, position, motor, position]);
+    draft.connection(root, 0, [None, position, None, None]);
+}
+
+// Damages of the bytes.
+
+fn too_long(random: &mut Random, bytes: &mut Vec<u8>) {
+    let over = SHEET_BYTES + random.pick(&[1, 1, 2, 7, 400, 4000]);
+    match random.below(4) {
+        // Good lines only, as far as there are places for names.
+        0 => {
+            let mut names = Vec::new();
+            while names.len() + bytes.len() < over {
+                names.extend(b"N ");
+                names.extend([b'y'; NAME_BYTES]);
+                names.push(b'\n');
+            }
+            bytes.splice(0..0, names);
+        }
+        // A last line that never ends.
+        1 => bytes.resize(over, b'9'),
+        2 => bytes.resize(over, b'\n'),
+        _ => *bytes = vec![random.pick(b"NZ \xff\n"); over],
+    }
+}
+
+fn last_line_without_lf(random: &mut Random, bytes: &mut Vec<u8>) {
+    match random.below(4) {
+        0 => {
+            bytes.pop();
+        }
+        1 => {
+            let cut = random.range(1, bytes.len().min(60));
+            bytes.truncate(bytes.len() - cut);
+            if bytes.last() == Some(&b'\n') {
+                bytes.push(b'R');
+            }
+        }
+        2 => bytes.push(random.pick(b"NCFXPITQUERZ \r\x00\xff")),
+        _ => bytes.extend(random.pick(&[&b"N late"[..], b"R     0", b"C     x", b"\r"])),
+    }
+}
+
+// Damages of the lines.
+
+/// The place of a line with a row and its letter still whole, if there is one.
+fn some_row_line(random: &mut Random, lines: &[Line]) -> Option<usize> {
+    some_line(random, lines, |line| {
+        line.len() > 6 && !columns(line[0]).is_empty()
+    })
+}
+
+/// The place of a line with a name still in it, if there is one.
+fn some_name_line(random: &mut Random, lines: &[Line]) -> Option<usize> {
+    some_line(random, lines, |line| line.len() > 2 && line[0] == b'N')
+}
+
+fn some_line(random: &mut Random, lines: &[Line], holds: impl Fn(&Line) -> bool) -> Option<usize> {
+    let mut places = (0..lines.len()).collect::<Vec<usize>>();
+    places.retain(|&place| holds(&lines[place]));
+    (!places.is_empty()).then(|| random.pick(&places))
+}
+
+fn letter_unknown(random: &mut Random, lines: &mut Vec<Line>) {
+    let place = random.below(lines.len());
+    let letter = random.pick(b"nxcABDGHJKLMOSVWYZ09 -#@\x00\x09\x0d\x7f\x80\xff");
+    match random.chance(80) {
+        true => match lines[place].first_mut() {
+            Some(first) => *first = letter,
+            None => lines[place].push(letter),
+        },
+        false => lines.insert(place, vec![letter]),
+    }
+}
+
+fn empty_line(random: &mut Random, lines: &mut Vec<Line>) {
+    let place = random.range(0, lines.len());
+    lines.insert(place, Vec::new());
+}
+
+fn letter_out_of_order(random: &mut Random, lines: &mut Vec<Line>) {
+    let order = |line: &Line| {
+        let letter = line.first();
+        LETTERS.iter().position(|known| Some(known) == letter)
+    };
+    let late = random.range(1, lines.len() - 1);
+    let earlier: Vec<usize> = (0..late)
+        .filter(|&place| order(&lines[place]) < order(&lines[late]))
+        .collect();
+    if earlier.is_empty() {
+        let first = lines[0].clone();
+        lines.push(first);
+        return;
+    }
+    let mut line = lines[random.pick(&earlier)].clone();
+    if random.chance(20) {
+        line.pop();
+    }
+    lines.insert(late + 1, line);
+}
+
+fn length_of_the_line(random: &mut Random, lines: &mut Vec<Line>) {
+    let Some(place) = some_row_line(random, lines) else {
+        return;
+    };
+    let line = &mut lines[place];
+    match random.below(8) {
+        0 => {
+            line.pop();
+        }
+        1 => line.push(b' '),
+        2 => line.push(b'\r'),
+        3 => line.extend(b"     0"),
+        4 => line.truncate(line.len() - 6),
+        5 => line.truncate(1),
+        6 => line.insert(1, b' '),
+        _ => {
+            let fields = line[1..].to_vec();
+            line.extend(fields);
+        }
+    }
+}
+
+/// Puts another field into a random column of a random row for which this holds.
+fn put_field(
+    random: &mut Random,
+    lines: &mut [Line],
+    field: &[u8; 6],
+    allowed: impl Fn(Meaning, bool) -> bool,
+) {
+    let mut places = Vec::new();
+    for (place, line) in lines.iter().enumerate() {
+        let Some(&letter) = line.first() else {
+            continue;
+        };
+        for (column, (meaning, may_miss)) in columns(letter).iter().enumerate() {
+            let start = 1 + 6 * column;
+            if allowed(*meaning, *may_miss) && line.len() >= start + 6 {
+                places.push((place, start));
+            }
+        }
+    }
+    if !places.is_empty() {
+        let (place, start) = random.pick(&places);
+        lines[place][start..start + 6].copy_from_slice(field);
+    }
+}
+
+fn field_is_no_number(random: &mut Random, lines: &mut Vec<Line>) {
+    let field = random.pick(&[
+        b"      ",
+        b"1     ",
+        b" 1    ",
+        b"    1 ",
+        b"   1 2",
+        b"    +1",
+        b"    -1",
+        b"-     ",
+        b"    - ",
+        b"    --",
+        b"    1-",
+        b"   0x1",
+        b"    1a",
+        b"\t    1",
+        b"    1\t",
+        b"     .",
+        b"   1e0",
+        b"     O",
+        b"     \x00",
+        b"     \xb2",
+        b"     \r",
+        b"     /",
+        b"     :",
+    ]);
+    put_field(random, lines, field, |_, _| true);
+}
+
+fn leading_zero(random: &mut Random, lines: &mut Vec<Line>) {
+    let field = random.pick(&[
+        b"    00", b"    01", b"   001", b"000000", b"000001", b"   010",
+    ]);
+    put_field(random, lines, field, |_, _| true);
+}
+
+fn missing_not_allowed(random: &mut Random, lines: &mut Vec<Line>) {
+    put_field(random, lines, b"     -", |_, may_miss| !may_miss);
+}
+
+fn name_without_space(random: &mut Random, lines: &mut Vec<Line>) {
+    let Some(place) = some_name_line(random, lines) else {
+        return;
+    };
+    let line = &mut lines[place];
+    match random.below(4) {
+        0 => {
+            line.remove(1);
+        }
+        1 => line[1] = b'\t',
+        2 => line[1] = random.pick(b"-_N\x00\xff\r"),
+        _ => line.truncate(1),
+    }
+}
+
+fn name_length(random: &mut Random, lines: &mut Vec<Line>) {
+    let Some(place) = some_name_line(random, lines) else {
+        return;
+    };
+    let length = random.pick(&[0, 0, NAME_BYTES + 1, NAME_BYTES + 1, 65, 100, 300]);
+    lines[place].truncate(2);
+    lines[place].resize(2 + length, b'y');
+}
+
+fn name_byte(random: &mut Random, lines: &mut Vec<Line>) {
+    let Some(place) = some_name_line(random, lines) else {
+        return;
+    };
+    let byte = random.pick(b"\x00\x01\x07\x08\x0a\x0b\x0c\x0d\x0e\x1f\x7f\x80\xa0\xff");
+    let line = &mut lines[place];
+    match random.chance(50) {
+        true => {
+            let at = random.range(2, line.len());
+            line.insert(at, byte);
+        }
+        false => {
+            let at = random.range(2, line.len() - 1);
+            line[at] = byte;
+        }
+    }
+}
+
+fn too_many_names(random: &mut Random, lines: &mut Vec<Line>) {
+    let names = lines.iter().filter(|line| line.first() == Some(&b'N'));
+    let wanted = NAME_ROWS + random.pick(&[1, 1, 2, 40]);
+    let added = wanted.saturating_sub(names.count());
+    let name = random.pick(&[&b"N y"[..], b"N yyy", b"N  "]);
+    lines.splice(0..0, vec![name.to_vec(); added]);
+}
+
+fn too_many_rows(random: &mut Random, lines: &mut Vec<Line>) {
+    let Some(place) = some_row_line(random, lines) else {
+        return;
+    };
+    let row = lines[place].clone();
+    let rows = lines.iter().filter(|line| line.first() == row.first());
+    let wanted = TABLE_ROWS + random.pick(&[1, 1, 2, 9]);
+    let added = wanted.saturating_sub(rows.count());
+    lines.splice(place..place, vec![row; added]);
+    // Past the table a bad row is found bad before it is found one too many.
+    if random.chance(15) {
+        let last = place + added;
+        lines[last].push(b' ');
+    }
+}
+
+// Damages of the tables.
+
+/// Puts a number past its bound into a random field with such a meaning.
+fn past(draft: &mut Draft, wanted: impl Fn(u8, usize, Meaning) -> bool) {
+    let mut places = Vec::new();
+    for &letter in &LETTERS[1..] {
+        for (row, fields) in draft.sheet.rows(letter).iter().enumerate() {
+            for (column, (meaning, _)) in columns(letter).iter().enumerate() {
+                if wanted(letter, column, *meaning) {
+                    places.push((letter, row, column, bound(&draft.sheet, *meaning, fields)));
+                }
+            }
+        }
+    }
+    if places.is_empty() {
+        return;
+    }
+    let (letter, row, column, bound) = draft.random.pick(&places);
+    let number = match draft.random.below(5) {
+        0..=2 => bound as u32,
+        3 => bound as u32 + draft.random.range(1, 3) as u32,
+        _ => 999_999,
+    };
+    draft.sheet.row_mut(letter, row)[column] = Some(number);
+}
+
+fn name_past_its_table(draft: &mut Draft) {
+    past(draft, |_, _, meaning| meaning == Meaning::Name);
+}
+
+fn component_past_its_table(draft: &mut Draft) {
+    past(draft, |_, _, meaning| meaning == Meaning::Row(b'C'));
+}
+
+fn package_past_its_table(draft: &mut Draft) {
+    past(draft, |_, _, meaning| meaning == Meaning::Row(b'P'));
+}
+
+fn holder_past_its_table(draft: &mut Draft) {
+    past(draft, |_, _, meaning| meaning == Meaning::Holder);
+}
+
+fn kind_past_its_range(draft: &mut Draft) {
+    past(draft, |letter, _, meaning| match meaning {
+        Meaning::Below(10) => true,
+        Meaning::Below(5) => letter == b'X',
+        _ => false,
+    });
+}
+
+fn flag_past_its_range(draft: &mut Draft) {
+    past(draft, |letter, _, meaning| {
+        meaning == Meaning::Below(2) && letter != b'E'
+    });
+}
+
+fn holder_kind_past_its_range(draft: &mut Draft) {
+    past(draft, |letter, column, _| letter == b'E' && column == 0);
+}
+
+fn direction_past_its_range(draft: &mut Draft) {
+    past(draft, |letter, column, _| letter == b'E' && column == 4);
+}
+
+fn what_past_its_range(draft: &mut Draft) {
+    past(draft, |letter, column, _| letter == b'R' && column == 1);
+}
+
+fn no_component(draft: &mut Draft) {
+    draft.sheet.components.clear();
+    // Otherwise features or connections have owners past the table.
+    if draft.random.chance(80) {
+        draft.sheet.features.clear();
+        draft.sheet.connections.clear();
+    }
+    if draft.random.chance(20) {
+        let names = draft.sheet.names.clone();
+        draft.sheet = Default::default();
+        draft.sheet.names = names;
+    }
+}
+
+fn component_rows(draft: &Draft) -> u32 {
+    draft.sheet.components.len() as u32
+}
+
+fn root_has_a_parent(draft: &mut Draft) {
+    if component_rows(draft) > 0 {
+        let parent = draft.random.below(component_rows(draft) as usize);
+        draft.sheet.components[0][1] = Some(parent as u32);
+    }
+}
+
+/// A component row other than the root's, if there is one.
+fn some_child(draft: &mut Draft) -> Option<u32> {
+    let rows: Vec<u32> = (1..component_rows(draft)).collect();
+    (!rows.is_empty()).then(|| draft.random.pick(&rows))
+}
+
+fn parent_missing(draft: &mut Draft) {
+    if let Some(child) = some_child(draft) {
+        draft.sheet.components[child as usize][1] = None;
+    }
+}
+
+fn parent_not_smaller(draft: &mut Draft) {
+    if let Some(child) = some_child(draft) {
+        let rows: Vec<u32> = (child..component_rows(draft)).collect();
+        let parent = draft.random.pick(&rows);
+        draft.sheet.components[child as usize][1] = Some(parent);
+    }
+}
+
+/// Changes a random row of a letter, if the letter has rows.
+fn change_row(draft: &mut Draft, letter: u8, change: impl Fn(&mut Random, &mut [Field])) {
+    let rows = draft.sheet.rows(letter).len();
+    if rows > 0 {
+        let row = draft.random.below(rows);
+        change(&mut draft.random, draft.sheet.row_mut(letter, row));
+    }
+}
+
+fn end_without_feature(draft: &mut Draft) {
+    change_row(draft, b'X', |random, fields| {
+        let end = random.pick(&[3, 5]);
+        fields[end] = Some(0);
+        fields[end + 1] = None;
+    });
+}
+
+/// Takes the type out of a reference of a U or E row.
+fn reference_without_type(draft: &mut Draft, package: Field, implementation: Field) {
+    let (letter, starts) = draft.random.pick(&[(b'U', [3, 6]), (b'E', [5, 5])]);
+    change_row(draft, letter, |random, fields| {
+        let start = random.pick(&starts);
+        fields[start..start + 3].copy_from_slice(&[package, None, implementation]);
+    });
+}
+
+fn package_without_type(draft: &mut Draft) {
+    let implementation = draft.random.pick(&[None, None, Some(1)]);
+    reference_without_type(draft, Some(0), implementation);
+}
+
+fn implementation_without_type(draft: &mut Draft) {
+    reference_without_type(draft, None, Some(1));
+}
+
+fn package_rename_with_a_name(draft: &mut Draft) {
+    change_row(draft, b'R', |_, fields| {
+        fields[1] = Some(0);
+        fields[4] = Some(0);
+    });
+}
+
+fn rename_without_a_name(draft: &mut Draft) {
+    change_row(draft, b'R', |random, fields| {
+        fields[1] = Some(random.pick(&[1, 2]));
+        fields[4] = None;
+    });
+}
+
+/// Adds a row with the key of another in another spelling, somewhere below it.
+fn clash(draft: &mut Draft, letter: u8, name_columns: &[usize]) {
+    let rows = draft.sheet.rows(letter);
+    if rows.is_empty() {
+        return;
+    }
+    let mut rows: Vec<Vec<Field>> = rows.into_iter().map(<[Field]>::to_vec).collect();
+    for _ in 0..draft.random.pick(&[1, 1, 1, 2]) {
+        let original = draft.random.below(rows.len());
+        let mut clashing = rows[original].clone();
+        for &column in name_columns {
+            let text = draft.text(clashing[column]);
+            clashing[column] = draft.spelled(&text, 70);
+        }
+        let place = draft.random.range(original + 1, rows.len());
+        rows.insert(place, clashing);
+    }
+    let first = draft.sheet.rows(letter).len();
+    for row in &rows[first..] {
+        draft.sheet.push(letter, row);
+    }
+    for (row, fields) in rows.iter().enumerate() {
+        draft.sheet.row_mut(letter, row).copy_from_slice(fields);
+    }
+}
+
+fn clashing_packages(draft: &mut Draft) {
+    clash(draft, b'P', &[0]);
+}
+
+fn clashing_types(draft: &mut Draft) {
+    clash(draft, b'T', &[1]);
+}
+
+fn clashing_implementations(draft: &mut Draft) {
+    clash(draft, b'Q', &[1, 2]);
+}
+
+fn clashing_group_types(draft: &mut Draft) {
+    clash(draft, b'U', &[1]);
+}
+
+fn clashing_renames(draft: &mut Draft) {
+    clash(draft, b'R', &[2]);
+}

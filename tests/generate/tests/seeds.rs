@@ -1,0 +1,76 @@
+//! Generated sheets are what they are said to be, the original answers them, and
+//! a seed gives the same sheet for ever.
+
+use std::fs;
+
+use generate::{Sort, case};
+use oracle::model::Renames;
+use oracle::stream::{self, Case};
+use oracle::{NoAnswer, Options, conlist};
+
+/// How many seeds to try: `SHEETS` in the environment, or 300.
+fn seeds() -> std::ops::RangeInclusive<u64> {
+    let count = match std::env::var("SHEETS") {
+        Ok(text) => text.parse().expect("SHEETS is a number"),
+        Err(_) => 300,
+    };
+    1..=count
+}
+
+#[test]
+fn accepted_sheets_are_answered_and_have_no_wild_names() {
+    let exact = Options {
+        renames: Renames::Exact,
+        ..Options::default()
+    };
+    for seed in seeds() {
+        let Case { label, sheet, .. } = case(Sort::Accepted, seed);
+        let answer = conlist(&sheet, Options::default());
+        assert!(answer.is_ok(), "{label}");
+        assert_eq!(answer, conlist(&sheet, exact), "{label}");
+    }
+}
+
+#[test]
+fn wild_sheets_are_answered() {
+    for seed in seeds() {
+        let Case { label, sheet, .. } = case(Sort::Wild, seed);
+        assert!(conlist(&sheet, Options::default()).is_ok(), "{label}");
+    }
+}
+
+/// By a listing with 11 to 15, or before any listing. A sheet with two faults
+/// may have one that takes the other back, so these are left out.
+#[test]
+fn damaged_sheets_are_refused() {
+    for seed in seeds() {
+        let Case { label, sheet, .. } = case(Sort::Damaged, seed);
+        let refused = match conlist(&sheet, Options::default()) {
+            Ok(text) => text.starts_with('R'),
+            Err(reason) => reason == NoAnswer::NotAccepted,
+        };
+        assert!(refused || label.contains(','), "{label}");
+    }
+}
+
+#[test]
+fn stored_sheets_are_made_by_their_seeds() {
+    for (file, sort) in [
+        ("accepted.txt", Sort::Accepted),
+        ("wild.txt", Sort::Wild),
+        ("damaged.txt", Sort::Damaged),
+    ] {
+        let path = format!("{}/../vectors/{file}", env!("CARGO_MANIFEST_DIR"));
+        let stored = stream::read(&fs::read(path).unwrap()).unwrap();
+        let mut made = 0;
+        for Case { label, sheet, .. } in stored {
+            // Those written by hand have a label without a seed.
+            let mut words = label.split(' ').skip(1);
+            if let Some(Ok(seed)) = words.next().map(str::parse) {
+                assert_eq!(case(sort, seed).sheet, sheet, "{label}");
+                made += 1;
+            }
+        }
+        assert!(made > 0, "{file}");
+    }
+}

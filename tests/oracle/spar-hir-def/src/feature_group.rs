@@ -1,0 +1,1 @@
+../../../../docs/src/crates/spar-hir-def/src/feature_group.rs

@@ -1,0 +1,1 @@
+//! Stand-in for the lowering from the syntax tree. The oracle never runs it.

@@ -1,0 +1,111 @@
+//! What document 01 itself gives: its run and its trial rows.
+
+use std::fs;
+
+use oracle::model::Renames;
+use oracle::sheet::Sheet;
+use oracle::{NoAnswer, Options, conlist, endpoint, stream};
+
+/// The sheet of a trial among the stored vectors.
+fn trial(label: &str) -> Vec<u8> {
+    let path = concat!(env!("CARGO_MANIFEST_DIR"), "/../vectors/accepted.txt");
+    let cases = stream::read(&fs::read(path).unwrap()).unwrap();
+    let label = format!("trial: {label}");
+    let case = cases.into_iter().find(|case| case.label == label);
+    case.unwrap_or_else(|| panic!("no case {label}")).sheet
+}
+
+fn text(sheet: &[u8]) -> String {
+    conlist(sheet, Options::default()).unwrap()
+}
+
+/// The lines of a text that begin with this letter.
+fn lines(text: &str, letter: char) -> Vec<&str> {
+    let lines = text.lines();
+    lines.filter(|line| line.starts_with(letter)).collect()
+}
+
+#[test]
+fn the_run() {
+    let names = [
+        "hub", "pit", "mot", "cmd", "set", "c1", "c2", "p", "t", "reg",
+    ];
+    let mut sheet: String = names.map(|name| format!("N {name}\n")).concat();
+    sheet += "\
+C     0     -     -     7     8     -
+C     1     0     -     7     8     -
+C     2     0     -     7     8     -
+C     9     1     -     7     8     -
+X     5     0     0     1     3     2     4
+X     6     1     0     9     4     -     3
+";
+    let expected = "\
+S     0     0     3     2     2     0     1
+= c1
+< set
+> set
+Z     1     0
+";
+    assert_eq!(trial("run of document 01"), sheet.as_bytes());
+    assert_eq!(text(sheet.as_bytes()), expected);
+}
+
+#[test]
+fn the_empty_sheet_is_not_accepted() {
+    let answer = conlist(b"", Options::default());
+    assert_eq!(answer, Err(NoAnswer::NotAccepted));
+}
+
+#[test]
+fn patterns() {
+    let nested = text(&trial("((One_To_One))"));
+    assert_eq!(lines(&nested, 'Z'), ["Z     2     0"]);
+    let twice = text(&trial("(One_To_One, One_To_One)"));
+    assert_eq!(lines(&twice, 'Z'), ["Z     4     0"]);
+}
+
+#[test]
+fn one_to_one_of_three_and_two() {
+    let text = text(&trial("one to one, 3 against 2"));
+    assert_eq!(lines(&text, 'D'), ["D     4     0     3     2"]);
+    assert_eq!(lines(&text, 'Z'), ["Z     2     0"]);
+}
+
+#[test]
+fn pump_is_not_its_array_element() {
+    let text = text(&trial("pump and pump[1]"));
+    assert_eq!(lines(&text, 'S'), ["S     0     0     1     3     1     0"]);
+}
+
+#[test]
+fn extensions_down_to_the_depth_limit() {
+    let ten = text(&trial("a feature 10 extensions down"));
+    assert_eq!(lines(&ten, 'Z'), ["Z     0     1"]);
+    let eleven = text(&trial("a feature 11 extensions down"));
+    assert_eq!(lines(&eleven, 'Z'), ["Z     0     0"]);
+}
+
+#[test]
+fn a_group_nested_in_itself() {
+    for (times, visits) in [(2, 4_095), (3, 265_720)] {
+        let sheet = trial(&format!("nested in itself {times} times"));
+        let tables = Sheet::accepted(&sheet).unwrap();
+        let counts = endpoint::counts(&tables, Renames::Text, u64::MAX);
+        assert_eq!(counts.len(), 2);
+        for count in counts {
+            assert_eq!((count.visits, count.features), (visits, 0));
+        }
+    }
+    let three = text(&trial("nested in itself 3 times"));
+    assert_eq!(three, "R    13     0 -\n");
+}
+
+/// A chain of 20 steps is followed to its end, a longer one is cut there.
+#[test]
+fn chains_of_about_twenty_steps() {
+    for (steps, connections) in [(19, 20), (20, 21), (21, 21), (22, 21), (23, 21)] {
+        let text = text(&trial(&format!("chain of {steps} steps")));
+        let row = lines(&text, 'S')[0];
+        assert_eq!(row[25..31].trim(), connections.to_string());
+    }
+}

@@ -1,0 +1,71 @@
+//! The stored vectors agree with the original.
+
+use std::fs;
+
+use oracle::model::Renames;
+use oracle::sheet::Sheet;
+use oracle::stream::{self, Case};
+use oracle::{NoAnswer, Options, conlist};
+
+const EXACT: Options = Options {
+    renames: Renames::Exact,
+    unlimited: false,
+};
+
+fn cases(name: &str) -> Vec<Case> {
+    let path = format!("{}/../vectors/{name}", env!("CARGO_MANIFEST_DIR"));
+    stream::read(&fs::read(path).unwrap()).unwrap()
+}
+
+fn answer(case: &Case, options: Options) -> Result<Vec<u8>, NoAnswer> {
+    conlist(&case.sheet, options).map(String::into_bytes)
+}
+
+#[test]
+fn accepted_sheets() {
+    let cases = cases("accepted.txt");
+    assert!(cases.len() >= 300);
+    for case in cases {
+        let tables = Sheet::accepted(&case.sheet).expect("accepted");
+        assert_eq!(tables.bytes(), case.sheet, "{}", case.label);
+        let expected = Ok(case.text.clone());
+        assert_eq!(
+            answer(&case, Options::default()),
+            expected,
+            "{}",
+            case.label
+        );
+        assert_eq!(answer(&case, EXACT), expected, "{}", case.label);
+    }
+}
+
+#[test]
+fn accepted_sheets_with_wild_names() {
+    let cases = cases("wild.txt");
+    assert!(!cases.is_empty());
+    for case in cases {
+        let expected = Ok(case.text.clone());
+        assert_eq!(answer(&case, EXACT), expected, "{}", case.label);
+    }
+}
+
+/// Refusals 1 to 10 are not the original's, so of these only that there is one.
+#[test]
+fn damaged_sheets() {
+    let cases = cases("damaged.txt");
+    assert!(cases.len() >= 300);
+    for case in cases {
+        let line = String::from_utf8(case.text.clone()).unwrap();
+        let refusal: u32 = line[1..7].trim().parse().unwrap();
+        let expected = match refusal {
+            1..=10 => Err(NoAnswer::NotAccepted),
+            _ => Ok(case.text.clone()),
+        };
+        assert_eq!(
+            answer(&case, Options::default()),
+            expected,
+            "{}",
+            case.label
+        );
+    }
+}

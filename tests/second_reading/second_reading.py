@@ -1,0 +1,1471 @@
+"""A second reading of the paper "The connection listing and its rules" (01).
+
+It answers, for any bytes, what `conlist` prints. It is written from the
+paper's own sentences, each quoted over the function that follows it, so
+that another definition of the same paper can be compared with it. Names
+are bytes, numbers do not wrap, rows count from 0.
+
+    second_reading.py < sheet            prints the answer
+    second_reading.py --stream FILE      compares a stream of cases
+    second_reading.py --stream FILE --marks   and counts every rule met
+"""
+
+import collections
+import re
+import sys
+
+# ---------------------------------------------------------------------------
+# The rules, each with its sentence of 01.
+
+_DROP = ("`parse_connection_pattern` drops round brackets, commas, spaces, tabs, and compares "
+         "folded with the fixed bytes \"one_to_one\"")
+_STEP = ("a connection of that component with a source subcomponent, no destination subcomponent, "
+         "its destination feature byte-equal, and one found child.")
+_CHILD = ("byte-equal names; if none and the wanted name has no `[`, children with an array index "
+          "whose name up to the first `[` is equal folded.")
+_PACK = ("a reference with a package is looked up there, after at most one replacement by the "
+         "asking package's package renames.")
+_BARE = ("Without a package: own package, then classifier rename, then (no implementation name) "
+         "group rename, then imports in order.")
+_ONE = "with an implementation name only Q; otherwise T, then U."
+_PRIVATE = "A private hit from outside gives nothing; U is not tried after a private T."
+_TARGET = ("A rename's target, implementation name kept, is a reference with a package, asked from "
+           "the same package.")
+_INVERSE = ("inverse_of, where present, replaces everything of the type itself and turns the "
+            "inverse flag.")
+_NESTED = ("A nested group with a classifier is expanded with its name joined to the prefix by a "
+           "dot; without one it is listed itself.")
+_DEPTH = ("Depth is 0, and one more in each visit made by a visit (inverse_of, extends, nested "
+          "group); above 10, and for a reference to no group type, nothing comes.")
+_BOTH = ("Both with subcomponent: diagnostic 2 for no source child, 3 for no destination child; "
+         "then 4 where the owner's pattern is one to one and the counts differ.")
+_PAIRS = "Pairs up to the shorter list, or all, source outermost."
+_PER_PAIR = ("Per pair every source chain with every destination chain; path is this connection, "
+             "source steps, then destination steps not yet in it.")
+_ONE_SIDE = ("One with subcomponent: only if the owner has no parent; 2 or 3 as above; the other "
+             "end is the owner and is not traced.")
+_END = "A chain ends where no step exists or after 20 steps;"
+_21 = "it has a twenty-first step where one exists from the end of its twentieth."
+_ENDPOINT = ("It needs an F row of the component (folded name, kind 8), the component's type "
+             "resolved to a T (a reference with and from the component's package), and that type's "
+             "first E row of that folded name and kind 8; if that row lacks a classifier, none.")
+_ASKING = ("The asking package is the classifier's, else the component's, with no rename applied; "
+           "the implementation name is dropped.")
+_SEARCH = ("The search stops at the first destination feature whose last name is equal folded; "
+           "prefixes are not compared.")
+_CARRY = ("Rows carry \"connection.feature\" and the kind by `feature_kind_to_connection_kind`, "
+          "both of the source feature, and group.prefix.feature names (group.feature without a "
+          "prefix), the group spelled as in the X row.")
+_FIRST = ("per X row of kind 2 with both ends: first found child, or the owner where no "
+          "subcomponent is named; skip if none.")
+_EITHER = ("`expand_endpoint_feature_group` on both, always; if either gives none (an empty "
+           "expansion is not none), skip.")
+_COLUMNS = ("a letter, then decimal fields of six columns, right-justified with spaces, no leading "
+            "zeros.")
+_NAME = "`N`: one space, then a name of 1 to 63 bytes, each 09 or 20 to 7E hexadecimal."
+_4 = "length, field or name against the sheet's rules"
+_5 = "that letter's lent table, or at `N` the byte table, has no place"
+_6 = "a row or name number past its table, or a kind, flag, direction or what past its range"
+_7 = "no component 0, or it has a parent, or another's parent is missing or not a smaller row"
+_8 = ("an end with a subcomponent and no feature; a reference with a package or implementation and "
+      "no type; a rename of what = 0 with an original name, or 1 or 2 without")
+_9 = ("two P rows, or two rows of one package in T, Q, U or one kind of R, with equal folded keys "
+      "(Q: the pair)")
+_10 = ("in this order: table of no whole number of rows (row 0), over 4,096 rows (row 4,096), name "
+       "past the byte table or against the byte or length rule")
+_S = ("`S`: connection, kind, source component, destination component, path length, path; then "
+      "`= ` row name, `< ` source feature, `> ` destination feature.")
+_D = "`D`: the four numbers; then `! ` and the Rust's message, and `@ ` for each of its path names."
+
+RULES = {
+    # sheet and lines
+    "1: sheet too long": "over 16,384 bytes",
+    "2: letter unknown": "letter unknown, or last line without LF",
+    "2: empty line": "letter unknown, or last line without LF",
+    "2: last line without LF": "letter unknown, or last line without LF",
+    "3: letter out of order": "letter earlier in order than the line before's",
+    "4: length of the line": _4,
+    "4: field is no right-justified number": _COLUMNS,
+    "4: leading zero": _COLUMNS,
+    "4: missing where not allowed": "A lone `-` in the last column means missing, allowed only in fields marked ?.",
+    "4: N without its space": _NAME,
+    "4: name length": _NAME,
+    "4: name byte": _NAME,
+    "5: N rows": _5,
+    "5: rows of another letter": _5,
+    # tables
+    "6: name number": _6,
+    "6: component row": _6,
+    "6: package row": _6,
+    "6: holder row": _6,
+    "6: kind": _6,
+    "6: flag": _6,
+    "6: holder kind": _6,
+    "6: direction": _6,
+    "6: what": _6,
+    "7: no component 0": _7,
+    "7: component 0 has a parent": _7,
+    "7: parent missing": _7,
+    "7: parent not smaller": _7,
+    "8: end without feature": _8,
+    "8: package without type": _8,
+    "8: implementation without type": _8,
+    "8: package rename with a name": _8,
+    "8: other rename without a name": _8,
+    "9: packages": _9,
+    "9: component types": _9,
+    "9: implementations": _9,
+    "9: group types": _9,
+    "9: renames": _9,
+    # resolution in one package
+    "key found in another spelling": "Keys are folded.",
+    "implementation name asks only Q": _ONE,
+    "T before U": _ONE,
+    "U found": _ONE,
+    "private T from outside gives nothing": _PRIVATE,
+    "private U from outside gives nothing": _PRIVATE,
+    "private Q from outside gives nothing": _PRIVATE,
+    "private hit from the own package": _PRIVATE,
+    "U not tried after a private T": _PRIVATE,
+    # resolve_classifier
+    "reference with a package is looked up only there": _PACK,
+    "package rename replaces": _PACK,
+    "package rename applied once": _PACK,
+    "package rename wins over a package of that name": _PACK,
+    "own after replacement": "\"Own\" means equal keys after replacement.",
+    "own package first": _BARE,
+    "classifier rename": _BARE,
+    "classifier rename keeps the implementation name": _TARGET,
+    "classifier rename before group rename": _BARE,
+    "group rename": _BARE,
+    "group rename not with an implementation name": _BARE,
+    "rename target through a package rename": _TARGET,
+    "rename that finds nothing ends the search": "A matching rename ends the search, found or not.",
+    "import found": _BARE,
+    "import passed over, private": _BARE,
+    "import passed over, not there": _BARE,
+    "import is not replaced by a package rename": _BARE,
+    # group expansion
+    "depth above 10": _DEPTH,
+    "reference to no group type": _DEPTH,
+    "references inside ask from the package found in": "References inside a group ask from the package it was found in.",
+    "inverse_of hides own features": _INVERSE,
+    "inverse_of of an inverse turns back": _INVERSE,
+    "inverse swaps in and out": "Inverse swaps in and out.",
+    "extends before own": "Otherwise first the extended type's features, then the own.",
+    "nested group with a classifier": _NESTED,
+    "nested group without one": _NESTED,
+    "prefix of two or more names": _NESTED,
+    # children
+    "byte-equal child": _CHILD,
+    "byte-equal child hides array children": _CHILD,
+    "array rule by base name": _CHILD,
+    "array rule with other case": _CHILD,
+    "array rule needs an array index": _CHILD,
+    "array index 0 is an index": _CHILD,
+    "wanted name with [ has no array rule": _CHILD,
+    "no child found": _CHILD,
+    # pattern
+    "pattern one to one": _DROP,
+    "pattern with dropped characters": _DROP,
+    "pattern in another case": _DROP,
+    "other pattern is all to all": "all else, and missing, is all to all.",
+    "missing pattern is all to all": "all else, and missing, is all to all.",
+    # steps and chains
+    "step towards the source": _STEP,
+    "step towards the destination": "Towards the destination, its mirror image.",
+    "no step where only the case differs": _STEP,
+    "no step without a found child": _STEP,
+    "several found children in a step": "Connections, then children, in row order.",
+    "several connections in a step": "Connections, then children, in row order.",
+    "chain without a step": _END,
+    "chain ends by no step": _END,
+    "chain ends after 20 steps": _END,
+    "exactly 20 steps": _21,
+    "twenty-first step exists": _21,
+    # X rows
+    "diagnostic 1": "An end without feature: diagnostic 1, once, nothing more.",
+    "diagnostic 1 once for both ends": "An end without feature: diagnostic 1, once, nothing more.",
+    "both ends: diagnostic 2": _BOTH,
+    "both ends: diagnostic 3": _BOTH,
+    "both ends: diagnostic 4": _BOTH,
+    "both ends: 4 beside 2 or 3": _BOTH,
+    "pairs one to one": _PAIRS,
+    "pairs one to one up to the shorter": _PAIRS,
+    "pairs all to all": _PAIRS,
+    "every source chain with every destination chain": _PER_PAIR,
+    "path with source and destination steps": _PER_PAIR,
+    "one end at the root: source": _ONE_SIDE,
+    "one end at the root: destination": _ONE_SIDE,
+    "one end at the root: diagnostic 2": _ONE_SIDE,
+    "one end at the root: diagnostic 3": _ONE_SIDE,
+    "one end below the root gives nothing": _ONE_SIDE,
+    "neither end with a subcomponent": "Neither: nothing.",
+    # group listing
+    "group list: an end is missing": _FIRST,
+    "group list: first of several children": _FIRST,
+    "group list: the owner itself": _FIRST,
+    "group list: no child, skip": _FIRST,
+    "none: no F row of that name": _ENDPOINT,
+    "none: F row of another kind": _ENDPOINT,
+    "none: component's type not found": _ENDPOINT,
+    "none: component's type is a U": _ENDPOINT,
+    "none: no E row": _ENDPOINT,
+    "none: no classifier": _ENDPOINT,
+    "first E row of kind 8": _ENDPOINT,
+    "source none, destination expanded all the same": _EITHER,
+    "empty expansion is not none": _EITHER,
+    "asking package is the classifier's": _ASKING,
+    "asking package is the component's": _ASKING,
+    "asking package with no rename applied": _ASKING,
+    "implementation name is dropped": _ASKING,
+    "private group found from outside": "a private top-level group is found from outside.",
+    "match in another case": _SEARCH,
+    "first of several destination features": _SEARCH,
+    "prefixes are not compared": _SEARCH,
+    "kind of the source feature": _CARRY,
+    "name with a prefix": _CARRY,
+    "name without a prefix": _CARRY,
+    "group spelled as in the X row": _CARRY,
+    "diagnostic 5": "No match: diagnostic 5.",
+    # refusals of the lists
+    "traced 11": "more rows than the output holds",
+    "traced 12": "more diagnostics than the output holds",
+    "13": "one endpoint has over 65,536 visits",
+    "group 11": "more rows than the output holds",
+    "14": "composed names longer than their output",
+    "group 12": "more diagnostics than the output holds",
+    "15": "printed list longer than its output",
+    # text
+    "text: traced row": _S,
+    "text: group row": _S,
+    "text: traced diagnostic": _D,
+    "text: group diagnostic": _D,
+    "text: no row": "then `Z` with both row counts.",
+    "text: refusal with a line": "A refusal prints only `R`, number, place, a space and the table letter or `-`.",
+    "text: refusal with a table letter": "A refusal prints only `R`, number, place, a space and the table letter or `-`.",
+    "text: refusal without a place": "A refusal prints only `R`, number, place, a space and the table letter or `-`.",
+}
+
+# Causes that no sheet reaches at conlist's sizes; tables of a caller do.
+RULES_BEYOND_SHEETS = {
+    "5: byte table": _5,
+    "10: no whole number of rows": _10,
+    "10: over 4,096 rows": _10,
+    "10: name past the byte table": _10,
+    "10: name length": _10,
+    "10: name byte": _10,
+}
+
+marks = collections.Counter()
+
+
+def mark(rule, when=True):
+    if when:
+        marks[rule] += 1
+
+
+# ---------------------------------------------------------------------------
+# Letters and fields.
+
+MISSING = 4294967295
+LETTERS = "NCFXPITQUER"
+
+# "name" is a name number; "C" and "P" are rows of that table; "holder" is a
+# row of T or of U; (word, n) is a number 0 to n; "any" is any number.
+# A ? at the end means that the field may be missing.
+KIND = ("kind", 9)
+FLAG = ("flag", 1)
+REFERENCE = ["name?", "name?", "name?"]
+FIELDS = {
+    "C": ["name", "C?", "any?", "name", "name", "name?"],
+    "F": ["name", "C", KIND],
+    "X": ["name", "C", ("kind", 4), "name?", "name?", "name?", "name?"],
+    "P": ["name"],
+    "I": ["P", "name"],
+    "T": ["P", "name", FLAG],
+    "Q": ["P", "name", "name", FLAG],
+    "U": ["P", "name", FLAG] + REFERENCE + REFERENCE,
+    "E": [("holder kind", 1), "holder", "name", KIND, ("direction?", 2)] + REFERENCE,
+    "R": ["P", ("what", 2), "name", "name", "name?"],
+}
+WIDTH = {letter: len(fields) for letter, fields in FIELDS.items()}
+WIDTH["N"] = 2  # offset, length
+
+
+def may_be_missing(field):
+    word = field if isinstance(field, str) else field[0]
+    return word.endswith("?")
+
+
+Refusal = collections.namedtuple("Refusal", "number letter place")
+Tables = collections.namedtuple("Tables", "bytes_table tables")
+
+
+def good_name_byte(byte):
+    """ "each 09 or 20 to 7E hexadecimal" """
+    return byte == 0x09 or 0x20 <= byte <= 0x7E
+
+
+# "Hashing becomes a scan for equal folded names (only A to Z fold)."
+def fold(name):
+    return name.lower()  # on bytes: A to Z only
+
+
+# ---------------------------------------------------------------------------
+# The reader: sheet and lines.
+
+NUMBER = re.compile(rb" *(0|[1-9][0-9]*)\Z")
+
+
+# "a letter, then decimal fields of six columns, right-justified with spaces, no
+# leading zeros. A lone `-` in the last column means missing, allowed only in
+# fields marked ?."
+def read_field(columns, missing_allowed):
+    """The number, or None where the field is against the rules."""
+    if columns == b"     -":
+        mark("4: missing where not allowed", not missing_allowed)
+        return MISSING if missing_allowed else None
+    found = NUMBER.match(columns)
+    if not found:
+        digits = columns.lstrip(b" ")
+        zero = digits.isdigit() and digits.startswith(b"0")
+        mark("4: leading zero" if zero else "4: field is no right-justified number")
+        return None
+    return int(found.group(1))
+
+
+# "`N`: one space, then a name of 1 to 63 bytes, each 09 or 20 to 7E hexadecimal."
+def read_name(line):
+    if line[1:2] != b" ":
+        mark("4: N without its space")
+        return None
+    name = line[2:]
+    if not 1 <= len(name) <= 63:
+        mark("4: name length")
+        return None
+    if not all(good_name_byte(byte) for byte in name):
+        mark("4: name byte")
+        return None
+    return name
+
+
+# "over 16,384 bytes"; "Lines go singly through 2 to 5, up to the first bad one";
+# "The place is the line from 1". A lent table holds the whole rows that fit.
+def read_sheet(sheet, bytes_room, rooms):
+    """Tables with the used numbers of each table, or a Refusal of 1 to 5."""
+    if len(sheet) > 16384:
+        mark("1: sheet too long")
+        return Refusal(1, "-", 0)
+    bytes_table = []
+    tables = {letter: [] for letter in LETTERS}
+    lines = sheet.split(b"\n")
+    last = lines.pop()  # what stands behind the last LF
+    before = 0
+    for place, line in enumerate(lines, 1):
+        # 2: "letter unknown"
+        letter = chr(line[0]) if line else ""
+        if letter not in LETTERS or not letter:
+            mark("2: letter unknown" if line else "2: empty line")
+            return Refusal(2, "-", place)
+        # 3: "letter earlier in order than the line before's"
+        order = LETTERS.index(letter)
+        if order < before:
+            mark("3: letter out of order")
+            return Refusal(3, "-", place)
+        before = order
+        # 4: "length, field or name against the sheet's rules"
+        if letter == "N":
+            name = read_name(line)
+            if name is None:
+                return Refusal(4, "-", place)
+            row = [len(bytes_table), len(name)]
+        else:
+            if len(line) != 1 + 6 * WIDTH[letter]:
+                mark("4: length of the line")
+                return Refusal(4, "-", place)
+            row = []
+            for number, field in enumerate(FIELDS[letter]):
+                start = 1 + 6 * number
+                value = read_field(line[start:start + 6], may_be_missing(field))
+                if value is None:
+                    return Refusal(4, "-", place)
+                row.append(value)
+        # 5: "that letter's lent table, or at `N` the byte table, has no place"
+        room = rooms.get(letter, 0) // WIDTH[letter]
+        if len(tables[letter]) // WIDTH[letter] >= room:
+            mark("5: N rows" if letter == "N" else "5: rows of another letter")
+            return Refusal(5, "-", place)
+        if letter == "N":
+            if len(bytes_table) + len(name) > bytes_room:
+                mark("5: byte table")
+                return Refusal(5, "-", place)
+            bytes_table.extend(name)
+        tables[letter].extend(row)
+    # 2: "last line without LF"
+    if last:
+        mark("2: last line without LF")
+        return Refusal(2, "-", len(lines) + 1)
+    return Tables(bytes_table, tables)
+
+
+# ---------------------------------------------------------------------------
+# The tables: refusals 10, 6, 7, 8, 9, in this order.
+
+def rows_of(tables, letter):
+    numbers = tables.get(letter, [])
+    width = WIDTH[letter]
+    return [tuple(numbers[at:at + width]) for at in range(0, len(numbers), width)]
+
+
+# "The table is the order of checks." "6 to 10 each go over all tables in letter
+# order." "letter and lowest bad row (where two rows clash, the later)"
+def check_tables(bytes_table, tables):
+    """(number, letter, row) of the refusal, or None where the model is accepted."""
+    found = check_10(bytes_table, tables)
+    if found:
+        return found
+    rows = {letter: rows_of(tables, letter) for letter in LETTERS}
+    names = [bytes(bytes_table[offset:offset + length]) for offset, length in rows["N"]]
+    return check_6(rows) or check_7(rows) or check_8(rows) or check_9(rows, names)
+
+
+# "in this order: table of no whole number of rows (row 0), over 4,096 rows (row
+# 4,096), name past the byte table or against the byte or length rule"
+def check_10(bytes_table, tables):
+    for letter in LETTERS:
+        if len(tables.get(letter, [])) % WIDTH[letter] != 0:
+            mark("10: no whole number of rows")
+            return Refusal(10, letter, 0)
+    for letter in LETTERS:
+        if len(tables.get(letter, [])) // WIDTH[letter] > 4096:
+            mark("10: over 4,096 rows")
+            return Refusal(10, letter, 4096)
+    for row, (offset, length) in enumerate(rows_of(tables, "N")):
+        if offset + length > len(bytes_table):
+            mark("10: name past the byte table")
+        elif not 1 <= length <= 63:
+            mark("10: name length")
+        elif not all(good_name_byte(byte) for byte in bytes_table[offset:offset + length]):
+            mark("10: name byte")
+        else:
+            continue
+        return Refusal(10, "N", row)
+    return None
+
+
+# "a row or name number past its table, or a kind, flag, direction or what past
+# its range"
+def check_6(rows):
+    for letter in LETTERS[1:]:
+        for row, values in enumerate(rows[letter]):
+            for field, value in zip(FIELDS[letter], values):
+                if value == MISSING and may_be_missing(field):
+                    continue
+                if isinstance(field, tuple):
+                    word, end = field[0].rstrip("?"), field[1] + 1
+                else:
+                    word = field.rstrip("?")
+                    if word == "any":
+                        continue
+                    if word == "holder":
+                        # the first field of the row was good
+                        end = len(rows["T" if values[0] == 0 else "U"])
+                    else:
+                        end = len(rows["N" if word == "name" else word])
+                    word = {"name": "name number", "C": "component row",
+                            "P": "package row", "holder": "holder row"}[word]
+                if value >= end:
+                    mark("6: " + word)
+                    return Refusal(6, letter, row)
+    return None
+
+
+# "no component 0, or it has a parent, or another's parent is missing or not a
+# smaller row"
+def check_7(rows):
+    if not rows["C"]:
+        mark("7: no component 0")
+        return Refusal(7, "C", 0)
+    for row, (_, parent, _, _, _, _) in enumerate(rows["C"]):
+        if row == 0:
+            if parent != MISSING:
+                mark("7: component 0 has a parent")
+                return Refusal(7, "C", 0)
+        elif parent == MISSING:
+            mark("7: parent missing")
+            return Refusal(7, "C", row)
+        elif parent >= row:
+            mark("7: parent not smaller")
+            return Refusal(7, "C", row)
+    return None
+
+
+# "a reference with a package or implementation and no type"
+def reference_against_8(package, type_name, implementation):
+    if type_name != MISSING:
+        return False
+    mark("8: package without type", package != MISSING)
+    mark("8: implementation without type", package == MISSING and implementation != MISSING)
+    return package != MISSING or implementation != MISSING
+
+
+# "an end with a subcomponent and no feature; a reference with a package or
+# implementation and no type; a rename of what = 0 with an original name, or 1 or 2
+# without"
+def check_8(rows):
+    for row, (_, _, _, source_sub, source, destination_sub, destination) in enumerate(rows["X"]):
+        if (source_sub != MISSING and source == MISSING) or \
+                (destination_sub != MISSING and destination == MISSING):
+            mark("8: end without feature")
+            return Refusal(8, "X", row)
+    for row, values in enumerate(rows["U"]):
+        if reference_against_8(*values[3:6]) or reference_against_8(*values[6:9]):
+            return Refusal(8, "U", row)
+    for row, values in enumerate(rows["E"]):
+        if reference_against_8(*values[5:8]):
+            return Refusal(8, "E", row)
+    for row, (_, what, _, _, original) in enumerate(rows["R"]):
+        if what == 0 and original != MISSING:
+            mark("8: package rename with a name")
+            return Refusal(8, "R", row)
+        if what != 0 and original == MISSING:
+            mark("8: other rename without a name")
+            return Refusal(8, "R", row)
+    return None
+
+
+# "two P rows, or two rows of one package in T, Q, U or one kind of R, with equal
+# folded keys (Q: the pair)"
+def check_9(rows, names):
+    key = [fold(name) for name in names]
+    keys = {
+        "P": [key[row[0]] for row in rows["P"]],
+        "T": [(row[0], key[row[1]]) for row in rows["T"]],
+        "Q": [(row[0], key[row[1]], key[row[2]]) for row in rows["Q"]],
+        "U": [(row[0], key[row[1]]) for row in rows["U"]],
+        "R": [(row[0], row[1], key[row[2]]) for row in rows["R"]],
+    }
+    words = {"P": "packages", "T": "component types", "Q": "implementations",
+             "U": "group types", "R": "renames"}
+    for letter in "PTQUR":
+        seen = set()
+        for row, one in enumerate(keys[letter]):
+            if one in seen:
+                mark("9: " + words[letter])
+                return Refusal(9, letter, row)
+            seen.add(one)
+    return None
+
+
+# ---------------------------------------------------------------------------
+# An accepted model. "Child, feature, connection and import lists become all rows
+# naming the owner, ascending".
+
+class Model:
+    def __init__(self, bytes_table, tables):
+        rows = {letter: rows_of(tables, letter) for letter in LETTERS}
+        self.rows = rows
+        self.names = [bytes(bytes_table[offset:offset + length]) for offset, length in rows["N"]]
+
+        def name(number):
+            return None if number == MISSING else self.names[number]
+
+        self.name = name
+        self.children = collections.defaultdict(list)
+        for row, values in enumerate(rows["C"]):
+            self.children[values[1]].append(row)
+        self.features = collections.defaultdict(list)
+        for row, values in enumerate(rows["F"]):
+            self.features[values[1]].append(row)
+        self.connections = collections.defaultdict(list)
+        for row, values in enumerate(rows["X"]):
+            self.connections[values[1]].append(row)
+        self.declared = collections.defaultdict(list)
+        for row, values in enumerate(rows["E"]):
+            self.declared[values[0], values[1]].append(row)
+        self.imports = collections.defaultdict(list)
+        for package, imported in rows["I"]:
+            self.imports[package].append(name(imported))
+
+        # By folded keys.
+        self.packages = {fold(name(values[0])): row for row, values in enumerate(rows["P"])}
+        self.types = {(values[0], fold(name(values[1]))): row for row, values in enumerate(rows["T"])}
+        self.implementations = {(values[0], fold(name(values[1])), fold(name(values[2]))): row
+                                for row, values in enumerate(rows["Q"])}
+        self.groups = {(values[0], fold(name(values[1]))): row for row, values in enumerate(rows["U"])}
+        self.renames = {(package, what, fold(name(alias))): (name(original), name(original_name))
+                        for package, what, alias, original, original_name in rows["R"]}
+
+        # Answers already given, so that equal questions are asked once.
+        self.found_children = {}
+        self.found_steps = {}
+        self.chain_counts = {}
+        self.visits = {}
+
+    def reference(self, three):
+        """(package or None, type, implementation or None), or None where missing."""
+        package, type_name, implementation = three
+        if type_name == MISSING:
+            return None
+        return self.name(package), self.name(type_name), self.name(implementation)
+
+
+# ---------------------------------------------------------------------------
+# Names and resolution.
+
+# "In one package: with an implementation name only Q; otherwise T, then U. A private
+# hit from outside gives nothing; U is not tried after a private T."
+def in_one_package(model, package_key, type_name, implementation, own):
+    """(letter, row, row of its package) or None."""
+    package = model.packages.get(package_key)
+    if package is None:
+        return None
+    key = fold(type_name)
+    type_row = model.types.get((package, key))
+    group_row = model.groups.get((package, key))
+
+    if implementation is not None:
+        row = model.implementations.get((package, key, fold(implementation)))
+        mark("implementation name asks only Q", type_row is not None or group_row is not None)
+        if row is None:
+            return None
+        letter, private = "Q", model.rows["Q"][row][3]
+        spelled = model.name(model.rows["Q"][row][1])
+    elif type_row is not None:
+        letter, row, private = "T", type_row, model.rows["T"][type_row][2]
+        spelled = model.name(model.rows["T"][row][1])
+    elif group_row is not None:
+        letter, row, private = "U", group_row, model.rows["U"][group_row][2]
+        spelled = model.name(model.rows["U"][row][1])
+    else:
+        return None
+
+    if private and not own:
+        mark("private " + letter + " from outside gives nothing")
+        mark("U not tried after a private T", letter == "T" and group_row is not None)
+        return None
+    mark("private hit from the own package", private)
+    mark("key found in another spelling", spelled != type_name)
+    mark("T before U", letter == "T" and group_row is not None)
+    mark("U found", letter == "U")
+    return letter, row, package
+
+
+# "`resolve_classifier`: a reference with a package is looked up there, after at most
+# one replacement by the asking package's package renames. Without a package: own
+# package, then classifier rename, then (no implementation name) group rename, then
+# imports in order. A rename's target, implementation name kept, is a reference with a
+# package, asked from the same package. A matching rename ends the search, found or
+# not. "Own" means equal keys after replacement."
+def resolve_classifier(model, asking, reference):
+    package, type_name, implementation = reference
+    asking_key = fold(asking)
+    asking_row = model.packages.get(asking_key)  # None where it is no package
+
+    if package is not None:
+        key = fold(package)
+        rename = model.renames.get((asking_row, 0, key))
+        if rename is not None:
+            before, key = key, fold(rename[0])
+            mark("package rename replaces", before != key)
+            mark("package rename applied once",
+                 model.renames.get((asking_row, 0, key), rename) != rename)
+            mark("package rename wins over a package of that name",
+                 before != key and before in model.packages)
+            mark("own after replacement", (before == asking_key) != (key == asking_key))
+        found = in_one_package(model, key, type_name, implementation, key == asking_key)
+        mark("reference with a package is looked up only there", found is None and
+             ((asking_row, 1, fold(type_name)) in model.renames
+              or (asking_row, 2, fold(type_name)) in model.renames
+              or imports_have(model, asking_row, type_name, implementation)))
+        return found
+
+    found = in_one_package(model, asking_key, type_name, implementation, True)
+    classifier_rename = model.renames.get((asking_row, 1, fold(type_name)))
+    group_rename = model.renames.get((asking_row, 2, fold(type_name)))
+    if found is not None:
+        mark("own package first", bool(classifier_rename or group_rename)
+             or imports_have(model, asking_row, type_name, implementation))
+        return found
+
+    rename = None
+    if classifier_rename is not None:
+        rename = classifier_rename
+        mark("classifier rename")
+        mark("classifier rename keeps the implementation name", implementation is not None)
+        mark("classifier rename before group rename", group_rename is not None)
+    elif group_rename is not None:
+        if implementation is None:
+            rename = group_rename
+            mark("group rename")
+        else:
+            mark("group rename not with an implementation name")
+    if rename is not None:
+        mark("rename target through a package rename",
+             (asking_row, 0, fold(rename[0])) in model.renames)
+        found = resolve_classifier(model, asking, (rename[0], rename[1], implementation))
+        mark("rename that finds nothing ends the search",
+             found is None and imports_have(model, asking_row, type_name, implementation))
+        return found
+
+    for imported in model.imports[asking_row]:
+        mark("import is not replaced by a package rename",
+             (asking_row, 0, fold(imported)) in model.renames)
+        found = in_one_package(model, fold(imported), type_name, implementation, False)
+        if found is not None:
+            mark("import found")
+            return found
+        there = is_in_package(model, imported, type_name, implementation)
+        mark("import passed over, private" if there else "import passed over, not there")
+    return None
+
+
+def is_in_package(model, package, type_name, implementation):
+    """For the marks only: is there a hit, private or not?"""
+    row, key = model.packages.get(fold(package)), fold(type_name)
+    if implementation is not None:
+        return (row, key, fold(implementation)) in model.implementations
+    return (row, key) in model.types or (row, key) in model.groups
+
+
+def imports_have(model, asking_row, type_name, implementation):
+    """For the marks only: is there a hit in any import?"""
+    return any(is_in_package(model, imported, type_name, implementation)
+               for imported in model.imports[asking_row])
+
+
+# ---------------------------------------------------------------------------
+# Group expansion.
+
+MAX_DEPTH = 10
+MAX_VISITS = 65536
+
+# What the visit of a reference makes: either a deeper visit or a feature.
+Deeper = collections.namedtuple("Deeper", "reference nested_name turns")
+Own = collections.namedtuple("Own", "row name key kind direction")
+Visit = collections.namedtuple("Visit", "count names package parts")
+Feature = collections.namedtuple("Feature", "name kind direction prefix number")
+
+
+# "inverse_of, where present, replaces everything of the type itself and turns the
+# inverse flag. Otherwise first the extended type's features, then the own. A nested
+# group with a classifier is expanded with its name joined to the prefix by a dot;
+# without one it is listed itself."
+def parts_of_group(model, group):
+    values = model.rows["U"][group]
+    extends, inverse_of = model.reference(values[3:6]), model.reference(values[6:9])
+    declared = model.declared[1, group]
+    if inverse_of is not None:
+        mark("inverse_of hides own features", bool(declared) or extends is not None)
+        return [Deeper(inverse_of, None, True)]
+    parts = []
+    if extends is not None:
+        parts.append(Deeper(extends, None, False))
+    for row in declared:
+        _, _, name, kind, direction, *three = model.rows["E"][row]
+        classifier = model.reference(three)
+        if kind == 8 and classifier is not None:
+            mark("nested group with a classifier")
+            parts.append(Deeper(classifier, model.name(name), False))
+        else:
+            mark("nested group without one", kind == 8)
+            parts.append(Own(row, model.name(name), fold(model.name(name)), kind, direction))
+    return parts
+
+
+# "A visit is each entry of `expand_from_ref`, those past the depth included." "Depth is
+# 0, and one more in each visit made by a visit (inverse_of, extends, nested group);
+# above 10, and for a reference to no group type, nothing comes. References inside a
+# group ask from the package it was found in."
+def visit(model, asking, reference, depth):
+    """What one visit gives: its count of visits, itself included; how often each
+    folded last name comes; the package found in; its parts in order. Equal visits
+    are counted once and kept."""
+    key = asking, reference, depth
+    if key in model.visits:
+        return model.visits[key]
+    package, parts = None, []
+    if depth > MAX_DEPTH:
+        mark("depth above 10")
+    else:
+        found = resolve_classifier(model, asking, reference)
+        if found is None or found[0] != "U":
+            mark("reference to no group type")
+        else:
+            package = model.name(model.rows["P"][found[2]][0])
+            parts = parts_of_group(model, found[1])
+    count, names = 1, collections.Counter()
+    for part in parts:
+        if isinstance(part, Own):
+            names[part.key] += 1
+        else:
+            mark("references inside ask from the package found in", fold(package) != fold(asking))
+            deeper = visit(model, package, part.reference, depth + 1)
+            count += deeper.count
+            mark("extends before own", part is parts[0] and part.nested_name is None
+                 and not part.turns and bool(deeper.names) and len(parts) > 1)
+            for name, times in deeper.names.items():
+                names[name] += times
+    model.visits[key] = Visit(count, names, package, parts)
+    return model.visits[key]
+
+
+# "Inverse swaps in and out."
+def turned(direction, inverse):
+    if inverse and direction in (0, 1):
+        mark("inverse swaps in and out")
+        return 1 - direction
+    return direction
+
+
+def features(model, asking, reference, wanted, inverse=False, prefix=None, depth=0):
+    """The features of a reference in order, of them only those whose folded last
+    name is wanted; a visit that gives none of those is not walked."""
+    this = visit(model, asking, reference, depth)
+    if wanted.isdisjoint(this.names):
+        return
+    for part in this.parts:
+        if isinstance(part, Own):
+            if part.key in wanted:
+                number = model.rows["E"][part.row][2]
+                yield Feature(part.name, part.kind, turned(part.direction, inverse), prefix, number)
+            continue
+        inside = prefix
+        if part.nested_name is not None:
+            inside = part.nested_name if prefix is None else prefix + b"." + part.nested_name
+            mark("prefix of two or more names", prefix is not None)
+        mark("inverse_of of an inverse turns back", part.turns and inverse)
+        yield from features(model, this.package, part.reference, wanted,
+                            inverse != part.turns, inside, depth + 1)
+
+
+# "The number of visits is part of the answer and equals the definition's count. Over
+# 65,536 the expansion stops: 13, count 0, no features."
+def expansion(model, asking, type_name):
+    """(0 or 13, count of visits, features) of a bare type name asked from a package."""
+    reference = (None, type_name, None)
+    this = visit(model, asking, reference, 0)
+    if this.count > MAX_VISITS:
+        return 13, 0, []
+    return 0, this.count, list(features(model, asking, reference, set(this.names)))
+
+
+# ---------------------------------------------------------------------------
+# Children, pattern, steps, chains.
+
+# "`base_name_of` hands back a part of the caller's own bytes."
+def base_name_of(name):
+    return name.split(b"[", 1)[0]
+
+
+# "`find_children_by_name`: byte-equal names; if none and the wanted name has no `[`,
+# children with an array index whose name up to the first `[` is equal folded."
+def find_children_by_name(model, owner, wanted):
+    key = owner, wanted
+    if key in model.found_children:
+        return model.found_children[key]
+    equal, array, unindexed = [], [], []
+    for child in model.children[owner]:
+        name, _, index = model.rows["C"][child][:3]
+        if model.name(name) == wanted:
+            equal.append(child)
+        elif fold(base_name_of(model.name(name))) == fold(wanted):
+            (unindexed if index == MISSING else array).append(child)
+    if equal:
+        mark("byte-equal child")
+        mark("byte-equal child hides array children", bool(array) and b"[" not in wanted)
+        found = equal
+    elif b"[" in wanted:
+        mark("wanted name with [ has no array rule",
+             any(fold(base_name_of(model.name(model.rows["C"][child][0]))) == fold(base_name_of(wanted))
+                 and model.rows["C"][child][2] != MISSING for child in model.children[owner]))
+        found = []
+    else:
+        mark("array rule by base name", bool(array))
+        mark("array rule with other case",
+             any(base_name_of(model.name(model.rows["C"][child][0])) != wanted for child in array))
+        mark("array rule needs an array index", bool(unindexed))
+        mark("array index 0 is an index", any(model.rows["C"][child][2] == 0 for child in array))
+        found = array
+    mark("no child found", not found)
+    model.found_children[key] = found
+    return found
+
+
+# "`parse_connection_pattern` drops round brackets, commas, spaces, tabs, and compares
+# folded with the fixed bytes "one_to_one"; all else, and missing, is all to all."
+def is_one_to_one(model, component):
+    text = model.name(model.rows["C"][component][5])
+    if text is None:
+        mark("missing pattern is all to all")
+        return False
+    bare = bytes(byte for byte in text if byte not in b"(), \t")
+    if fold(bare) != b"one_to_one":
+        mark("other pattern is all to all")
+        return False
+    mark("pattern one to one")
+    mark("pattern with dropped characters", bare != text)
+    mark("pattern in another case", bare != b"one_to_one")
+    return True
+
+
+SOURCE, DESTINATION = "source", "destination"
+MAX_STEPS = 20
+
+
+# "A step from (component, feature) towards the source: a connection of that component
+# with a source subcomponent, no destination subcomponent, its destination feature
+# byte-equal, and one found child. It leads to (child, source feature). Towards the
+# destination, its mirror image." "Connections, then children, in row order."
+def steps(model, side, component, feature):
+    """All steps as (connection, child, feature); each found child is one."""
+    key = side, component, feature
+    if key in model.found_steps:
+        return model.found_steps[key]
+    found, used = [], 0
+    for connection in model.connections[component]:
+        source_sub, source, destination_sub, destination = \
+            (model.name(number) for number in model.rows["X"][connection][3:7])
+        if side == SOURCE:
+            sub, inner, other_sub, outer = source_sub, source, destination_sub, destination
+        else:
+            sub, inner, other_sub, outer = destination_sub, destination, source_sub, source
+        if sub is None or other_sub is not None or outer is None:
+            continue
+        if outer != feature:
+            mark("no step where only the case differs", fold(outer) == fold(feature))
+            continue
+        children = find_children_by_name(model, component, sub)
+        mark("no step without a found child", not children)
+        mark("several found children in a step", len(children) > 1)
+        mark("step towards the " + side, bool(children))
+        used += bool(children)
+        found.extend((connection, child, inner) for child in children)
+    mark("several connections in a step", used > 1)
+    model.found_steps[key] = found
+    return found
+
+
+# "A chain ends where no step exists or after 20 steps; it has a twenty-first step where
+# one exists from the end of its twentieth."
+def count_chains(model, side, component, feature, left, limit):
+    """How many chains there are, so that too many are refused without being listed."""
+    key = side, component, feature, left
+    if key in model.chain_counts:
+        return model.chain_counts[key]
+    onward = steps(model, side, component, feature)
+    if left == 0:
+        mark("chain ends after 20 steps")
+        mark("twenty-first step exists" if onward else "exactly 20 steps")
+        count = 1
+    elif not onward:
+        mark("chain without a step" if left == limit else "chain ends by no step")
+        count = 1
+    else:
+        count = sum(count_chains(model, side, child, inner, left - 1, limit)
+                    for _, child, inner in onward)
+    model.chain_counts[key] = count
+    return count
+
+
+def chains(model, side, component, feature, left, taken=()):
+    """Every chain in order, as (component, feature, connections stepped through)."""
+    onward = steps(model, side, component, feature) if left > 0 else []
+    if not onward:
+        yield component, feature, taken
+    for connection, child, inner in onward:
+        yield from chains(model, side, child, inner, left - 1, taken + (connection,))
+
+
+# ---------------------------------------------------------------------------
+# The traced listing.
+
+Row = collections.namedtuple("Row", "connection kind source_component destination_component "
+                                    "path name source destination")
+# "A diagnostic is code, connection, two numbers: 2 and 3 subcomponent name and 0; 4
+# both counts; 5 feature name and 0; 1 zeros."
+Diagnostic = collections.namedtuple("Diagnostic", "code connection first second")
+
+
+# "`compute_semantic_connections`, per X row:"
+def traced_listing(model, rows_room, diagnostics_room, limit=MAX_STEPS):
+    """(rows, diagnostics), or the number of the refusal."""
+    diagnostics = []
+    work = []  # per X row: what stands at either end, and how the two are paired
+    total = 0
+    for x, values in enumerate(model.rows["X"]):
+        _, owner, _, source_sub, source, destination_sub, destination = values
+
+        # "An end without feature: diagnostic 1, once, nothing more."
+        if source == MISSING or destination == MISSING:
+            mark("diagnostic 1")
+            mark("diagnostic 1 once for both ends", source == destination)
+            diagnostics.append(Diagnostic(1, x, 0, 0))
+            continue
+
+        # "Neither: nothing."
+        if source_sub == MISSING and destination_sub == MISSING:
+            mark("neither end with a subcomponent")
+            continue
+
+        # "One with subcomponent: only if the owner has no parent"
+        both = source_sub != MISSING and destination_sub != MISSING
+        if not both and model.rows["C"][owner][1] != MISSING:
+            mark("one end below the root gives nothing")
+            continue
+
+        # "diagnostic 2 for no source child, 3 for no destination child"; "the other
+        # end is the owner and is not traced."
+        place = "both ends: " if both else "one end at the root: "
+        sources = destinations = None
+        if source_sub != MISSING:
+            sources = find_children_by_name(model, owner, model.name(source_sub))
+            if not sources:
+                mark(place + "diagnostic 2")
+                diagnostics.append(Diagnostic(2, x, source_sub, 0))
+        if destination_sub != MISSING:
+            destinations = find_children_by_name(model, owner, model.name(destination_sub))
+            if not destinations:
+                mark(place + "diagnostic 3")
+                diagnostics.append(Diagnostic(3, x, destination_sub, 0))
+
+        if not both:
+            mark("one end at the root: source", bool(sources))
+            mark("one end at the root: destination", bool(destinations))
+
+        # "then 4 where the owner's pattern is one to one and the counts differ."
+        one_to_one = both and is_one_to_one(model, owner)
+        if one_to_one and len(sources) != len(destinations):
+            mark("both ends: diagnostic 4")
+            mark("both ends: 4 beside 2 or 3", not sources or not destinations)
+            diagnostics.append(Diagnostic(4, x, len(sources), len(destinations)))
+
+        # How many rows this makes.
+        source_counts = [1] if sources is None else \
+            [count_chains(model, SOURCE, child, model.name(source), limit, limit)
+             for child in sources]
+        destination_counts = [1] if destinations is None else \
+            [count_chains(model, DESTINATION, child, model.name(destination), limit, limit)
+             for child in destinations]
+        if one_to_one:
+            total += sum(a * b for a, b in zip(source_counts, destination_counts))
+            mark("pairs one to one", min(len(sources), len(destinations)) > 1)
+            mark("pairs one to one up to the shorter",
+                 len(sources) != len(destinations) and bool(sources) and bool(destinations))
+        else:
+            total += sum(source_counts) * sum(destination_counts)
+            mark("pairs all to all", both and len(sources) * len(destinations) > 1
+                 and bool(sources) and bool(destinations))
+        mark("every source chain with every destination chain",
+             any(a > 1 for a in source_counts) and any(b > 1 for b in destination_counts))
+        work.append((x, sources, destinations, one_to_one))
+
+    # 11, then 12.
+    if total > rows_room:
+        mark("traced 11")
+        return 11
+    if len(diagnostics) > diagnostics_room:
+        mark("traced 12")
+        return 12
+
+    rows = []
+    for x, sources, destinations, one_to_one in work:
+        name, owner, kind, _, source, _, destination = model.rows["X"][x]
+        # "the other end is the owner and is not traced."
+        starts = [owner] if sources is None else sources
+        ends = [owner] if destinations is None else destinations
+        # "Pairs up to the shorter list, or all, source outermost."
+        if one_to_one:
+            pairs = list(zip(starts, ends))
+        else:
+            pairs = [(start, end) for start in starts for end in ends]
+        # "Per pair every source chain with every destination chain; path is this
+        # connection, source steps, then destination steps not yet in it."
+        for start, end in pairs:
+            source_limit = 0 if sources is None else limit
+            destination_limit = 0 if destinations is None else limit
+            for a, a_feature, a_steps in chains(model, SOURCE, start, model.name(source), source_limit):
+                for b, b_feature, b_steps in chains(model, DESTINATION, end, model.name(destination),
+                                                    destination_limit):
+                    path = [x] + list(a_steps)
+                    for step in b_steps:
+                        if step not in path:
+                            path.append(step)
+                    mark("path with source and destination steps", bool(a_steps) and bool(b_steps))
+                    rows.append(Row(x, kind, a, b, path, model.name(name), a_feature, b_feature))
+    return rows, diagnostics
+
+
+# ---------------------------------------------------------------------------
+# The group listing.
+
+# By the order of `FeatureKind` (data port, event port, event data port, parameter, data
+# access, bus access, subprogram access, subprogram group access, feature group,
+# abstract feature) and of `ConnectionKind` (port, access, feature group, feature,
+# parameter).
+FEATURE_KIND_TO_CONNECTION_KIND = [0, 0, 0, 4, 1, 1, 1, 1, 2, 3]
+
+
+# "first found child, or the owner where no subcomponent is named; skip if none."
+def endpoint_component(model, owner, subcomponent):
+    if subcomponent == MISSING:
+        mark("group list: the owner itself")
+        return owner
+    found = find_children_by_name(model, owner, model.name(subcomponent))
+    mark("group list: first of several children", len(found) > 1)
+    mark("group list: no child, skip", not found)
+    return found[0] if found else None
+
+
+# "It needs an F row of the component (folded name, kind 8), the component's type
+# resolved to a T (a reference with and from the component's package), and that type's
+# first E row of that folded name and kind 8; if that row lacks a classifier, none. The
+# asking package is the classifier's, else the component's, with no rename applied; the
+# implementation name is dropped."
+def endpoint_reference(model, component, feature):
+    """(asking package, type name) to expand, or None."""
+    key = fold(feature)
+    _, _, _, package, type_name, _ = model.rows["C"][component]
+    package, type_name = model.name(package), model.name(type_name)
+
+    kinds = [model.rows["F"][row][2] for row in model.features[component]
+             if fold(model.name(model.rows["F"][row][0])) == key]
+    if 8 not in kinds:
+        mark("none: F row of another kind" if kinds else "none: no F row of that name")
+        return None
+
+    found = resolve_classifier(model, package, (package, type_name, None))
+    if found is None or found[0] != "T":
+        mark("none: component's type not found" if found is None else "none: component's type is a U")
+        return None
+
+    passed_over = False
+    for row in model.declared[0, found[1]]:
+        _, _, name, kind, _, *three = model.rows["E"][row]
+        if fold(model.name(name)) != key:
+            continue
+        if kind != 8:
+            passed_over = True
+            continue
+        classifier = model.reference(three)
+        if classifier is None:
+            mark("none: no classifier")
+            return None
+        later = [other for other in model.declared[0, found[1]] if other > row
+                 and fold(model.name(model.rows["E"][other][2])) == key
+                 and model.rows["E"][other][3] == 8]
+        mark("first E row of kind 8", passed_over or bool(later))
+        asking = package if classifier[0] is None else classifier[0]
+        mark("asking package is the component's" if classifier[0] is None
+             else "asking package is the classifier's")
+        mark("asking package with no rename applied", classifier[0] is not None and
+             (model.packages.get(fold(package)), 0, fold(classifier[0])) in model.renames)
+        mark("implementation name is dropped", classifier[2] is not None)
+        bare = model.packages.get(fold(asking)), fold(classifier[1])
+        mark("private group found from outside", fold(asking) != fold(package)
+             and bare not in model.types and bare in model.groups
+             and model.rows["U"][model.groups[bare]][2] == 1)
+        return asking, classifier[1]
+    mark("none: no E row")
+    return None
+
+
+# "group.prefix.feature names (group.feature without a prefix), the group spelled as in
+# the X row."
+def expanded_name(group, feature):
+    if feature.prefix is None:
+        mark("name without a prefix")
+        return group + b"." + feature.name
+    mark("name with a prefix")
+    return group + b"." + feature.prefix + b"." + feature.name
+
+
+# "`expand_feature_group_connections`, per X row of kind 2 with both ends: first found
+# child, or the owner where no subcomponent is named; skip if none.
+# `expand_endpoint_feature_group` on both, always; if either gives none (an empty
+# expansion is not none), skip."
+def group_listing(model, rows_room, diagnostics_room, composed_room):
+    """(rows, diagnostics, composed bytes), or the number of the refusal."""
+    work = []
+    total = total_diagnostics = 0
+    for x, values in enumerate(model.rows["X"]):
+        _, owner, kind, source_sub, source, destination_sub, destination = values
+        if kind != 2:
+            continue
+        if source == MISSING or destination == MISSING:
+            mark("group list: an end is missing")
+            continue
+        a = endpoint_component(model, owner, source_sub)
+        b = endpoint_component(model, owner, destination_sub)
+        if a is None or b is None:
+            continue
+        a_asks = endpoint_reference(model, a, model.name(source))
+        b_asks = endpoint_reference(model, b, model.name(destination))
+        ends = []
+        for asks in a_asks, b_asks:
+            if asks is None:
+                ends.append(None)
+                continue
+            # 13: "one endpoint has over 65,536 visits"
+            this = visit(model, asks[0], (None, asks[1], None), 0)
+            if this.count > MAX_VISITS:
+                mark("source none, destination expanded all the same", ends == [None])
+                mark("13")
+                return 13
+            ends.append(this)
+        mark("source none, destination expanded all the same", ends[0] is None and ends[1] is not None)
+        if ends[0] is None or ends[1] is None:
+            continue
+        mark("empty expansion is not none", not ends[0].names or not ends[1].names)
+        matched = {name for name in ends[0].names if name in ends[1].names}
+        unmatched = {name for name in ends[0].names if name not in ends[1].names}
+        total += sum(ends[0].names[name] for name in matched)
+        total_diagnostics += sum(ends[0].names[name] for name in unmatched)
+        work.append((x, a, b, a_asks, b_asks, matched, unmatched))
+
+    # 11: "more rows than the output holds"
+    if total > rows_room:
+        mark("group 11")
+        return 11
+
+    # "The search stops at the first destination feature whose last name is equal folded;
+    # prefixes are not compared. Rows carry "connection.feature" and the kind by
+    # `feature_kind_to_connection_kind`, both of the source feature"
+    rows, composed = [], []
+    for x, a, b, a_asks, b_asks, matched, _ in work:
+        name, _, _, _, source, _, destination = model.rows["X"][x]
+        first = {}  # first destination feature per folded last name
+        a_reference, b_reference = (None, a_asks[1], None), (None, b_asks[1], None)
+        for feature in features(model, a_asks[0], a_reference, matched):
+            key = fold(feature.name)
+            if key not in first:
+                first[key] = next(features(model, b_asks[0], b_reference, {key}))
+            other = first[key]
+            mark("match in another case", other.name != feature.name)
+            mark("prefixes are not compared", other.prefix != feature.prefix)
+            mark("kind of the source feature", other.kind != feature.kind)
+            mark("first of several destination features",
+                 visit(model, b_asks[0], b_reference, 0).names[key] > 1)
+            mark_spelling(model, a, model.name(source))
+            mark_spelling(model, b, model.name(destination))
+            row = Row(x, FEATURE_KIND_TO_CONNECTION_KIND[feature.kind], a, b, [x],
+                      model.name(name) + b"." + feature.name,
+                      expanded_name(model.name(source), feature),
+                      expanded_name(model.name(destination), other))
+            rows.append(row)
+            # "Each row's names (row, source, destination) lie unseparated in the
+            # output of composed names."
+            composed.append(row.name + row.source + row.destination)
+
+    # 14: "composed names longer than their output"
+    composed = b"".join(composed)
+    if len(composed) > composed_room:
+        mark("14")
+        return 14
+    # 12: "more diagnostics than the output holds"
+    if total_diagnostics > diagnostics_room:
+        mark("group 12")
+        return 12
+
+    # "No match: diagnostic 5." "5 feature name and 0"
+    diagnostics = []
+    for x, _, _, a_asks, _, _, unmatched in work:
+        for feature in features(model, a_asks[0], (None, a_asks[1], None), unmatched):
+            mark("diagnostic 5")
+            diagnostics.append(Diagnostic(5, x, feature.number, 0))
+    return rows, diagnostics, composed
+
+
+def mark_spelling(model, component, group):
+    """For the marks only: does the component spell its group otherwise?"""
+    mark("group spelled as in the X row",
+         all(model.name(model.rows["F"][row][0]) != group for row in model.features[component]))
+
+
+# ---------------------------------------------------------------------------
+# Both listings.
+
+Listings = collections.namedtuple("Listings", "traced_rows traced_diagnostics "
+                                              "group_rows group_diagnostics composed")
+
+
+# "The traced listing ends, refusals included, before the group listing starts."
+def listings(bytes_table, tables, traced_rows, traced_diagnostics,
+             group_rows, group_diagnostics, composed_room):
+    """Listings over accepted tables with outputs of these sizes (in rows, diagnostics
+    and bytes), or the number of the refusal."""
+    return listings_of_model(Model(bytes_table, tables), traced_rows, traced_diagnostics,
+                             group_rows, group_diagnostics, composed_room)
+
+
+def listings_of_model(model, traced_rows, traced_diagnostics,
+                      group_rows, group_diagnostics, composed_room):
+    traced = traced_listing(model, traced_rows, traced_diagnostics)
+    if isinstance(traced, int):
+        return traced
+    group = group_listing(model, group_rows, group_diagnostics, composed_room)
+    if isinstance(group, int):
+        return group
+    return Listings(*traced, *group)
+
+
+# ---------------------------------------------------------------------------
+# The text.
+
+# "Numbers take six columns as in the sheet, longer ones stand in full."
+def columns(numbers):
+    return b"".join(b"%6d" % number for number in numbers)
+
+
+# "`S`: connection, kind, source component, destination component, path length, path;
+# then `= ` row name, `< ` source feature, `> ` destination feature."
+def row_text(row):
+    numbers = [row.connection, row.kind, row.source_component, row.destination_component,
+               len(row.path)] + row.path
+    return (b"S" + columns(numbers) + b"\n= " + row.name + b"\n< " + row.source
+            + b"\n> " + row.destination + b"\n")
+
+
+# "`D`: the four numbers; then `! ` and the Rust's message, and `@ ` for each of its path
+# names."
+def diagnostic_text(model, diagnostic):
+    code, x, first, second = diagnostic
+    name = model.name(model.rows["X"][x][0])
+    owner = model.name(model.rows["C"][model.rows["X"][x][1]][0])
+    path = [owner, name]
+    if code == 1:
+        message = b"connection '%b': missing endpoint" % name
+    elif code == 2:
+        message = b"connection '%b': unresolved source subcomponent '%b'" % (name, model.name(first))
+    elif code == 3:
+        message = b"connection '%b': unresolved destination subcomponent '%b'" % (name, model.name(first))
+    elif code == 4:
+        message = (b"connection '%b': One_To_One pattern requires equal array sizes "
+                   b"(source=%d, destination=%d)" % (name, first, second))
+    else:
+        message = (b"feature group connection '%b': source feature '%b' has no matching "
+                   b"destination feature (STPA-REQ-011)" % (name, model.name(first)))
+        path = [name, model.name(first)]
+    return (b"D" + columns(diagnostic) + b"\n! " + message + b"\n"
+            + b"".join(b"@ " + one + b"\n" for one in path))
+
+
+# "It prints traced rows, group rows, traced diagnostics, group diagnostics, then `Z`
+# with both row counts."
+def list_text(model, lists):
+    mark("text: traced row", bool(lists.traced_rows))
+    mark("text: group row", bool(lists.group_rows))
+    mark("text: traced diagnostic", bool(lists.traced_diagnostics))
+    mark("text: group diagnostic", bool(lists.group_diagnostics))
+    mark("text: no row", not lists.traced_rows and not lists.group_rows)
+    parts = [row_text(row) for row in lists.traced_rows + lists.group_rows]
+    parts += [diagnostic_text(model, one)
+              for one in lists.traced_diagnostics + lists.group_diagnostics]
+    parts.append(b"Z" + columns([len(lists.traced_rows), len(lists.group_rows)]) + b"\n")
+    return b"".join(parts)
+
+
+# "A refusal prints only `R`, number, place, a space and the table letter or `-`." "The
+# place is the line from 1, or letter and lowest bad row (where two rows clash, the
+# later), else 0."
+def refusal_text(number, letter="-", place=0):
+    if letter != "-":
+        mark("text: refusal with a table letter")
+    else:
+        mark("text: refusal with a line" if place else "text: refusal without a place")
+    return b"R" + columns([number, place]) + b" " + letter.encode() + b"\n"
+
+
+# "It reads standard input and lends 256 `N` rows, 96 of each other letter, a byte table
+# of 16,384, per listing 64 rows and 64 diagnostics, 4,096 bytes for composed names,
+# 8,192 for text."
+CONLIST_ROOMS = {letter: (256 if letter == "N" else 96) * WIDTH[letter] for letter in LETTERS}
+CONLIST_BYTES = 16384
+CONLIST_ROWS = 64
+CONLIST_DIAGNOSTICS = 64
+CONLIST_COMPOSED = 4096
+CONLIST_TEXT = 8192
+
+
+def answer(sheet):
+    """What `conlist` prints for these bytes."""
+    read = read_sheet(sheet, CONLIST_BYTES, CONLIST_ROOMS)
+    if isinstance(read, Refusal):
+        return refusal_text(*read)
+    refused = check_tables(read.bytes_table, read.tables)
+    if refused:
+        return refusal_text(*refused)
+    model = Model(read.bytes_table, read.tables)
+    lists = listings_of_model(model, CONLIST_ROWS, CONLIST_DIAGNOSTICS,
+                              CONLIST_ROWS, CONLIST_DIAGNOSTICS, CONLIST_COMPOSED)
+    if isinstance(lists, int):
+        return refusal_text(lists)
+    text = list_text(model, lists)
+    # 15: "printed list longer than its output"
+    if len(text) > CONLIST_TEXT:
+        mark("15")
+        return refusal_text(15)
+    return text
+
+
+# ---------------------------------------------------------------------------
+# The command line.
+
+HEADER = re.compile(rb"V([ 0-9]{5}[0-9])([ 0-9]{5}[0-9]) (.*)\Z", re.DOTALL)
+
+
+def cases(stream):
+    """(label, sheet, expected text) of a stream of cases."""
+    at = 0
+    while at < len(stream):
+        end = stream.find(b"\n", at)
+        found = HEADER.match(stream[at:end]) if end >= 0 else None
+        if not found:
+            raise ValueError("no header line at byte %d of the stream" % at)
+        sheet_length, text_length = int(found.group(1)), int(found.group(2))
+        at = end + 1 + sheet_length + text_length
+        if at > len(stream):
+            raise ValueError("the stream ends inside its last case")
+        sheet = stream[end + 1:end + 1 + sheet_length]
+        yield found.group(3).decode("latin-1"), sheet, stream[end + 1 + sheet_length:at]
+
+
+def run_stream(path, with_marks):
+    with open(path, "rb") as file:
+        stream = file.read()
+    count = compared = differing = 0
+    for label, sheet, expected in cases(stream):
+        count += 1
+        got = answer(sheet)
+        if expected:
+            compared += 1
+            if got != expected:
+                differing += 1
+                print("differs: " + label)
+    if with_marks:
+        for rule in RULES:
+            print("%8d  %s" % (marks[rule], rule))
+    met = sum(1 for rule in RULES if marks[rule])
+    print("%d cases, %d compared, %d differ; %d of %d rules met"
+          % (count, compared, differing, met, len(RULES)))
+    return 1 if differing else 0
+
+
+def main(arguments):
+    if not arguments:
+        sys.stdout.buffer.write(answer(sys.stdin.buffer.read()))
+        return 0
+    if arguments[0] == "--stream" and (len(arguments) == 2 or arguments[2:] == ["--marks"]):
+        try:
+            return run_stream(arguments[1], len(arguments) == 3)
+        except (OSError, ValueError) as problem:
+            print(problem, file=sys.stderr)
+            return 2
+    print("usage: second_reading.py < sheet, or second_reading.py --stream FILE [--marks]",
+          file=sys.stderr)
+    return 2
+
+
+if __name__ == "__main__":
+    sys.exit(main(sys.argv[1:]))

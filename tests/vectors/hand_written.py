@@ -1,0 +1,398 @@
+"""The sheets written by hand: the trial rows of document 01, single points of its rules, and where the Rust goes another
+way than AS5506 or document 01. Each is as small as it can be."""
+
+NOTHING = (None, None, None)
+
+
+class Sheet:
+    """A sheet in the making. Names are given as text; each gets one N row."""
+
+    def __init__(self):
+        self.names = []
+        self.rows = {letter: [] for letter in "CFXPITQUER"}
+
+    def name(self, text):
+        if text is None:
+            return None
+        if text not in self.names:
+            self.names.append(text)
+        return self.names.index(text)
+
+    def add(self, letter, *fields):
+        self.rows[letter].append(fields)
+        return len(self.rows[letter]) - 1
+
+    def component(self, name, parent=None, index=None, pattern=None, package="p", type_name="t"):
+        return self.add("C", self.name(name), parent, index, self.name(package), self.name(type_name), self.name(pattern))
+
+    def feature(self, name, owner, kind=8):
+        return self.add("F", self.name(name), owner, kind)
+
+    def connection(self, name, owner, kind, *ends):
+        return self.add("X", self.name(name), owner, kind, *map(self.name, ends))
+
+    def package(self, name):
+        return self.add("P", self.name(name))
+
+    def type(self, package, name, private=0):
+        return self.add("T", package, self.name(name), private)
+
+    def group_type(self, package, name, private=0, extends=NOTHING, inverse_of=NOTHING):
+        return self.add("U", package, self.name(name), private, *map(self.name, extends), *map(self.name, inverse_of))
+
+    def declared(self, holder_kind, holder, name, kind=0, direction=None, classifier=NOTHING):
+        return self.add("E", holder_kind, holder, self.name(name), kind, direction, *map(self.name, classifier))
+
+    def rename(self, package, what, alias, original_package, original_name=None):
+        return self.add("R", package, what, *map(self.name, (alias, original_package, original_name)))
+
+    def bytes(self):
+        lines = ["N " + name for name in self.names]
+        for letter, rows in self.rows.items():
+            lines += [letter + "".join("     -" if f is None else "%6d" % f for f in row) for row in rows]
+        return "".join(line + "\n" for line in lines).encode("ascii")
+
+
+def one_group(classifier):
+    """One component; both ends of its connection c are its feature group g, of this classifier."""
+    sheet = Sheet()
+    sheet.component("root")
+    sheet.feature("g", 0)
+    sheet.connection("c", 0, 2, None, "g", None, "g")
+    sheet.package("p")
+    sheet.type(0, "t")
+    sheet.declared(0, 0, "g", 8, None, classifier)
+    return sheet
+
+
+def run():
+    """The run of document 01, name by name."""
+    sheet = Sheet()
+    for name in ("hub", "pit", "mot", "cmd", "set", "c1", "c2", "p", "t", "reg"):
+        sheet.name(name)
+    sheet.component("hub")
+    sheet.component("pit", 0)
+    sheet.component("mot", 0)
+    sheet.component("reg", 1)
+    sheet.connection("c1", 0, 0, "pit", "cmd", "mot", "set")
+    sheet.connection("c2", 1, 0, "reg", "set", None, "cmd")
+    return sheet
+
+
+def arrays(pattern, sources, destinations):
+    """Two arrays a and b of these sizes, under a pattern."""
+    sheet = Sheet()
+    sheet.component("root", pattern=pattern)
+    for name, size in (("a", sources), ("b", destinations)):
+        for element in range(1, size + 1):
+            sheet.component("%s[%d]" % (name, element), 0, element)
+    sheet.connection("c", 0, 0, "a", "f", "b", "f")
+    return sheet
+
+
+def pump():
+    sheet = Sheet()
+    sheet.component("root")
+    sheet.component("pump", 0)
+    sheet.component("pump[1]", 0, 1)
+    sheet.component("b", 0)
+    sheet.connection("c", 0, 0, "pump", "f", "b", "f")
+    return sheet
+
+
+def chain(steps, connections=1):
+    """A chain of so many steps towards the source, each by so many equal connections."""
+    sheet = Sheet()
+    sheet.component("root")
+    sheet.component("b", 0)
+    current = sheet.component("s0", 0)
+    sheet.connection("top", 0, 0, "s0", "f", "b", "f")
+    for step in range(steps):
+        child = "s%d" % (step + 1)
+        inner = sheet.component(child, current)
+        for _ in range(connections):
+            sheet.connection("u%d" % step, current, 0, child, "f", None, "f")
+        current = inner
+    return sheet
+
+
+def unpaired_source_of_a_million_chains():
+    """One to one leaves the second source unpaired, so nothing follows its 4 to the 10th chains."""
+    sheet = arrays("one_to_one", 2, 1)
+    current = 2
+    for step in range(10):
+        child = "s%d" % step
+        inner = sheet.component(child, current)
+        for _ in range(4):
+            sheet.connection("u", current, 0, child, "f", None, "f")
+        current = inner
+    return sheet
+
+
+def extensions(steps):
+    """A feature so many extensions down."""
+    sheet = one_group((None, "u0", None))
+    for step in range(steps):
+        sheet.group_type(0, "u%d" % step, 0, (None, "u%d" % (step + 1), None))
+    last = sheet.group_type(0, "u%d" % steps)
+    sheet.declared(1, last, "f")
+    return sheet
+
+
+def nested_in_itself(times, names="n%d"):
+    sheet = one_group((None, "u", None))
+    group = sheet.group_type(0, "u")
+    for number in range(times):
+        sheet.declared(1, group, names % number if "%" in names else names, 8, None, (None, "u", None))
+    return sheet
+
+
+def skipped_but_over_the_visits():
+    """The source gives none, the destination is expanded all the same."""
+    sheet = nested_in_itself(3)
+    sheet.rows["X"] = []
+    sheet.connection("c", 0, 2, None, "no_group", None, "g")
+    return sheet
+
+
+def package_without_a_row():
+    """An empty expansion of one visit, which is not none."""
+    sheet = one_group(("nowhere", "u", None))
+    sheet.group_type(0, "u")
+    return sheet
+
+
+def alias_of_the_own_package():
+    """The component's type is looked up in q: the alias is the package's own name."""
+    sheet = one_group((None, "u", None))
+    own = sheet.group_type(0, "u")
+    sheet.declared(1, own, "f")
+    other = sheet.package("q")
+    other_type = sheet.type(other, "t")
+    sheet.declared(0, other_type, "g", 8, None, (None, "u", None))
+    other_group = sheet.group_type(other, "u")
+    sheet.declared(1, other_group, "other")
+    sheet.rename(0, 0, "p", "q")
+    return sheet
+
+
+def first_declared_group_lacks_a_classifier():
+    sheet = one_group(NOTHING)
+    sheet.declared(0, 0, "G", 8, None, (None, "u", None))
+    group = sheet.group_type(0, "u")
+    sheet.declared(1, group, "f")
+    return sheet
+
+
+def many_features_without_a_match():
+    """4,095 visits and 92,115 features at each end, and no match."""
+    sheet = Sheet()
+    sheet.component("root")
+    sheet.feature("g", 0)
+    sheet.feature("h", 0)
+    sheet.connection("c", 0, 2, None, "g", None, "h")
+    sheet.package("p")
+    sheet.type(0, "t")
+    sheet.declared(0, 0, "g", 8, None, (None, "u", None))
+    sheet.declared(0, 0, "h", 8, None, (None, "v", None))
+    for name in ("u", "v"):
+        group = sheet.group_type(0, name)
+        for number in range(2):
+            sheet.declared(1, group, "n%d" % number, 8, None, (None, name, None))
+        for number in range(45):
+            sheet.declared(1, group, "%sf%d" % (name, number))
+    return sheet
+
+
+def renamed_group(package, type_name):
+    """The group is asked for by an alias of this group of this package."""
+    sheet = one_group((None, "al", None))
+    home = sheet.package(package)
+    group = sheet.group_type(home, type_name)
+    sheet.declared(1, group, "f")
+    sheet.rename(0, 2, "al", package, type_name)
+    return sheet
+
+
+def renamed_group_finds_another():
+    """There is no package a::b, but a package a with a group b::u."""
+    sheet = one_group((None, "al", None))
+    home = sheet.package("a")
+    group = sheet.group_type(home, "b::u")
+    sheet.declared(1, group, "other")
+    sheet.rename(0, 2, "al", "a::b", "u")
+    return sheet
+
+
+def features_that_differ_in_case():
+    """The connection inside a gives Set, the one of the root takes set."""
+    sheet = Sheet()
+    sheet.component("root")
+    sheet.component("a", 0)
+    sheet.component("b", 0)
+    sheet.component("m", 1)
+    sheet.connection("across", 0, 0, "a", "set", "b", "f")
+    sheet.connection("up", 1, 0, "m", "f", None, "Set")
+    return sheet
+
+
+def private_group_of_another_package():
+    sheet = one_group(("q", "u", None))
+    other = sheet.package("q")
+    group = sheet.group_type(other, "u", 1)
+    sheet.declared(1, group, "f")
+    return sheet
+
+
+def visits(extensions, nested, more=0):
+    """Group types that extend one another so many times, then hold so many nested groups at each level, and `more` in the first."""
+    sheet = one_group((None, "u0", None))
+    for level in range(extensions):
+        sheet.group_type(0, "u%d" % level, 0, (None, "u%d" % (level + 1), None))
+    for level, count in enumerate(nested, extensions):
+        group = sheet.group_type(0, "u%d" % level)
+        for _ in range(count):
+            sheet.declared(1, group, "n", 8, None, (None, "u%d" % (level + 1), None))
+    last = sheet.group_type(0, "u%d" % (extensions + len(nested)))
+    for _ in range(more):
+        sheet.declared(1, 0, "m", 8, None, (None, "u%d" % last, None))
+    return sheet
+
+
+def missing_ends(count):
+    sheet = Sheet()
+    sheet.component("root")
+    for _ in range(count):
+        sheet.connection("c", 0, 0, None, "f", None, None)
+    return sheet
+
+
+def unmatched_features(count):
+    """The source's group has so many features, the destination's none."""
+    sheet = one_group((None, "u", None))
+    sheet.rows["X"] = []
+    sheet.feature("h", 0)
+    sheet.connection("c", 0, 2, None, "g", None, "h")
+    sheet.declared(0, 0, "h", 8, None, (None, "v", None))
+    source = sheet.group_type(0, "u")
+    sheet.group_type(0, "v")
+    for number in range(count):
+        sheet.declared(1, source, "f%d" % number)
+    return sheet
+
+
+def padded(stem, length):
+    return stem + "y" * (length - len(stem))
+
+
+def group_features(lengths, connection="c"):
+    """A group with a feature of each of these lengths, at both ends of a connection."""
+    sheet = one_group((None, "u", None))
+    sheet.rows["X"] = []
+    sheet.connection(connection, 0, 2, None, "g", None, "g")
+    group = sheet.group_type(0, "u")
+    for number, length in enumerate(lengths):
+        sheet.declared(1, group, padded("f%d" % number, length))
+    return sheet
+
+
+def composed_bytes(rows, feature_bytes):
+    """So many rows: connection "ccc" and group "g" take 8 bytes of each, the feature's name three times the rest."""
+    lengths = [feature_bytes // rows + (1 if row < feature_bytes % rows else 0) for row in range(rows)]
+    return group_features(lengths, "ccc")
+
+
+def text_bytes(connection_bytes):
+    """64 rows of 47 bytes, twice 30 bytes of feature, and connections with names of so many bytes; 14 bytes for the last line."""
+    sheet = Sheet()
+    sheet.component("root")
+    sheet.component("b", 0)
+    for row in range(64):
+        length = connection_bytes // 64 + (1 if row < connection_bytes % 64 else 0)
+        sheet.connection(padded("c%d" % row, length), 0, 0, "b", padded("f", 30), "b", padded("f", 30))
+    return sheet
+
+
+def full_table(letter):
+    """One group connection, and as many rows of this letter as conlist lends."""
+    sheet = group_features([2])
+    add = {
+        "N": lambda number: sheet.name("y%d" % number),
+        "C": lambda number: sheet.component("y%d" % number, 0),
+        "F": lambda number: sheet.feature("y", 0, 0),
+        "X": lambda number: sheet.connection("c", 0, 0, None, "g", None, "g"),
+        "P": lambda number: sheet.package("y%d" % number),
+        "I": lambda number: sheet.add("I", 0, sheet.name("p")),
+        "T": lambda number: sheet.type(0, "y%d" % number),
+        "Q": lambda number: sheet.add("Q", 0, sheet.name("t"), sheet.name("y%d" % number), 0),
+        "U": lambda number: sheet.group_type(0, "y%d" % number),
+        "E": lambda number: sheet.declared(0, 0, "y"),
+        "R": lambda number: sheet.rename(0, 0, "y%d" % number, "p"),
+    }[letter]
+    rows, places = (sheet.names, 256) if letter == "N" else (sheet.rows[letter], 96)
+    while len(rows) < places:
+        add(len(rows))
+    return sheet
+
+
+# Label -> sheet. All are accepted, and the Rust answers all.
+ACCEPTED = {
+    "trial: run of document 01": run(),
+    "trial: ((One_To_One))": arrays("((One_To_One))", 2, 2),
+    "trial: (One_To_One, One_To_One)": arrays("(One_To_One, One_To_One)", 2, 2),
+    "trial: one to one, 3 against 2": arrays("One_To_One", 3, 2),
+    "trial: pump and pump[1]": pump(),
+    "trial: a feature 10 extensions down": extensions(10),
+    "trial: a feature 11 extensions down": extensions(11),
+    "trial: nested in itself 2 times": nested_in_itself(2),
+    "trial: nested in itself 3 times": nested_in_itself(3),
+    "trial: chain of 19 steps": chain(19),
+    "trial: chain of 20 steps": chain(20),
+    "trial: chain of 21 steps": chain(21),
+    "trial: chain of 22 steps": chain(22),
+    "trial: chain of 23 steps": chain(23),
+    "one to one, 0 against 2": arrays("one_to_one", 0, 2),
+    "one to one, 0 against 0": arrays("one_to_one", 0, 0),
+    "pattern with blanks inside": arrays("o n e_t o_o,n(e)", 2, 2),
+    "pattern of three words": arrays("one to one", 2, 2),
+    "a million chains of an unpaired source": unpaired_source_of_a_million_chains(),
+    "skipped connection over the visits": skipped_but_over_the_visits(),
+    "asking package without a P row": package_without_a_row(),
+    "alias of the own package": alias_of_the_own_package(),
+    "first declared group lacks a classifier": first_declared_group_lacks_a_classifier(),
+    "64 traced rows": arrays(None, 8, 8),
+    "65 traced rows": arrays(None, 13, 5),
+    "64 traced diagnostics": missing_ends(64),
+    "65 traced diagnostics": missing_ends(65),
+    "65,536 visits": visits(0, (17, 47, 9, 8)),
+    "65,537 visits": visits(0, (16, 15, 16, 16)),
+    "65,536 visits, most past the depth": visits(6, (9, 20, 11, 8, 3)),
+    "65,537 visits, most past the depth": visits(6, (9, 20, 11, 8, 3), 1),
+    "64 group rows": group_features([3] * 64),
+    "65 group rows": group_features([3] * 65),
+    "4,096 composed bytes": composed_bytes(32, 1280),
+    "4,097 composed bytes": composed_bytes(31, 1283),
+    "64 group diagnostics, too long a text": unmatched_features(64),
+    "65 group diagnostics": unmatched_features(65),
+    "8,192 bytes of text": text_bytes(1330),
+    "8,193 bytes of text": text_bytes(1331),
+    **{"full table " + letter: full_table(letter) for letter in "NCFXPITQUER"},
+}
+
+# File name -> sheet: see docs/DIFFERENCES.md.
+DIFFERENCES = {
+    "rename_package_with_colons": renamed_group("a::b", "u"),
+    "rename_package_ends_in_colon": renamed_group("a:", "u"),
+    "rename_package_ends_in_blank": renamed_group("a ", "u"),
+    "rename_type_begins_with_blank": renamed_group("a", " u"),
+    "rename_finds_another": renamed_group_finds_another(),
+    "tracing_is_case_sensitive": features_that_differ_in_case(),
+    "private_group_is_found": private_group_of_another_package(),
+}
+
+# File name -> sheet: accepted, and the Rust does not end on it, or not soon.
+NOT_ENDING = {
+    "endless_chains": chain(20, 4),
+    "endless_visits": nested_in_itself(95, "n"),
+    "slow_matching": many_features_without_a_match(),
+}
