@@ -1,0 +1,13 @@
+pub mod Laws
+pub mod Letters
+pub mod Whole
+pub mod Limit
+pub mod Ends
+pub mod Accepted
+pub mod Demand
+pub mod Output
+pub mod TrialForms
+pub mod TrialsRead
+pub mod TrialsFind
+pub mod TrialsList
+pub mod Trials
