@@ -1,0 +1,89 @@
+-- Laws of `sets l i vs`, the list l with the block vs written from place i on, as far as l reaches: what `put_numbers` and `put_bytes` leave.
+-- Numbers and bytes are both ℕ. Its length is `length-sets`, and the list in three parts `sets-eq`, of lib.Seq. Assumes nothing.
+use mathlib.Core.Path.{_≡_, refl, sym, ap, _∙_}
+use mathlib.Core.List.{List, [], _∷_, _++_, append-assoc, append-nil}
+use Prim.Native.Nat.{ℕ, zero, suc, _+_, _-_, _≤_, _<_}
+use native.Mathlib.Nat.{add-zero, add-suc, suc-add, zero-add, not-suc-le-zero, le-of-suc-le-suc, sub-zero, zero-sub, suc-sub-suc}
+use native.Mathlib.Numerals.{add-one}
+use native.Mathlib.Omega.{arith}
+use lib.ListN.{length, take, drop, getD, set, length-set, drop-of-length-le}
+use lib.Seq.{sets, sets-eq, drop-cons, set-out, getD-set-same, getD-set-other, take-set-le, drop-set-lt, take-append-seam, drop-at, take-nil, length-take-le}
+use Rattle.as5506.specs.Lists.{zeros}
+
+-- ---- writing
+
+-- two blocks, one behind the other, are one block
+pub sets-append : (vs ws l : List ℕ) (i : ℕ) → sets l i (vs ++ ws) ≡ sets (sets l i vs) (i + length vs) ws
+sets-append [] ws l i = ap (λ (k : ℕ). sets l k ws) (sym (add-zero i))
+sets-append (v ∷ vs) ws l i =
+    sets-append vs ws (set l i v) (suc i) ∙ ap (λ (k : ℕ). sets (sets (set l i v) (suc i) vs) k ws) (suc-add i (length vs) ∙ sym (add-suc i (length vs)))
+
+-- one place of the block is written, and the rest of it is left to write: the turn of a loop
+pub sets-step : (vs l : List ℕ) (i j : ℕ) → j < length vs → sets l i (drop j vs) ≡ sets (set l i (getD vs j 0)) (i + 1) (drop (j + 1) vs)
+sets-step vs l i j h = rw (add-one i, add-one j, drop-cons vs j 0)
+
+-- past the end nothing is written
+pub sets-past : (vs l : List ℕ) (i : ℕ) → length l ≤ i → sets l i vs ≡ l
+sets-past [] l i h = refl
+sets-past (v ∷ vs) l i h = rw (set-out l i v h) (sets-past vs l (suc i) (omega arith))
+
+-- a block as long as the list takes its place: a copy
+pub sets-whole : (vs l : List ℕ) → length vs ≡ length l → sets l 0 vs ≡ vs
+sets-whole vs l e =
+    sets-eq vs l 0 (omega arith) ∙ ap (λ (r : List ℕ). vs ++ r) (drop-of-length-le l {i = 0 + length vs} (omega arith)) ∙ append-nil vs
+
+-- ---- reading back
+
+-- a place outside the block keeps its number
+pub sets-other : (vs l : List ℕ) (i j : ℕ) → (i ≤ j → j < i + length vs → ⊥) → getD (sets l i vs) j 0 ≡ getD l j 0
+sets-other [] l i j h = refl
+sets-other (v ∷ vs) l i j h =
+    sets-other vs (set l i v) (suc i) j (λ p q. h (omega arith) (omega arith)) ∙ getD-set-other l i j v 0 (λ e. h (omega arith) (omega arith))
+
+-- a place inside the block has the block's number
+pub sets-inside : (vs l : List ℕ) (i j : ℕ) → i + length vs ≤ length l → j < length vs → getD (sets l i vs) (i + j) 0 ≡ getD vs j 0
+sets-inside [] l i j h k = absurd (not-suc-le-zero k)
+sets-inside (v ∷ vs) l i zero h k =
+    rw (add-zero i) (sets-other vs (set l i v) (suc i) i (λ p q. omega arith) ∙ getD-set-same l i v 0 (omega arith))
+sets-inside (v ∷ vs) l i (suc j) h k =
+    let e : i + suc j ≡ suc i + j = omega arith in
+    rw e (sets-inside vs (set l i v) (suc i) j (rw length-set (omega arith)) (le-of-suc-le-suc k))
+
+-- what stands before the block stays
+pub sets-before : (vs l : List ℕ) (n i : ℕ) → n ≤ i → take n (sets l i vs) ≡ take n l
+sets-before [] l n i h = refl
+sets-before (v ∷ vs) l n i h = sets-before vs (set l i v) n (suc i) (omega arith) ∙ take-set-le n l i v h
+
+-- what stands behind the block stays
+pub sets-behind : (vs l : List ℕ) (n i : ℕ) → i + length vs ≤ n → drop n (sets l i vs) ≡ drop n l
+sets-behind [] l n i h = refl
+sets-behind (v ∷ vs) l n i h = sets-behind vs (set l i v) n (suc i) (omega arith) ∙ drop-set-lt n l i v (omega arith)
+
+-- the block itself, read back as a part
+pub sets-block : (vs l : List ℕ) (i : ℕ) → i + length vs ≤ length l → take (length vs) (drop i (sets l i vs)) ≡ vs
+sets-block vs l i h =
+    rw (sets-eq vs l i h, append-assoc (take i l) vs (drop (i + length vs) l))
+    (rw (drop-at (take i l) (vs ++ drop (i + length vs) l) i (length-take-le i l (omega arith))) (take-append-seam vs (drop (i + length vs) l)))
+
+-- a part before the block, read back
+pub sets-part-before : (vs l : List ℕ) (i j n : ℕ) → j + n ≤ i → take n (drop j (sets l i vs)) ≡ take n (drop j l)
+sets-part-before vs l i j n h = sym (part-of-take n j (sets l i vs)) ∙ ap (drop j) (sets-before vs l (j + n) i h) ∙ part-of-take n j l
+  where
+    part-of-take : (n j : ℕ) (l : List ℕ) → drop j (take (j + n) l) ≡ take n (drop j l)
+    part-of-take n zero l = rw (zero-add n)
+    part-of-take n (suc j) [] = rw (suc-add j n) (sym (take-nil n))
+    part-of-take n (suc j) (x ∷ l) = rw (suc-add j n) (part-of-take n j l)
+
+-- ---- zeros
+
+-- a place of zeros, also past their end
+pub getD-zeros : (n i : ℕ) → getD (zeros n) i 0 ≡ 0
+getD-zeros zero i = refl
+getD-zeros (suc n) zero = refl
+getD-zeros (suc n) (suc i) = getD-zeros n i
+
+-- the rest of zeros
+pub drop-zeros : (m n : ℕ) → drop m (zeros n) ≡ zeros (n - m)
+drop-zeros zero n = rw (sub-zero n)
+drop-zeros (suc m) zero = rw (zero-sub (suc m))
+drop-zeros (suc m) (suc n) = rw (suc-sub-suc n m) (drop-zeros m n)

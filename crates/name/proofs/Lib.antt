@@ -1,0 +1,3 @@
+pub mod Compare
+mod Scan
+mod Pattern
