@@ -1,0 +1,119 @@
+-- The code's tests of a row, for the contracts of private functions; proofs/ shows that they are the definition's. A letter goes by its rank `k`,
+-- `lens` has the length of each letter's table, and `at` is where a row starts in its table `t`. Assumes nothing.
+use mathlib.Core.Bool.{Bool, true, not, _&&_, _||_, cond}
+use mathlib.Core.List.{List, [], _∷_, _++_}
+use Prim.Native.Nat.{ℕ, _+_, _-_, _*_, _/_, _%_}
+use lib.ListN.{length, getD}
+use lib.Dec.{eqb, ltb}
+use Rattle.as5506.specs.Lists.{upTo, allOf, anyOf, bytesOf}
+use Rattle.as5506.specs.Tables.{present, ref, nStart, nLength, nameIn}
+use Rattle.as5506.specs.Names.{goodName, sameFolded}
+use Rattle.as5506.specs.Refusals.{badRef}
+
+abbrev pub letters : List ℕ
+letters = bytesOf "NCFXPITQUER"
+
+abbrev pub widths : List ℕ
+widths = 2 ∷ 6 ∷ 3 ∷ 7 ∷ 1 ∷ 2 ∷ 3 ∷ 4 ∷ 9 ∷ 8 ∷ 5 ∷ []
+
+-- FIELDS of the code
+abbrev pub fields : List ℕ
+fields =
+    bytesOf "N                   "
+    ++ bytesOf "C n c?*?n n n?      "
+    ++ bytesOf "F n c 9             "
+    ++ bytesOf "X n c 4 n?n?n?n?    "
+    ++ bytesOf "P n                 "
+    ++ bytesOf "I p n               "
+    ++ bytesOf "T p n 1             "
+    ++ bytesOf "Q p n n 1           "
+    ++ bytesOf "U p n 1 n?n?n?n?n?n?"
+    ++ bytesOf "E 1 h n 9 2?n?n?n?  "
+    ++ bytesOf "R p 2 n n n?        "
+
+-- KEYS of the code
+abbrev pub keys : List ℕ
+keys =
+    bytesOf "N    " ++ bytesOf "C    " ++ bytesOf "F    " ++ bytesOf "X    " ++ bytesOf "P n  " ++ bytesOf "I    "
+    ++ bytesOf "T =n " ++ bytesOf "Q =nn" ++ bytesOf "U =n " ++ bytesOf "E    " ++ bytesOf "R ==n"
+
+-- where row 4,096 of a table of nine fields starts; no row that is looked at starts after it
+abbrev pub farthest : ℕ
+farthest = 36864
+
+abbrev pub rowsOf : List ℕ → ℕ → ℕ
+rowsOf lens k = getD lens k 0 / getD widths k 0
+
+-- ---- 10
+unfoldable pub broken : List ℕ → ℕ → Bool
+broken lens k = not (eqb (getD lens k 0 % getD widths k 0) 0)
+
+unfoldable pub nameBad : List ℕ → List ℕ → ℕ → Bool
+nameBad bytes n i = ltb (length bytes) (nStart n i + nLength n i) || not (goodName (nameIn bytes n i))
+
+-- ---- 6: the characters are n 110, c 99, p 112, h 104, * 42 and ? 63
+
+-- the number that a field is below, by its character: of n, c, p and h the rows of a table, of a digit one more than it
+unfoldable pub limitOf : List ℕ → ℕ → ℕ → ℕ
+limitOf lens kind what =
+    cond (eqb what 110) (rowsOf lens 0)
+    (cond (eqb what 99) (rowsOf lens 1)
+    (cond (eqb what 112) (rowsOf lens 4)
+    (cond (eqb what 104) (cond (eqb kind 0) (rowsOf lens 6) (rowsOf lens 8)) (what - 47))))
+
+-- missing where there is a ?
+unfoldable pub mayMiss : ℕ → ℕ → Bool
+mayMiss mark v = not (present v) && eqb mark 63
+
+-- a number v by its two characters; * is any number
+unfoldable pub fitsAs : List ℕ → ℕ → ℕ → ℕ → ℕ → Bool
+fitsAs lens kind what mark v = mayMiss mark v || (eqb what 42 || ltb v (limitOf lens kind what))
+
+-- field j of a row, whose first field is the holder kind where it has one
+unfoldable pub fieldFits : List ℕ → List ℕ → ℕ → ℕ → ℕ → Bool
+fieldFits lens t k at j = fitsAs lens (getD t at 0) (getD fields (k * 20 + j * 2 + 2) 0) (getD fields (k * 20 + j * 2 + 2 + 1) 0) (getD t (at + j) 0)
+
+unfoldable pub fieldsFit : List ℕ → List ℕ → ℕ → ℕ → Bool
+fieldsFit lens t k at = allOf (fieldFits lens t k at) (upTo (getD widths k 0))
+
+-- ---- 7
+unfoldable pub parentBad : ℕ → ℕ → Bool
+parentBad i parent = cond (eqb i 0) (present parent) (not (ltb parent i))
+
+-- ---- 8
+unfoldable pub endBad : List ℕ → ℕ → Bool
+endBad t at = present (getD t at 0) && not (present (getD t (at + 1) 0))
+
+unfoldable pub referenceBad : List ℕ → ℕ → Bool
+referenceBad t at = badRef (ref (getD t at 0) (getD t (at + 1) 0) (getD t (at + 2) 0))
+
+unfoldable pub renameBad : List ℕ → ℕ → Bool
+renameBad t at = cond (eqb (getD t (at + 1) 0) 0) (present (getD t (at + 4) 0)) (not (present (getD t (at + 4) 0)))
+
+-- X, U, E, else R
+unfoldable pub endsBad : List ℕ → ℕ → ℕ → Bool
+endsBad t k at =
+    cond (eqb k 3) (endBad t (at + 3) || endBad t (at + 5))
+    (cond (eqb k 8) (referenceBad t (at + 3) || referenceBad t (at + 6))
+    (cond (eqb k 9) (referenceBad t (at + 5)) (renameBad t at)))
+
+-- ---- 9
+
+-- two fields by their character: = (61) the numbers, n (110) the names folded, else nothing is compared
+unfoldable pub samePart : List ℕ → List ℕ → ℕ → ℕ → ℕ → Bool
+samePart bytes n how x y =
+    cond (eqb how 61) (eqb x y) (cond (eqb how 110) (sameFolded (nameIn bytes n x) (nameIn bytes n y)) true)
+
+unfoldable pub samePartAt : List ℕ → List ℕ → List ℕ → ℕ → ℕ → ℕ → ℕ → Bool
+samePartAt bytes n t k x y j = samePart bytes n (getD keys (k * 5 + 2 + j) 0) (getD t (x + j) 0) (getD t (y + j) 0)
+
+-- the rows at x and y
+unfoldable pub sameKey : List ℕ → List ℕ → List ℕ → ℕ → ℕ → ℕ → Bool
+sameKey bytes n t k x y = allOf (samePartAt bytes n t k x y) (upTo 3)
+
+-- rows i and j
+unfoldable pub sameKeys : List ℕ → List ℕ → List ℕ → ℕ → ℕ → ℕ → Bool
+sameKeys bytes n t k i j = sameKey bytes n t k (i * getD widths k 0) (j * getD widths k 0)
+
+unfoldable pub keyTaken : List ℕ → List ℕ → List ℕ → ℕ → ℕ → Bool
+keyTaken bytes n t k i = anyOf (sameKeys bytes n t k i) (upTo i)

@@ -1,0 +1,485 @@
+// Refusals 10, 6, 7, 8 and 9 of document 01: what tables that a caller hands over are refused for, if anything.
+// Each rule goes over all tables in letter order and over the rows of each; the lowest bad row of the first bad table is the refusal's place.
+// A letter goes by its place `k` in the order N C F X P I T Q U E R, 0 to 10; `lens` has the length of each letter's table.
+ghost use mathlib.Core.Path.{_≡_};
+ghost use Prim.Native.Nat.{_≤_, _<_, _+_};
+ghost use Rattle.as5506.specs.Tables.{tablesOf};
+ghost use Rattle.as5506.specs.Refusals.{faults};
+ghost use Rattle.tables.specs.Answer.{checked};
+ghost use Rattle.tables.specs.Tests.{farthest, rowsOf, broken, limitOf, mayMiss, fieldFits, fieldsFit, nameBad, parentBad, endBad, referenceBad, renameBad, endsBad, samePart, sameKey, keyTaken};
+ghost use Rattle.tables.specs.Order.{isRefused, orElse, asked, spanOf, badRow, numberOf, checkTable, checkRule};
+
+// The letters in their order.
+const LETTERS: [u8; 11] = *b"NCFXPITQUER";
+
+// Letters by their place.
+const N: usize = 0;
+
+const C: usize = 1;
+
+const X: usize = 3;
+
+const P: usize = 4;
+
+const T: usize = 6;
+
+const U: usize = 8;
+
+const E: usize = 9;
+
+// What each field of a row is: a letter and a space, then two characters a field. The first says what the field's number is: n a name number,
+// c a row of C, p a row of P, h a row of the holder's table, a digit a number up to it, * any number; the second is ? where it may be missing.
+const FIELDS: [u8; 220] = *b"N                   \
+                             C n c?*?n n n?      \
+                             F n c 9             \
+                             X n c 4 n?n?n?n?    \
+                             P n                 \
+                             I p n               \
+                             T p n 1             \
+                             Q p n n 1           \
+                             U p n 1 n?n?n?n?n?n?\
+                             E 1 h n 9 2?n?n?n?  \
+                             R p 2 n n n?        ";
+
+// What two rows of a letter may not have in common, its key: a letter and a space, then a character for each of the first three fields:
+// = a number that is compared, n a name that is compared folded.
+const KEYS: [u8; 55] = *b"N    \
+                          C    \
+                          F    \
+                          X    \
+                          P n  \
+                          I    \
+                          T =n \
+                          Q =nn\
+                          U =n \
+                          E    \
+                          R ==n";
+
+// The rules in the order of the checks.
+enum Rule {
+    Whole,
+    Few,
+    Names,
+    Fields,
+    Root,
+    Parents,
+    Ends,
+    Keys,
+}
+
+// What the tables are refused for, if anything.
+pub enum Checked {
+    Accepted,
+    Refused(as5506::Refusal),
+}
+
+// The rows of letter k.
+fn rows_of(lens: [usize; 11], k: usize) -> usize
+    requires { ⌜ k < 11 ⌝ }
+    ensures { λ r. ⌜ r ≡ rowsOf lens k ⌝ }
+{
+    lens[k] / as5506::WIDTHS[k]
+}
+
+// 10: whether the table of letter k has no whole number of rows.
+fn is_broken(lens: [usize; 11], k: usize) -> bool
+    requires { ⌜ k < 11 ⌝ }
+    ensures { λ r. ⌜ r ≡ broken lens k ⌝ }
+{
+    lens[k] % as5506::WIDTHS[k] != 0
+}
+
+// 10: whether name i leaves the byte table, or has a bad byte or length.
+fn bad_name(bytes: &[u8], n: &[u32], i: usize) -> bool
+    requires { ⌜ i ≤ 4096 ⌝ }
+    ensures { λ r. ⌜ r ≡ nameBad (now (bytes .entry)) (now (n .entry)) i ⌝ }
+{
+    let start = lent::number_at(n, i * 2) as usize;
+    let length = lent::number_at(n, i * 2 + 1) as usize;
+    if bytes.len() < start + length {
+        return true;
+    }
+    !name::good_name(name::name_of(bytes, n, i as u32))
+}
+
+// 6: the number that a field is below, by its character of FIELDS; `kind` is the row's holder kind.
+fn limit_of(lens: [usize; 11], kind: u32, what: u8) -> usize
+    ensures { λ r. ⌜ r ≡ limitOf lens kind what ⌝ }
+{
+    if what == b'n' {
+        return rows_of(lens, N);
+    }
+    if what == b'c' {
+        return rows_of(lens, C);
+    }
+    if what == b'p' {
+        return rows_of(lens, P);
+    }
+    if what == b'h' {
+        if kind == 0 {
+            return rows_of(lens, T);
+        }
+        return rows_of(lens, U);
+    }
+    // a digit: the numbers up to it
+    if what <= 47 {
+        return 0;
+    }
+    (what - 47) as usize
+}
+
+// 6: whether v says that the field is missing, and its mark allows that.
+fn may_miss(mark: u8, v: u32) -> bool
+    ensures { λ r. ⌜ r ≡ mayMiss mark v ⌝ }
+{
+    if v != as5506::MISSING {
+        return false;
+    }
+    mark == b'?'
+}
+
+// 6: whether field j of the row at `at` is in its range.
+fn field_fits(lens: [usize; 11], t: &[u32], k: usize, at: usize, j: usize) -> bool
+    requires { ⌜ (k < 11) × (j < 9) × (at ≤ farthest) ⌝ }
+    ensures { λ r. ⌜ r ≡ fieldFits lens (now (t .entry)) k at j ⌝ }
+{
+    let v = lent::number_at(t, at + j);
+    let place = k * 20 + j * 2 + 2;
+    if may_miss(FIELDS[place + 1], v) {
+        return true;
+    }
+    let what = FIELDS[place];
+    if what == b'*' {
+        return true;
+    }
+    (v as usize) < limit_of(lens, lent::number_at(t, at), what)
+}
+
+// 6: whether all fields of the row at `at` are in their ranges.
+fn fields_fit(lens: [usize; 11], t: &[u32], k: usize, at: usize) -> bool
+    requires { ⌜ (k < 11) × (at ≤ farthest) ⌝ }
+    ensures { λ r. ⌜ r ≡ fieldsFit lens (now (t .entry)) k at ⌝ }
+{
+    let width = as5506::WIDTHS[k];
+    let mut j: usize = 0;
+    while j < width {
+        if !field_fits(lens, t, k, at, j) {
+            return false;
+        }
+        j += 1;
+    }
+    true
+}
+
+// 7: whether component i, which says this parent, is the first and has one, or has none that is smaller.
+fn bad_parent(i: usize, parent: u32) -> bool
+    ensures { λ r. ⌜ r ≡ parentBad i parent ⌝ }
+{
+    if i == 0 {
+        return parent != as5506::MISSING;
+    }
+    i <= parent as usize
+}
+
+// 8: an end, the two fields at `at`, with a subcomponent and no feature.
+fn bad_end(t: &[u32], at: usize) -> bool
+    requires { ⌜ at ≤ farthest + 8 ⌝ }
+    ensures { λ r. ⌜ r ≡ endBad (now (t .entry)) at ⌝ }
+{
+    if lent::number_at(t, at) == as5506::MISSING {
+        return false;
+    }
+    lent::number_at(t, at + 1) == as5506::MISSING
+}
+
+// 8: a reference, the three fields at `at`, with a package or implementation and no type.
+fn bad_reference(t: &[u32], at: usize) -> bool
+    requires { ⌜ at ≤ farthest + 8 ⌝ }
+    ensures { λ r. ⌜ r ≡ referenceBad (now (t .entry)) at ⌝ }
+{
+    if lent::number_at(t, at + 1) != as5506::MISSING {
+        return false;
+    }
+    if lent::number_at(t, at) != as5506::MISSING {
+        return true;
+    }
+    lent::number_at(t, at + 2) != as5506::MISSING
+}
+
+// 8: a rename, the row at `at`, of what = 0 with an original name, or 1 or 2 without.
+fn bad_rename(t: &[u32], at: usize) -> bool
+    requires { ⌜ at ≤ farthest ⌝ }
+    ensures { λ r. ⌜ r ≡ renameBad (now (t .entry)) at ⌝ }
+{
+    if lent::number_at(t, at + 1) == 0 {
+        return lent::number_at(t, at + 4) != as5506::MISSING;
+    }
+    lent::number_at(t, at + 4) == as5506::MISSING
+}
+
+// 8: the ends of an X row, the references of a U or E row, or an R row.
+fn bad_ends(t: &[u32], k: usize, at: usize) -> bool
+    requires { ⌜ at ≤ farthest ⌝ }
+    ensures { λ r. ⌜ r ≡ endsBad (now (t .entry)) k at ⌝ }
+{
+    if k == X {
+        if bad_end(t, at + 3) {
+            return true;
+        }
+        return bad_end(t, at + 5);
+    }
+    if k == U {
+        if bad_reference(t, at + 3) {
+            return true;
+        }
+        return bad_reference(t, at + 6);
+    }
+    if k == E {
+        return bad_reference(t, at + 5);
+    }
+    bad_rename(t, at)
+}
+
+// 9: whether two fields are the same by their character of KEYS; a field that is in no key always is.
+fn same_part(bytes: &[u8], n: &[u32], how: u8, x: u32, y: u32) -> bool
+    ensures { λ r. ⌜ r ≡ samePart (now (bytes .entry)) (now (n .entry)) how x y ⌝ }
+{
+    if how == b'=' {
+        return x == y;
+    }
+    if how == b'n' {
+        return name::same_folded_names(bytes, n, x, y);
+    }
+    true
+}
+
+// 9: whether the rows at x and y have the same key.
+fn same_key(bytes: &[u8], n: &[u32], t: &[u32], k: usize, x: usize, y: usize) -> bool
+    requires { ⌜ (k < 11) × (x ≤ farthest) × (y ≤ farthest) ⌝ }
+    ensures { λ r. ⌜ r ≡ sameKey (now (bytes .entry)) (now (n .entry)) (now (t .entry)) k x y ⌝ }
+{
+    let mut j: usize = 0;
+    while j < 3 {
+        let how = KEYS[k * 5 + 2 + j];
+        let one = lent::number_at(t, x + j);
+        let other = lent::number_at(t, y + j);
+        if !same_part(bytes, n, how, one, other) {
+            return false;
+        }
+        j += 1;
+    }
+    true
+}
+
+// 9: whether a row before row i has its key. A scan of all pairs of rows: seconds at 4,096 rows of each letter.
+fn key_taken(bytes: &[u8], n: &[u32], t: &[u32], k: usize, i: usize) -> bool
+    requires { ⌜ (k < 11) × (i ≤ 4096) ⌝ }
+    ensures { λ r. ⌜ r ≡ keyTaken (now (bytes .entry)) (now (n .entry)) (now (t .entry)) k i ⌝ }
+{
+    let width = as5506::WIDTHS[k];
+    let at = i * width;
+    let mut j: usize = 0;
+    while j < i {
+        if same_key(bytes, n, t, k, at, j * width) {
+            return true;
+        }
+        j += 1;
+    }
+    false
+}
+
+// Which tables a rule asks, a character for each letter in the order NCFXPITQUER: 1 the table as a whole, * each row.
+fn asks(rule: Rule) -> [u8; 11]
+    ensures { λ r. ⌜ r ≡ asked rule ⌝ }
+{
+    match rule {
+        Rule::Whole => *b"11111111111",
+        Rule::Few => *b"***********",
+        Rule::Names => *b"*          ",
+        Rule::Fields => *b" **********",
+        Rule::Root => *b" 1         ",
+        Rule::Parents => *b" *         ",
+        Rule::Ends => *b"   *    ***",
+        Rule::Keys => *b"    * *** *",
+    }
+}
+
+// How many rows of letter k a rule is asked for: row 0 where it asks the table; none after row 4,096, at which `Few` refuses the table.
+fn span_of(lens: [usize; 11], rule: Rule, k: usize) -> usize
+    requires { ⌜ k < 11 ⌝ }
+    ensures { λ r. ⌜ (r ≡ spanOf lens rule k) × (r ≤ 4097) ⌝ }
+{
+    let asked = asks(rule);
+    let how = asked[k];
+    if how == b'1' {
+        return 1;
+    }
+    if how != b'*' {
+        return 0;
+    }
+    let rows = rows_of(lens, k);
+    if as5506::TABLE_ROWS < rows {
+        return 4097;
+    }
+    rows
+}
+
+// Whether a rule refuses row i of the table t of letter k.
+fn bad_row(
+    bytes: &[u8],
+    n: &[u32],
+    t: &[u32],
+    lens: [usize; 11],
+    rule: Rule,
+    k: usize,
+    i: usize,
+) -> bool
+    requires { ⌜ (k < 11) × (i ≤ 4096) ⌝ }
+    ensures { λ r. ⌜ r ≡ badRow (now (bytes .entry)) (now (n .entry)) (now (t .entry)) lens rule k i ⌝ }
+{
+    let width = as5506::WIDTHS[k];
+    let at = i * width;
+    match rule {
+        Rule::Whole => is_broken(lens, k),
+        Rule::Few => as5506::TABLE_ROWS <= i,
+        Rule::Names => bad_name(bytes, n, i),
+        Rule::Fields => !fields_fit(lens, t, k, at),
+        Rule::Root => rows_of(lens, k) == 0,
+        Rule::Parents => bad_parent(i, lent::number_at(t, at + 1)),
+        Rule::Ends => bad_ends(t, k, at),
+        Rule::Keys => key_taken(bytes, n, t, k, i),
+    }
+}
+
+// The number of the refusal.
+fn number_of(rule: Rule) -> u32
+    ensures { λ r. ⌜ r ≡ numberOf rule ⌝ }
+{
+    match rule {
+        Rule::Whole => 10,
+        Rule::Few => 10,
+        Rule::Names => 10,
+        Rule::Fields => 6,
+        Rule::Root => 7,
+        Rule::Parents => 7,
+        Rule::Ends => 8,
+        Rule::Keys => 9,
+    }
+}
+
+// Whether something was found.
+fn is_refused(c: Checked) -> bool
+    ensures { λ r. ⌜ r ≡ isRefused c ⌝ }
+{
+    match c {
+        Checked::Accepted => false,
+        Checked::Refused(_) => true,
+    }
+}
+
+// What was found before; else what the rule says of the table t of letter k, by its lowest bad row.
+fn check_table(
+    before: Checked,
+    rule: Rule,
+    bytes: &[u8],
+    n: &[u32],
+    t: &[u32],
+    lens: [usize; 11],
+    k: usize,
+) -> Checked
+    requires { ⌜ k < 11 ⌝ }
+    ensures { λ r. ⌜ r ≡ orElse before (checkTable (now (bytes .entry)) (now (n .entry)) (now (t .entry)) lens rule k) ⌝ }
+{
+    if is_refused(before) {
+        return before;
+    }
+    let count = span_of(lens, rule, k);
+    let mut i: usize = 0;
+    while i < count {
+        if bad_row(bytes, n, t, lens, rule, k, i) {
+            let number = number_of(rule);
+            let place = i as u32;
+            let letter = LETTERS[k];
+            return Checked::Refused(as5506::Refusal {
+                number: number,
+                place: place,
+                letter: letter,
+            });
+        }
+        i += 1;
+    }
+    Checked::Accepted
+}
+
+// What was found before; else what the rule says of all tables, in letter order.
+fn check_rule(
+    before: Checked,
+    rule: Rule,
+    bytes: &[u8],
+    n: &[u32],
+    c: &[u32],
+    f: &[u32],
+    x: &[u32],
+    p: &[u32],
+    i: &[u32],
+    t: &[u32],
+    q: &[u32],
+    u: &[u32],
+    e: &[u32],
+    r: &[u32],
+) -> Checked
+    ensures { λ z. ⌜ z ≡ orElse before (checkRule (tablesOf (now (bytes .entry)) (now (n .entry)) (now (c .entry)) (now (f .entry)) (now (x .entry)) (now (p .entry)) (now (i .entry)) (now (t .entry)) (now (q .entry)) (now (u .entry)) (now (e .entry)) (now (r .entry))) rule) ⌝ }
+{
+    let lens = [
+        n.len(),
+        c.len(),
+        f.len(),
+        x.len(),
+        p.len(),
+        i.len(),
+        t.len(),
+        q.len(),
+        u.len(),
+        e.len(),
+        r.len(),
+    ];
+    let found = check_table(before, rule, bytes, n, n, lens, 0);
+    let found = check_table(found, rule, bytes, n, c, lens, 1);
+    let found = check_table(found, rule, bytes, n, f, lens, 2);
+    let found = check_table(found, rule, bytes, n, x, lens, 3);
+    let found = check_table(found, rule, bytes, n, p, lens, 4);
+    let found = check_table(found, rule, bytes, n, i, lens, 5);
+    let found = check_table(found, rule, bytes, n, t, lens, 6);
+    let found = check_table(found, rule, bytes, n, q, lens, 7);
+    let found = check_table(found, rule, bytes, n, u, lens, 8);
+    let found = check_table(found, rule, bytes, n, e, lens, 9);
+    check_table(found, rule, bytes, n, r, lens, 10)
+}
+
+// What the tables are refused for, if anything: the rules one after the other.
+pub fn check_tables(
+    bytes: &[u8],
+    n: &[u32],
+    c: &[u32],
+    f: &[u32],
+    x: &[u32],
+    p: &[u32],
+    i: &[u32],
+    t: &[u32],
+    q: &[u32],
+    u: &[u32],
+    e: &[u32],
+    r: &[u32],
+) -> Checked
+    ensures { λ z. ⌜ z ≡ checked (faults (tablesOf (now (bytes .entry)) (now (n .entry)) (now (c .entry)) (now (f .entry)) (now (x .entry)) (now (p .entry)) (now (i .entry)) (now (t .entry)) (now (q .entry)) (now (u .entry)) (now (e .entry)) (now (r .entry)))) ⌝ }
+{
+    let found = Checked::Accepted;
+    let found = check_rule(found, Rule::Whole, bytes, n, c, f, x, p, i, t, q, u, e, r);
+    let found = check_rule(found, Rule::Few, bytes, n, c, f, x, p, i, t, q, u, e, r);
+    let found = check_rule(found, Rule::Names, bytes, n, c, f, x, p, i, t, q, u, e, r);
+    let found = check_rule(found, Rule::Fields, bytes, n, c, f, x, p, i, t, q, u, e, r);
+    let found = check_rule(found, Rule::Root, bytes, n, c, f, x, p, i, t, q, u, e, r);
+    let found = check_rule(found, Rule::Parents, bytes, n, c, f, x, p, i, t, q, u, e, r);
+    let found = check_rule(found, Rule::Ends, bytes, n, c, f, x, p, i, t, q, u, e, r);
+    check_rule(found, Rule::Keys, bytes, n, c, f, x, p, i, t, q, u, e, r)
+}
