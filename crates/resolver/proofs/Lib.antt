@@ -1,0 +1,5 @@
+pub mod Scan
+mod Keys
+mod Rows
+mod Steps
+pub mod Answers

@@ -1,0 +1,83 @@
+-- Laws of scans: the rows of a table that pass a test, from a row on. Assumes nothing.
+use mathlib.Core.Bool.{Bool, true, false, _&&_}
+use mathlib.Core.Path.{_≡_, refl, _∙_}
+use mathlib.Core.List.{List, [], _∷_, _++_}
+use mathlib.Core.Option.{none, some}
+use Prim.Native.Nat.{ℕ, zero, suc, _+_, _*_, _-_, _/_, _≤_, _<_}
+use native.Mathlib.Nat.{div-mul-le-self, mul-le-mul-right, suc-mul}
+use native.Mathlib.Numerals.{add-one}
+use native.Mathlib.Omega.{arith}
+use Rattle.as5506.specs.Lists.{span, putIf, keep, firstOf}
+use Rattle.as5506.proofs.Laws.{All}
+
+-- a row of a table of whole rows lies within the table
+pub row-within : (len width i : ℕ) → i < len / width → i * width + width ≤ len
+row-within len width i h = omega (arith, div-mul-le-self len width, mul-le-mul-right width h, suc-mul i width)
+
+-- ---- a scan, row by row
+
+module _ (p : ℕ → Bool) where
+  rows-step : (i n : ℕ) → i < n → keep p (span i (n - i)) ≡ putIf (p i) i (keep p (span (i + 1) (n - (i + 1))))
+  rows-step i n h = let e : n - i ≡ suc (n - (i + 1)) = omega arith in rw (e, add-one)
+
+  pub rows-hit : (i n : ℕ) → i < n → p i ≡ true → keep p (span i (n - i)) ≡ i ∷ keep p (span (i + 1) (n - (i + 1)))
+  rows-hit i n h q = rows-step i n h ∙ rw q
+
+  pub rows-miss : (i n : ℕ) → i < n → p i ≡ false → keep p (span i (n - i)) ≡ keep p (span (i + 1) (n - (i + 1)))
+  rows-miss i n h q = rows-step i n h ∙ rw q
+
+  pub rows-end : (i n : ℕ) → n ≤ i → keep p (span i (n - i)) ≡ []
+  rows-end i n h = let e : n - i ≡ 0 = omega arith in rw e
+
+  -- ---- the first row from i on: a row from i on, and the others follow it
+
+  abbrev IsFirst : ℕ → ℕ → ℕ → List ℕ → Type 0
+  IsFirst i k j rows = (i ≤ j) × (j < i + k) × (rows ≡ j ∷ keep p (span (suc j) (i + k - suc j)))
+
+  first-by : (b : Bool) (i k j : ℕ) → (firstOf (keep p (span (suc i) k)) ≡ some j → IsFirst (suc i) k j (keep p (span (suc i) k))) → firstOf (putIf b i (keep p (span (suc i) k))) ≡ some j → IsFirst i (suc k) j (putIf b i (keep p (span (suc i) k)))
+  first-by true i k j below q =
+      let d : i ≡ j = cc in
+      let e : i + suc k - suc i ≡ k = omega arith in
+      (omega arith, omega arith, rw (← d, e))
+  first-by false i k j below q =
+      let h = below q in
+      let e : suc i + k - suc j ≡ i + suc k - suc j = omega arith in
+      (omega (arith, h .0), omega (arith, h .1), rw (← e) (h .2))
+
+  first-from : (i k j : ℕ) → firstOf (keep p (span i k)) ≡ some j → IsFirst i k j (keep p (span i k))
+  first-from i zero j q = let z : _≡_ {A = ℕ} 0 1 = cc in absurd (omega arith)
+  first-from i (suc k) j q = first-by (p i) i k j (first-from (suc i) k j) q
+
+  pub rows-first : (i n j : ℕ) → firstOf (keep p (span i (n - i))) ≡ some j → (i ≤ j) × (j < n) × (keep p (span i (n - i)) ≡ j ∷ keep p (span (j + 1) (n - (j + 1))))
+  rows-first i n j q =
+      let h = first-from i (n - i) j q in
+      let e : i + (n - i) - suc j ≡ n - (j + 1) = omega (arith, h .0, h .1) in
+      (h .0, omega (arith, h .0, h .1), h .2 ∙ rw (e, add-one))
+
+-- ---- tests
+
+pub keep-same : (p q : ℕ → Bool) → ((i : ℕ) → p i ≡ q i) → (xs : List ℕ) → keep p xs ≡ keep q xs
+keep-same p q h [] = refl
+keep-same p q h (x ∷ xs) = rw (h x, keep-same p q h xs)
+
+both-by : (p q : ℕ → Bool) (b : Bool) (x : ℕ) (xs : List ℕ) → keep p (putIf b x xs) ≡ putIf (b && p x) x (keep p xs)
+both-by p q true x xs = refl
+both-by p q false x xs = refl
+
+pub keep-both : (p q : ℕ → Bool) (xs : List ℕ) → keep p (keep q xs) ≡ keep (λ i. q i && p i) xs
+keep-both p q [] = refl
+keep-both p q (x ∷ xs) = both-by p q (q x) x (keep q xs) ∙ rw (keep-both p q xs)
+
+-- ---- the first of a list
+
+pub first-append : (xs ys : List ℕ) (j : ℕ) → some j ≡ firstOf xs → some j ≡ firstOf (xs ++ ys)
+first-append [] ys j h = let z : _≡_ {A = ℕ} 0 1 = cc in absurd (omega arith)
+first-append (x ∷ xs) ys j h = h
+
+pub first-append-none : (xs ys : List ℕ) → none ≡ firstOf xs → firstOf (xs ++ ys) ≡ firstOf ys
+first-append-none [] ys h = refl
+first-append-none (x ∷ xs) ys h = let z : _≡_ {A = ℕ} 0 1 = cc in absurd (omega arith)
+
+pub all-first : (P : ℕ → Type 0) (xs : List ℕ) → All P xs → (i : ℕ) → some i ≡ firstOf xs → P i
+all-first P [] t i h = let z : _≡_ {A = ℕ} 0 1 = cc in absurd (omega arith)
+all-first P (x ∷ xs) t i h = let e : i ≡ x = cc in rw e (t .0)

@@ -1,0 +1,78 @@
+-- `resolver::replaced` meets its contract. One law of Steps for each return. Assumes nothing.
+use mathlib.Core.Path.{_≡_}
+use mathlib.Core.List.{List, []}
+use mathlib.Core.Option.{some}
+use Prim.Native.Nat.{ℕ}
+use native.Mathlib.Omega.{arith}
+use borrow.Author.Needs.{needs}
+use Rattle.as5506.specs.Names.{key}
+use Rattle.as5506.specs.Tables.{Tables, tablesOf}
+use Rattle.as5506.specs.Lists.{firstOf}
+use Rattle.as5506.specs.Resolve.{renamesNamed, replacedBy}
+use Rattle.resolver.proofs.Steps.{at-row, no-row, not-renamed, renamed}
+use Rattle.resolver.proofs.Rows.{rename-row}
+use Rattle.resolver.proofs.replaced.Statement.{statement}
+use Rattle.resolver.proofs.replaced.Tie as tie
+
+-- the tables that are asked, whatever the others are
+abbrev model : tie.Start → (c f x p i t q u e : List ℕ) → Tables
+model s c f x p i t q u e = tablesOf (s .args .bytes .now) (s .args .n .now) c f x p i t q u e (s .args .r .now)
+
+-- the rename that is found, of the package that asks
+module _ (c : tie.After-known-told2) (c₁ f x p i t q u e : List ℕ) where
+  abbrev renameModel : Tables
+  renameModel = model (c .before .before .before .before .before .before .before .before .before .before) c₁ f x p i t q u e
+
+  rename-at : some (c .before .rename .given .0 .0) ≡ firstOf (renamesNamed renameModel (c .before .before .before .before .before .asking .given .0 .0) 0 (key renameModel (c .before .before .before .before .before .before .before .before .before .before .args .«package»)))
+  rename-at = at-row _ _ _ (c .before .rename .given .1) (c .before .before .before .find-rename .ensures c₁ f x p i t q u e)
+
+enum-known-asking : tie.Need-enum-known-asking
+enum-known-asking c = search needs
+
+enum-told : tie.Need-enum-told
+enum-told c = search needs
+
+returns : tie.Need-returns
+unfolding replacedBy
+returns c = λ c₁ f x p i t q u e. rw (c .enum-told .given .1)
+
+find-rename-requires : tie.Need-find-rename-requires
+find-rename-requires c κs = search needs
+
+enum-known-rename : tie.Need-enum-known-rename
+enum-known-rename c = search needs
+
+enum-told-2 : tie.Need-enum-told-2
+enum-told-2 c = search needs
+
+returns-2 : tie.Need-returns-2
+returns-2 c =
+    let s = c .before .before .before .before .before .before .before .before .before in
+    λ c₁ f x p i t q u e. rw (c .before .before .before .before .asking .given .1)
+    (not-renamed (model s c₁ f x p i t q u e) (s .args .«package») (c .before .before .before .before .asking .given .0 .0)
+    (no-row _ _ (c .enum-told2 .given .1) (c .before .before .find-rename .ensures c₁ f x p i t q u e)))
+
+field-requires : tie.Need-field-requires
+field-requires c κs =
+    let s = c .before .before .before .before .before .before .before .before .before .before in
+    (omega arith, omega arith, rename-row (model s [] [] [] [] [] [] [] [] []) _ _ _ _ (rename-at c [] [] [] [] [] [] [] [] []) .0)
+
+returns-3 : tie.Need-returns-3
+returns-3 c =
+    let s = c .before .before .before .before .before .before .before .before .before .before .before in
+    λ c₁ f x p i t q u e. rw (c .before .before .before .before .before .before .asking .given .1)
+    (renamed (model s c₁ f x p i t q u e) (s .args .«package») (c .before .before .before .before .before .before .asking .given .0 .0) _ _ (rename-at (c .before) c₁ f x p i t q u e) (c .field .ensures))
+
+pub replaced-spec : {M : Type 1} → statement M
+replaced-spec =
+    tie.close
+    (tie.spec
+    enum-known-asking
+    enum-told
+    returns
+    find-rename-requires
+    enum-known-rename
+    enum-told-2
+    returns-2
+    field-requires
+    returns-3)

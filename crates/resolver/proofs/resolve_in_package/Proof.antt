@@ -1,0 +1,46 @@
+-- `resolver::resolve_in_package` meets its contract. One law of Steps for each return. Assumes nothing.
+use mathlib.Core.List.{List}
+use Prim.Native.Nat.{ℕ}
+use borrow.Author.Needs.{needs}
+use Rattle.as5506.specs.Names.{key}
+use Rattle.as5506.specs.Tables.{Tables, tablesOf, Ref, ref}
+use Rattle.resolver.proofs.Steps.{at-row, no-row, package-none, package-some}
+use Rattle.resolver.proofs.resolve_in_package.Statement.{statement}
+use Rattle.resolver.proofs.resolve_in_package.Tie as tie
+
+-- the tables that are asked, whatever the others are
+abbrev model : tie.Start → (c f x i e r : List ℕ) → Tables
+model s c f x i e r = tablesOf (s .args .bytes .now) (s .args .n .now) c f x (s .args .p .now) i (s .args .t .now) (s .args .q .now) (s .args .u .now) e r
+
+abbrev reference : tie.Start → ℕ → Ref
+reference s name = ref name (s .args .type-name) (s .args .implementation)
+
+find-package-requires : tie.Need-find-package-requires
+find-package-requires c κs = search needs
+
+enum-known-row : tie.Need-enum-known-row
+enum-known-row c = search needs
+
+enum-told : tie.Need-enum-told
+enum-told c = search needs
+
+returns : tie.Need-returns
+returns c =
+    let s = c .before .before .before .before .before .before .before .before .before in
+    λ c₁ f x i e r name. package-none (model s c₁ f x i e r) (s .args .own) (reference s name) (key (model s c₁ f x i e r) (s .args .«package»))
+    (no-row _ _ (c .enum-told .given .1) (c .before .before .find-package .ensures c₁ f x i (s .args .t .now) (s .args .q .now) (s .args .u .now) e r))
+
+in-package-requires : tie.Need-in-package-requires
+in-package-requires c κs = search needs
+
+returns-2 : tie.Need-returns-2
+returns-2 c =
+    let s = c .before .before .before .before .before .before .before .before .before .before .before in
+    λ c₁ f x i e r name. package-some (model s c₁ f x i e r) (s .args .own) (reference s name) (key (model s c₁ f x i e r) (s .args .«package»)) _ _
+    (at-row _ _ _ (c .before .before .row .given .1) (c .before .before .before .before .find-package .ensures c₁ f x i (s .args .t .now) (s .args .q .now) (s .args .u .now) e r))
+    (c .in-package .ensures c₁ f x (s .args .p .now) i e r name)
+
+pub resolve-in-package-spec : {M : Type 1} → statement M
+resolve-in-package-spec =
+    tie.close
+    (tie.spec find-package-requires enum-known-row enum-told returns in-package-requires returns-2)
