@@ -1,0 +1,2 @@
+mod Seen
+mod Answers

@@ -1,0 +1,75 @@
+use Rattle.instance.proofs.Answers.{given-call, refused-call}
+use Rattle.as5506.specs.Tables.{tablesOf}
+use borrow.Author.Needs.{needs}
+use Rattle.instance.proofs.compute_semantic_connections.Statement.{statement}
+use Rattle.instance.proofs.compute_semantic_connections.Tie as tie
+use Rattle.instance.proofs.compute_semantic_connections.Reads as reads
+use Rattle.instance.proofs.compute_semantic_connections.Lts as lts
+use Rattle.instance.proofs.list.Reads as list-reads
+use Rattle.lent.proofs.clear_numbers.Reads as clear-numbers-reads
+
+clear-numbers-requires : tie.Need-clear-numbers-requires
+clear-numbers-requires c κs = search needs
+
+clear-numbers-requires-2 : tie.Need-clear-numbers-requires-2
+clear-numbers-requires-2 c κs = search needs
+
+list-requires : tie.Need-list-requires
+list-requires c κs = search needs
+
+enum-told : tie.Need-enum-told
+enum-told c = search needs
+
+enum-told-2 : tie.Need-enum-told-2
+enum-told-2 c = search needs
+
+clear-numbers-requires-3 : tie.Need-clear-numbers-requires-3
+clear-numbers-requires-3 c κs = search needs
+
+clear-numbers-requires-4 : tie.Need-clear-numbers-requires-4
+clear-numbers-requires-4 c κs = search needs
+
+same-length : tie.Need-same-length
+same-length c = search needs
+
+same-length-2 : tie.Need-same-length-2
+same-length-2 c = search needs
+
+returns : tie.Need-returns
+returns c =
+    let a = c .before .before .before .before .before .before .before .before .before .before .before .before .before .before .before .before .before .before .before .before .before .before .before .before .before .before .before .before .before .before .before .args in
+    let m = tablesOf (a .bytes .now) (a .n .now) (a .c .now) (a .f .now) (a .x .now) (a .p .now) (a .i .now) (a .t .now) (a .q .now) (a .u .now) (a .e .now) (a .r .now) in
+    given-call m (a .rows .now) (a .diagnostics .now) _ _ _ _ _ (c .before .before .before .before .before .before .before .before .before .before .before .before .before .before .before .clear-numbers .ensures) (c .before .before .before .before .before .before .before .before .before .before .before .clear-numbers2 .ensures)
+    (c .before .before .before .before .before .before .list .ensures .0) _ _ (c .enum-told .given .1) (c .before .before .before .before .before .before .list .ensures .1)
+
+same-length-3 : tie.Need-same-length-3
+same-length-3 c = search needs
+
+same-length-4 : tie.Need-same-length-4
+same-length-4 c = search needs
+
+returns-2 : tie.Need-returns-2
+returns-2 c =
+    let a = c .before .before .before .before .before .before .before .before .before .before .before .before .before .before .before .before .before .before .before .before .before .before .before .before .before .before .before .before .before .before .before .before .before .before .before .before .before .before .before .args in
+    let m = tablesOf (a .bytes .now) (a .n .now) (a .c .now) (a .f .now) (a .x .now) (a .p .now) (a .i .now) (a .t .now) (a .q .now) (a .u .now) (a .e .now) (a .r .now) in
+    refused-call m (a .rows .now) (a .diagnostics .now) _ _ (c .before .before .before .before .before .before .before .before .before .before .before .before .before .before .list .last .1 .1 .1 .1 .1 .1 .1 .1 .1 .1 .1 .1 .0) (c .before .before .before .before .before .before .before .before .before .before .before .before .before .before .list .last .1 .1 .1 .1 .1 .1 .1 .1 .1 .1 .1 .1 .1 .0) _ (c .before .before .before .before .before .before .before .before .before .before .before .before .before .before .before .before .before .before .before .before .before .before .before .clear-numbers .ensures) (c .before .before .before .before .before .before .before .before .before .before .before .before .before .before .before .before .before .before .before .clear-numbers2 .ensures)
+    (c .before .before .before .before .before .before .before .before .before .before .before .before .before .before .list .ensures .0) _ (c .before .before .before .before .before .before .before .before .enum-told2 .given .1) (c .before .before .before .before .before .before .before .before .before .before .before .before .before .before .list .kept .1 .1 .1 .1 .1 .1 .1 .1 .1 .1 .1 .1 .0) (c .before .before .before .before .before .before .before .before .before .before .before .before .before .before .list .kept .1 .1 .1 .1 .1 .1 .1 .1 .1 .1 .1 .1 .1 .0)
+    _ _ (c .before .before .before .before .before .before .clear-numbers3 .ensures) (c .before .before .clear-numbers4 .ensures)
+
+pub compute-semantic-connections-spec : {M : Type 1} → statement M
+compute-semantic-connections-spec =
+    tie.close
+    (tie.spec
+    clear-numbers-requires
+    clear-numbers-requires-2
+    list-requires
+    enum-told
+    enum-told-2
+    clear-numbers-requires-3
+    clear-numbers-requires-4
+    same-length
+    same-length-2
+    returns
+    same-length-3
+    same-length-4
+    returns-2)

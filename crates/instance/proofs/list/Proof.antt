@@ -1,0 +1,122 @@
+use Rattle.instance.proofs.Answers.{accepted-is, few-components, few-connections, tables-refused, lists-11, lists-12, lists-both}
+use Rattle.as5506.specs.Tables.{tablesOf}
+use borrow.Author.Needs.{needs}
+use Rattle.instance.proofs.list.Statement.{statement}
+use Rattle.instance.proofs.list.Tie as tie
+use Rattle.instance.proofs.list.Reads as reads
+use Rattle.instance.proofs.list.Lts as lts
+use Rattle.instance.proofs.refused.Reads as refused-reads
+use Rattle.semantic.proofs.diagnose_connections.Reads as diagnose-connections-reads
+use Rattle.semantic.proofs.trace_connections.Reads as trace-connections-reads
+use Rattle.tables.proofs.check_tables.Reads as check-tables-reads
+
+check-tables-requires : tie.Need-check-tables-requires
+check-tables-requires c κs = search needs
+
+enum-known-reason : tie.Need-enum-known-reason
+enum-known-reason c = search needs
+
+returns : tie.Need-returns
+returns c =
+    let a = c .before .before .before .before .before .before .before .before .before .before .before .before .before .before .before .before .before .before .args in
+    let m = tablesOf (a .bytes .now) (a .n .now) (a .c .now) (a .f .now) (a .x .now) (a .p .now) (a .i .now) (a .t .now) (a .q .now) (a .u .now) (a .e .now) (a .r .now) in
+    let t = tables-refused _ m _ _ (c .before .before .before .check-tables .ensures) (c .before .reason .given .1) in
+    (t .0, t .1 _ _ _ _)
+
+enum-told : tie.Need-enum-told
+enum-told c = search needs
+
+trace-connections-requires : tie.Need-trace-connections-requires
+trace-connections-requires c κs =
+    let a = c .before .before .before .before .before .before .before .before .before .before .before .before .before .before .before .before .before .before .args in
+    let m = tablesOf (a .bytes .now) (a .n .now) (a .c .now) (a .f .now) (a .x .now) (a .p .now) (a .i .now) (a .t .now) (a .q .now) (a .u .now) (a .e .now) (a .r .now) in
+    let ok = accepted-is m _ (c .before .before .before .check-tables .ensures) (c .before .enum-told .given .1) in
+    (few-components m ok, few-connections m ok)
+
+enum-known-k : tie.Need-enum-known-k
+enum-known-k c = search needs
+
+enum-told-2 : tie.Need-enum-told-2
+enum-told-2 c = search needs
+
+refused-requires : tie.Need-refused-requires
+refused-requires c κs = search needs
+
+same-length : tie.Need-same-length
+same-length c = search needs
+
+returns-2 : tie.Need-returns-2
+returns-2 c =
+    let a = c .before .before .before .before .before .before .before .before .before .before .before .before .before .before .before .before .before .before .before .before .before .before .before .before .args in
+    let m = tablesOf (a .bytes .now) (a .n .now) (a .c .now) (a .f .now) (a .x .now) (a .p .now) (a .i .now) (a .t .now) (a .q .now) (a .u .now) (a .e .now) (a .r .now) in
+    let ok = accepted-is m _ (c .before .before .before .before .before .before .before .before .before .check-tables .ensures) (c .before .before .before .before .before .before .before .enum-told .given .1) in
+    lists-11 m ok (a .rows .now) (a .diagnostics .now) _ _ _ (c .before .before .before .before .before .trace-connections .ensures) (c .before .enum-told2 .given .1) (c .refused .ensures) _ _
+
+diagnose-connections-requires : tie.Need-diagnose-connections-requires
+diagnose-connections-requires c κs =
+    let a = c .before .before .before .before .before .before .before .before .before .before .before .before .before .before .before .before .before .before .before .before .before .before .before .before .before .args in
+    let m = tablesOf (a .bytes .now) (a .n .now) (a .c .now) (a .f .now) (a .x .now) (a .p .now) (a .i .now) (a .t .now) (a .q .now) (a .u .now) (a .e .now) (a .r .now) in
+    let ok = accepted-is m _ (c .before .before .before .before .before .before .before .before .before .before .check-tables .ensures) (c .before .before .before .before .before .before .before .before .enum-told .given .1) in
+    (few-components m ok, few-connections m ok)
+
+enum-known-d : tie.Need-enum-known-d
+enum-known-d c = search needs
+
+enum-told-3 : tie.Need-enum-told-3
+enum-told-3 c = search needs
+
+refused-requires-2 : tie.Need-refused-requires-2
+refused-requires-2 c κs = search needs
+
+same-length-2 : tie.Need-same-length-2
+same-length-2 c = search needs
+
+same-length-3 : tie.Need-same-length-3
+same-length-3 c = search needs
+
+returns-3 : tie.Need-returns-3
+returns-3 c =
+    let a = c .before .before .before .before .before .before .before .before .before .before .before .before .before .before .before .before .before .before .before .before .before .before .before .before .before .before .before .before .before .before .before .args in
+    let m = tablesOf (a .bytes .now) (a .n .now) (a .c .now) (a .f .now) (a .x .now) (a .p .now) (a .i .now) (a .t .now) (a .q .now) (a .u .now) (a .e .now) (a .r .now) in
+    let ok = accepted-is m _ (c .before .before .before .before .before .before .before .before .before .before .before .before .before .before .before .before .check-tables .ensures) (c .before .before .before .before .before .before .before .before .before .before .before .before .before .before .enum-told .given .1) in
+    lists-12 m ok (a .rows .now) (a .diagnostics .now) _ _ _ (c .before .before .before .before .before .before .before .before .before .before .before .before .trace-connections .ensures) (c .before .before .before .before .before .before .before .before .k .given .1)
+    _ _ _ (c .before .before .before .before .before .diagnose-connections .ensures) (c .before .enum-told3 .given .1) (c .refused2 .ensures) _ _
+
+same-length-4 : tie.Need-same-length-4
+same-length-4 c = search needs
+
+same-length-5 : tie.Need-same-length-5
+same-length-5 c = search needs
+
+returns-4 : tie.Need-returns-4
+returns-4 c =
+    let a = c .before .before .before .before .before .before .before .before .before .before .before .before .before .before .before .before .before .before .before .before .before .before .before .before .before .before .before .before .before .before .before .args in
+    let m = tablesOf (a .bytes .now) (a .n .now) (a .c .now) (a .f .now) (a .x .now) (a .p .now) (a .i .now) (a .t .now) (a .q .now) (a .u .now) (a .e .now) (a .r .now) in
+    let ok = accepted-is m _ (c .before .before .before .before .before .before .before .before .before .before .before .before .before .before .before .before .check-tables .ensures) (c .before .before .before .before .before .before .before .before .before .before .before .before .before .before .enum-told .given .1) in
+    lists-both m ok (a .rows .now) (a .diagnostics .now) _ _ _ (c .before .before .before .before .before .before .before .before .before .before .before .before .trace-connections .ensures) (c .before .before .before .before .before .before .before .before .k .given .1)
+    _ _ _ (c .before .before .before .before .before .diagnose-connections .ensures) (c .before .d .given .1)
+
+pub list-spec : {M : Type 1} → statement M
+list-spec =
+    tie.close
+    (tie.spec
+    check-tables-requires
+    enum-known-reason
+    returns
+    enum-told
+    trace-connections-requires
+    enum-known-k
+    enum-told-2
+    refused-requires
+    same-length
+    returns-2
+    diagnose-connections-requires
+    enum-known-d
+    enum-told-3
+    refused-requires-2
+    same-length-2
+    same-length-3
+    returns-3
+    same-length-4
+    same-length-5
+    returns-4)

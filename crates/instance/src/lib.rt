@@ -1,0 +1,100 @@
+// The traced listing (instance.rs, `compute_semantic_connections`) over the caller's tables and outputs.
+ghost use mathlib.Core.Logic.{_↔_};
+ghost use mathlib.Core.Path.{_≡_};
+ghost use Prim.Native.Nat.{ℕ};
+ghost use lib.ListN.{length};
+ghost use Rattle.as5506.specs.Tables.{tablesOf};
+ghost use Rattle.as5506.specs.Tracing.{unlimited, stepLimit};
+ghost use Rattle.as5506.specs.Followed.{NoneHasNext};
+ghost use Rattle.as5506.specs.Listing.{tracedAnswer};
+ghost use Rattle.as5506.specs.Layout.{roomIn, tracedRowNumbers, tracedDiagNumbers, output, rowsBack};
+ghost use Rattle.instance.specs.declared.Listed.the-variants.{Rows};
+ghost use Rattle.instance.specs.Answer.{listed, refusedFor, Wrote as Outputs};
+use as5506::Refusal;
+use tables::Checked;
+use trace::Wrote;
+
+// How many rows and diagnostics were written, or why none were.
+pub enum Listed {
+    Rows(usize, usize),
+    Refused(Refusal),
+}
+
+// A refusal that has no place.
+fn refused(number: u32) -> Listed
+    ensures { λ z. ⌜ z ≡ refusedFor number ⌝ }
+{
+    let reason = Refusal {
+        number: number,
+        place: 0,
+        letter: 45,
+    };
+    Listed::Refused(reason)
+}
+
+// Checks the tables, then writes the rows and the diagnostics of all connections. On a refusal the outputs hold anything.
+fn list(
+    bytes: &[u8],
+    n: &[u32],
+    c: &[u32],
+    f: &[u32],
+    x: &[u32],
+    p: &[u32],
+    i: &[u32],
+    t: &[u32],
+    q: &[u32],
+    u: &[u32],
+    e: &[u32],
+    r: &[u32],
+    rows: &mut [u32],
+    diagnostics: &mut [u32],
+) -> Listed
+    ensures { λ z. ⌜ z ≡ listed (tracedAnswer (roomIn (length (now (rows .entry))) (length (now (diagnostics .entry)))) (tablesOf (now (bytes .entry)) (now (n .entry)) (now (c .entry)) (now (f .entry)) (now (x .entry)) (now (p .entry)) (now (i .entry)) (now (t .entry)) (now (q .entry)) (now (u .entry)) (now (e .entry)) (now (r .entry)))) ⌝ }
+    ensures { λ _. ⌜ Outputs (tablesOf (now (bytes .entry)) (now (n .entry)) (now (c .entry)) (now (f .entry)) (now (x .entry)) (now (p .entry)) (now (i .entry)) (now (t .entry)) (now (q .entry)) (now (u .entry)) (now (e .entry)) (now (r .entry))) (tracedAnswer (roomIn (length (now (rows .entry))) (length (now (diagnostics .entry)))) (tablesOf (now (bytes .entry)) (now (n .entry)) (now (c .entry)) (now (f .entry)) (now (x .entry)) (now (p .entry)) (now (i .entry)) (now (t .entry)) (now (q .entry)) (now (u .entry)) (now (e .entry)) (now (r .entry)))) (now (rows .entry)) (now (diagnostics .entry)) (now (rows .exit)) (now (diagnostics .exit)) ⌝ }
+{
+    if let Checked::Refused(reason) = tables::check_tables(bytes, n, c, f, x, p, i, t, q, u, e, r) {
+        return Listed::Refused(reason);
+    }
+    let Wrote::Count(k) = semantic::trace_connections(bytes, n, c, x, rows) else {
+        return refused(11);
+    };
+    let Wrote::Count(d) = semantic::diagnose_connections(bytes, n, c, x, diagnostics) else {
+        return refused(12);
+    };
+    Listed::Rows(k, d)
+}
+
+// The semantic connections of the tables and their diagnostics. The outputs hold them from the front, and zeros behind; on a refusal, zeros.
+pub fn compute_semantic_connections(
+    bytes: &[u8],
+    n: &[u32],
+    c: &[u32],
+    f: &[u32],
+    x: &[u32],
+    p: &[u32],
+    i: &[u32],
+    t: &[u32],
+    q: &[u32],
+    u: &[u32],
+    e: &[u32],
+    r: &[u32],
+    rows: &mut [u32],
+    diagnostics: &mut [u32],
+) -> Listed
+    ensures { λ z. ⌜ z ≡ listed (tracedAnswer (roomIn (length (now (rows .entry))) (length (now (diagnostics .entry)))) (tablesOf (now (bytes .entry)) (now (n .entry)) (now (c .entry)) (now (f .entry)) (now (x .entry)) (now (p .entry)) (now (i .entry)) (now (t .entry)) (now (q .entry)) (now (u .entry)) (now (e .entry)) (now (r .entry)))) ⌝ }
+    ensures { λ _. ⌜ now (rows .exit) ≡ output (length (now (rows .entry))) (tracedRowNumbers (tablesOf (now (bytes .entry)) (now (n .entry)) (now (c .entry)) (now (f .entry)) (now (x .entry)) (now (p .entry)) (now (i .entry)) (now (t .entry)) (now (q .entry)) (now (u .entry)) (now (e .entry)) (now (r .entry)))) (tracedAnswer (roomIn (length (now (rows .entry))) (length (now (diagnostics .entry)))) (tablesOf (now (bytes .entry)) (now (n .entry)) (now (c .entry)) (now (f .entry)) (now (x .entry)) (now (p .entry)) (now (i .entry)) (now (t .entry)) (now (q .entry)) (now (u .entry)) (now (e .entry)) (now (r .entry)))) ⌝ }
+    ensures { λ _. ⌜ now (diagnostics .exit) ≡ output (length (now (diagnostics .entry))) tracedDiagNumbers (tracedAnswer (roomIn (length (now (rows .entry))) (length (now (diagnostics .entry)))) (tablesOf (now (bytes .entry)) (now (n .entry)) (now (c .entry)) (now (f .entry)) (now (x .entry)) (now (p .entry)) (now (i .entry)) (now (t .entry)) (now (q .entry)) (now (u .entry)) (now (e .entry)) (now (r .entry)))) ⌝ }
+    ensures { λ z. ⌜ ((k d : ℕ) → z ≡ Rows k d → (rowsBack (tablesOf (now (bytes .entry)) (now (n .entry)) (now (c .entry)) (now (f .entry)) (now (x .entry)) (now (p .entry)) (now (i .entry)) (now (t .entry)) (now (q .entry)) (now (u .entry)) (now (e .entry)) (now (r .entry))) k (now (rows .exit)) ≡ unlimited (tablesOf (now (bytes .entry)) (now (n .entry)) (now (c .entry)) (now (f .entry)) (now (x .entry)) (now (p .entry)) (now (i .entry)) (now (t .entry)) (now (q .entry)) (now (u .entry)) (now (e .entry)) (now (r .entry)))) ↔ NoneHasNext stepLimit (tablesOf (now (bytes .entry)) (now (n .entry)) (now (c .entry)) (now (f .entry)) (now (x .entry)) (now (p .entry)) (now (i .entry)) (now (t .entry)) (now (q .entry)) (now (u .entry)) (now (e .entry)) (now (r .entry)))) ⌝ }
+{
+    lent::clear_numbers(rows);
+    lent::clear_numbers(diagnostics);
+    let answer = list(bytes, n, c, f, x, p, i, t, q, u, e, r, rows, diagnostics);
+    match answer {
+        Listed::Rows(_, _) => answer,
+        Listed::Refused(_) => {
+            lent::clear_numbers(rows);
+            lent::clear_numbers(diagnostics);
+            answer
+        }
+    }
+}

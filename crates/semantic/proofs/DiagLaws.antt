@@ -1,0 +1,137 @@
+-- Diagnostics one after the other. Assumes nothing.
+use mathlib.Core.Bool.{Bool, true, false, not, _&&_}
+use mathlib.Core.Path.{_≡_, refl, sym, ap, _∙_, subst}
+use mathlib.Core.List.{List, [], _∷_, _++_, append-nil}
+use Prim.Native.Nat.{ℕ, suc, _+_, _-_, _*_, _/_, _≤_, _<_}
+use native.Mathlib.Nat.{sub-zero}
+use native.Mathlib.Omega.{arith}
+use lib.Dec.{eqb}
+use lib.ListN.{length, length-append}
+use lib.Seq.{sets}
+use borrow.Author.Tests.{ne-eqb}
+use Rattle.as5506.specs.Lists.{when, isNil}
+use Rattle.as5506.specs.Tables.{Tables, present, source, destination, cParent, xCount, xOwner, xSub}
+use Rattle.as5506.specs.Tables.{Side as TheSide}
+use Rattle.as5506.specs.Rows.{Diag, diag}
+use Rattle.as5506.specs.Tracing.{shape, named, oneToOne, noChild, diagsBy, diagsAt, tracedDiags, faulty, across, neither}
+use Rattle.as5506.specs.Tracing.{Shape as TheShape}
+use Rattle.as5506.specs.Layout.{diagBlock}
+use Rattle.children.proofs.Scan.{span-next, span-done}
+use Rattle.trace.specs.declared.Wrote.{Wrote}
+use Rattle.trace.specs.declared.Wrote.the-variants.{Count, Full}
+use Rattle.trace.specs.Writing.{Written}
+use Rattle.trace.proofs.Writing.{remains-start, remains-turn, remains-full, remains-end, written-none, written-room}
+use Rattle.semantic.specs.Rows.{edgeOf}
+use Rattle.semantic.specs.Diagnostics.{Room, WrittenAfter, noChildCode, diagsFrom}
+
+-- ---- one
+
+pub diag-written : (code conn one two : ℕ) (out : List ℕ) (count : ℕ) (out′ : List ℕ) → count < length out / 4 → out′ ≡ sets out (count * 4) (code ∷ conn ∷ one ∷ two ∷ [])
+    → Written 4 diagBlock (diag code conn one two ∷ []) out count (Count (count + 1)) out′
+unfolding Written diagBlock
+diag-written code conn one two out count out′ h e = (refl, omega arith, refl, e)
+
+module _ (test : Bool) (d : Diag) (out : List ℕ) (q : Wrote) where
+  same-answer : (q : Wrote) → Room out q → WrittenAfter [] out q q out
+  unfolding Room WrittenAfter
+  same-answer (Count k) h = written-none 4 diagBlock out k h
+  same-answer Full h = refl
+
+  pub if-not : test ≡ false → Room out q → WrittenAfter (when test d) out q q out
+  if-not e h = rw e (same-answer q h)
+
+  pub if-count : (k : ℕ) (r : Wrote) (out′ : List ℕ) → test ≡ true → q ≡ Count k → Written 4 diagBlock (d ∷ []) out k r out′ → WrittenAfter (when test d) out q r out′
+  unfolding WrittenAfter
+  if-count k r out′ e f w = rw (e, f) w
+
+  pub if-full : (out′ : List ℕ) → q ≡ Full → WrittenAfter (when test d) out q Full out′
+  unfolding WrittenAfter
+  if-full out′ f = rw f refl
+
+-- ---- one after the other
+
+pub after-count : (l : List Diag) (out : List ℕ) (k : ℕ) (r : Wrote) (out′ : List ℕ) → WrittenAfter l out (Count k) r out′ → Written 4 diagBlock l out k r out′
+unfolding WrittenAfter
+after-count l out k r out′ w = w
+
+pub room-count : (out : List ℕ) (k : ℕ) → k ≤ length out / 4 → Room out (Count k)
+unfolding Room
+room-count out k h = h
+
+pub room-after : (l : List Diag) (out : List ℕ) (count : ℕ) (q : Wrote) (out′ : List ℕ) → Written 4 diagBlock l out count q out′ → Room out′ q
+unfolding Room
+room-after l out count (Count k) out′ w = written-room 4 diagBlock l out count k out′ w
+room-after l out count Full out′ w = tt
+
+over-full : (a b : List Diag) (out out′ : List ℕ) (count : ℕ) → Written 4 diagBlock a out count Full out′ → (o : List ℕ) → Written 4 diagBlock (a ++ b) out count Full o
+unfolding Written
+over-full a b out out′ count w o = omega (arith, length-append a b, w)
+
+pub after-append : (a b : List Diag) (out : List ℕ) (count : ℕ) (q : Wrote) (out₁ : List ℕ) (r : Wrote) (out₂ : List ℕ) → count ≤ length out / 4
+    → Written 4 diagBlock a out count q out₁ → WrittenAfter b out₁ q r out₂ → Written 4 diagBlock (a ++ b) out count r out₂
+unfolding WrittenAfter
+after-append a b out count Full out₁ r out₂ h w v = rw v (over-full a b out out₁ count w out₂)
+after-append a b out count (Count k) out₁ Full out₂ h w v =
+    remains-full 4 diagBlock (a ++ b) out count out₁ k b [] (rw (append-nil b) (remains-turn 4 diagBlock (a ++ b) out count out count a b (remains-start 4 diagBlock (a ++ b) out count h) (Count k) out₁ w k refl)) Full out₂ v refl out₂
+after-append a b out count (Count k) out₁ (Count n) out₂ h w v =
+    remains-end 4 diagBlock (a ++ b) out count out₂ n
+    (remains-turn 4 diagBlock (a ++ b) out count out₁ k b [] (rw (append-nil b) (remains-turn 4 diagBlock (a ++ b) out count out count a b (remains-start 4 diagBlock (a ++ b) out count h) (Count k) out₁ w k refl)) (Count n) out₂ v n refl)
+
+-- ---- the diagnostics of an X row
+
+nil-is : (l : List ℕ) → eqb (length l) 0 ≡ isNil l
+nil-is [] = refl
+nil-is (a ∷ l) = ne-eqb (suc (length l)) 0 (λ (e : suc (length l) ≡ 0). omega arith)
+
+pub no-child : (code x sub k v : ℕ) (l : List ℕ) (t : Bool) → k ≡ length l → v ≡ sub → t ≡ eqb k 0 → when t (diag code x v 0) ≡ noChild code x sub l
+no-child code x sub k v l t e f g = rw (g ∙ ap (λ (n : ℕ). eqb n 0) e ∙ nil-is l, f)
+
+module _ (m : Tables) (x : ℕ) where
+  pub across-diags : (a b : List Diag) (t one : Bool) (k n : ℕ) → a ≡ noChild 2 x (xSub m source x) (named m source x) → b ≡ noChild 3 x (xSub m destination x) (named m destination x)
+      → one ≡ oneToOne m (xOwner m x) → k ≡ length (named m source x) → n ≡ length (named m destination x) → t ≡ one && not (eqb k n)
+      → diagsBy m x across ≡ a ++ b ++ when t (diag 4 x k n)
+  unfolding diagsBy
+  across-diags a b t one k n e f g h i j = rw (e, f, j, g, h, i)
+
+  pub edge-none : (s : TheSide) → present (cParent m (xOwner m x)) ≡ true → diagsBy m x (edgeOf s) ≡ []
+  unfolding diagsBy
+  edge-none source e = rw e
+  edge-none destination e = rw e
+
+  edge-diags : (s : TheSide) → present (cParent m (xOwner m x)) ≡ false → diagsBy m x (edgeOf s) ≡ noChild (noChildCode s) x (xSub m s x) (named m s x)
+  unfolding diagsBy
+  edge-diags source e = rw e
+  edge-diags destination e = rw e
+
+  pub edge-written : (s : TheSide) (k v code : ℕ) (out : List ℕ) (count : ℕ) (r : Wrote) (out′ : List ℕ) → present (cParent m (xOwner m x)) ≡ false → k ≡ length (named m s x) → v ≡ xSub m s x
+      → code ≡ noChildCode s → WrittenAfter (when (eqb k 0) (diag code x v 0)) out (Count count) r out′ → Written 4 diagBlock (diagsBy m x (edgeOf s)) out count r out′
+  edge-written s k v code out count r out′ e f g h w =
+      subst (λ (l : List Diag). Written 4 diagBlock l out count r out′)
+      (no-child code x (xSub m s x) k v (named m s x) (eqb k 0) f g refl ∙ ap (λ (c : ℕ). noChild c x (xSub m s x) (named m s x)) h ∙ sym (edge-diags s e))
+      (after-count _ out count r out′ w)
+
+  pub diags-at : (h : TheShape) → shape m x ≡ h → diagsAt m x ≡ diagsBy m x h
+  unfolding diagsAt
+  diags-at h e = rw e
+
+  pub faulty-diags : diagsBy m x faulty ≡ diag 1 x 0 0 ∷ []
+  unfolding diagsBy
+  faulty-diags = refl
+
+  pub neither-diags : diagsBy m x neither ≡ []
+  unfolding diagsBy
+  neither-diags = refl
+
+-- ---- all X rows
+
+pub diags-next : (m : Tables) (i : ℕ) → i < xCount m → diagsFrom m i ≡ diagsAt m i ++ diagsFrom m (i + 1)
+unfolding diagsFrom
+diags-next m i h = rw (span-next i (xCount m) h)
+
+pub diags-done : (m : Tables) (i : ℕ) → xCount m ≤ i → diagsFrom m i ≡ []
+unfolding diagsFrom
+diags-done m i h = rw (span-done i (xCount m) h)
+
+pub diags-from-start : (m : Tables) → diagsFrom m 0 ≡ tracedDiags m
+unfolding diagsFrom tracedDiags
+diags-from-start m = rw (sub-zero (xCount m))

@@ -1,0 +1,3 @@
+mod Naming
+mod PairLaws
+mod DiagLaws

@@ -1,0 +1,94 @@
+use Rattle.as5506.specs.Tracing.{oneToOne, named}
+use Rattle.as5506.specs.Tables.{source, destination}
+use Rattle.semantic.proofs.DiagLaws.{after-count, after-append, room-count, room-after, no-child, across-diags}
+use Rattle.semantic.proofs.PairLaws.{written-as}
+use Rattle.semantic.proofs.Naming.{pattern-same}
+use Rattle.trace.specs.Steps.{tracingIn}
+use Prim.Native.Nat.{_-_}
+use native.Mathlib.Omega.{arith}
+use mathlib.Core.Path.{refl, ap, _∙_}
+use borrow.Author.Needs.{needs}
+use Rattle.semantic.proofs.diagnostics.diagnose_across.Statement.{statement}
+use Rattle.semantic.proofs.diagnostics.diagnose_across.Tie as tie
+use Rattle.semantic.proofs.diagnostics.diagnose_across.Reads as reads
+use Rattle.semantic.proofs.diagnostics.diagnose_across.Lts as lts
+use Rattle.semantic.proofs.diagnostics.diagnose_if.Reads as diagnose-if-reads
+use Rattle.semantic.proofs.diagnostics.unequal.Reads as unequal-reads
+use Rattle.semantic.proofs.ends.count_named.Reads as count-named-reads
+use Rattle.semantic.proofs.ends.owner_of.Reads as owner-of-reads
+use Rattle.semantic.proofs.ends.resolve_connection_pattern.Reads as resolve-connection-pattern-reads
+use Rattle.trace.proofs.subcomponent_of.Reads as subcomponent-of-reads
+
+cast-conn : tie.Need-cast-conn
+cast-conn c = search needs
+
+count-named-requires : tie.Need-count-named-requires
+count-named-requires c κs = search needs
+
+count-named-requires-2 : tie.Need-count-named-requires-2
+count-named-requires-2 c κs = search needs
+
+owner-of-requires : tie.Need-owner-of-requires
+owner-of-requires c κs = search needs
+
+resolve-connection-pattern-requires : tie.Need-resolve-connection-pattern-requires
+resolve-connection-pattern-requires c κs = search needs
+
+subcomponent-of-requires : tie.Need-subcomponent-of-requires
+subcomponent-of-requires c κs = search needs
+
+diagnose-if-requires : tie.Need-diagnose-if-requires
+diagnose-if-requires c κs = let s = c .before .before .before .before .before .before .before .before .before .before .before in room-count _ _ (s .pre .2)
+
+subcomponent-of-requires-2 : tie.Need-subcomponent-of-requires-2
+subcomponent-of-requires-2 c κs = search needs
+
+diagnose-if-requires-2 : tie.Need-diagnose-if-requires-2
+diagnose-if-requires-2 c κs = let s = c .before .before .before .before .before .before .before .before .before .before .before .before .before .before .before .before in room-after _ _ _ _ _ (after-count _ _ _ _ _ (c .before .before .before .before .diagnose-if .ensures))
+
+unequal-requires : tie.Need-unequal-requires
+unequal-requires c κs = search needs
+
+cast-diagnose-if : tie.Need-cast-diagnose-if
+cast-diagnose-if c = let s = c .before .before .before .before .before .before .before .before .before .before .before .before .before .before .before .before .before .before .before .before .before in omega (arith, c .before .before .before .before .before .before .before .before .before .before .before .before .before .before .before .count-named .ensures .1, s .pre .0)
+
+cast-diagnose-if-2 : tie.Need-cast-diagnose-if-2
+cast-diagnose-if-2 c = let s = c .before .before .before .before .before .before .before .before .before .before .before .before .before .before .before .before .before .before .before .before .before in omega (arith, c .before .before .before .before .before .before .before .before .before .before .before .before .before .before .count-named2 .ensures .1, s .pre .0)
+
+diagnose-if-requires-3 : tie.Need-diagnose-if-requires-3
+diagnose-if-requires-3 c κs = let s = c .before .before .before .before .before .before .before .before .before .before .before .before .before .before .before .before .before .before .before .before .before in room-after _ _ _ _ _ (after-append _ _ _ _ _ _ _ _ (s .pre .2) (after-count _ _ _ _ _ (c .before .before .before .before .before .before .before .before .before .diagnose-if .ensures)) (c .before .before .before .before .diagnose-if2 .ensures))
+
+same-length : tie.Need-same-length
+same-length c = search needs
+
+returns : tie.Need-returns
+returns c =
+    let s = c .before .before .before .before .before .before .before .before .before .before .before .before .before .before .before .before .before .before .before .before .before .before .before .before in
+    let a = s .args in
+    let m = tracingIn (a .bytes .now) (a .n .now) (a .c .now) (a .x .now) in
+    written-as _ _ _ _ _ _ _ _
+    (across-diags m (a .i) _ _ _ _ _ _ (no-child _ _ _ _ _ (named m source (a .i)) _ (c .before .before .before .before .before .before .before .before .before .before .before .before .before .before .before .before .before .before .count-named .ensures .0) (c .before .before .before .before .before .before .before .before .before .before .before .before .before .subcomponent-of .ensures) refl)
+    (no-child _ _ _ _ _ (named m destination (a .i)) _ (c .before .before .before .before .before .before .before .before .before .before .before .before .before .before .before .before .before .count-named2 .ensures .0) (c .before .before .before .before .before .before .before .before .subcomponent-of2 .ensures) refl)
+    (c .before .before .before .before .before .before .before .before .before .before .before .before .before .before .before .resolve-connection-pattern .ensures ∙ pattern-same _ _ _ (a .x .now) _ ∙ ap (oneToOne m) (c .before .before .before .before .before .before .before .before .before .before .before .before .before .before .before .before .owner-of .ensures))
+    (c .before .before .before .before .before .before .before .before .before .before .before .before .before .before .before .before .before .before .count-named .ensures .0) (c .before .before .before .before .before .before .before .before .before .before .before .before .before .before .before .before .before .count-named2 .ensures .0) (c .before .before .before .unequal .ensures))
+    (after-append _ _ _ _ _ _ _ _ (s .pre .2) (after-append _ _ _ _ _ _ _ _ (s .pre .2) (after-count _ _ _ _ _ (c .before .before .before .before .before .before .before .before .before .before .before .before .diagnose-if .ensures)) (c .before .before .before .before .before .before .before .diagnose-if2 .ensures)) (c .before .before .diagnose-if3 .ensures))
+
+pub diagnose-across-spec : {M : Type 1} → statement M
+diagnose-across-spec =
+    tie.close
+    (tie.spec
+    cast-conn
+    count-named-requires
+    count-named-requires-2
+    owner-of-requires
+    resolve-connection-pattern-requires
+    subcomponent-of-requires
+    diagnose-if-requires
+    subcomponent-of-requires-2
+    diagnose-if-requires-2
+    unequal-requires
+    cast-diagnose-if
+    cast-diagnose-if-2
+    diagnose-if-requires-3
+    same-length
+    returns)

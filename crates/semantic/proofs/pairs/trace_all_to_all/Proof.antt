@@ -1,0 +1,125 @@
+use Rattle.semantic.proofs.PairLaws.{turn, full, end, all-next, all-done, all-barren, written-as}
+use Rattle.trace.proofs.Scan.{fewer}
+use Rattle.semantic.specs.Rows.{namedFrom, rowsAll}
+use Rattle.trace.proofs.Writing.{Remains, remains-start, written-none}
+use Rattle.trace.specs.Steps.{tracingIn}
+use Rattle.children.proofs.Scan.{after-at, after-nothing, inside-at}
+use Rattle.as5506.specs.Layout.{tracedBlock}
+use Rattle.as5506.specs.Tables.{source}
+use lib.ListN.{length}
+use borrow.Author.Needs.{needs}
+use native.Mathlib.Omega.{arith}
+use mathlib.Core.Path.{_∙_}
+use Rattle.semantic.proofs.pairs.trace_all_to_all.Statement.{statement}
+use Rattle.semantic.proofs.pairs.trace_all_to_all.Tie as tie
+use Rattle.semantic.proofs.pairs.trace_all_to_all.Reads as reads
+use Rattle.semantic.proofs.pairs.trace_all_to_all.Lts as lts
+use Rattle.semantic.proofs.ends.next_named.Reads as next-named-reads
+use Rattle.semantic.proofs.pairs.trace_beside.Reads as trace-beside-reads
+
+abbrev Inv-loop : tie.InvT-loop
+Inv-loop bytes n c x out₀ i count done₀ j₀ out done j =
+    Remains 49 (tracedBlock (tracingIn bytes n c x)) (rowsAll (tracingIn bytes n c x) i (namedFrom (tracingIn bytes n c x) source i 0)) out₀ count
+    out done (rowsAll (tracingIn bytes n c x) i (namedFrom (tracingIn bytes n c x) source i j))
+
+abbrev μ-loop : tie.MeasureT-loop
+μ-loop bytes n c x out₀ i count done₀ j₀ out done j = length (namedFrom (tracingIn bytes n c x) source i j)
+
+next-named-requires : tie.Need-next-named-requires Inv-loop μ-loop
+next-named-requires c κs = c .before .before .before .before .before .pre .3
+
+enum-told : tie.Need-enum-told Inv-loop μ-loop
+enum-told c = search needs
+
+returns : tie.Need-returns Inv-loop μ-loop
+returns c =
+    written-as _ _ _ _ _ _ _ _ (all-barren _ _ _ (after-nothing _ _ _ (c .before .before .next-named .ensures .0) (c .enum-told .given .1))) (written-none _ _ _ _ (c .before .before .before .before .before .before .before .before .pre .2))
+
+enum-told-2 : tie.Need-enum-told-2 Inv-loop μ-loop
+enum-told-2 c = search needs
+
+loop-holds : tie.Need-loop-holds Inv-loop μ-loop
+loop-holds c = remains-start _ _ _ _ _ (c .before .before .before .before .before .before .before .before .pre .2)
+
+next-named-requires-2 : tie.Need-next-named-requires-2 Inv-loop μ-loop
+next-named-requires-2 c κs = c .before .before .before .before .before .before .before .before .before .pre .3
+
+enum-told-3 : tie.Need-enum-told-3 Inv-loop μ-loop
+enum-told-3 c = search needs
+
+same-length : tie.Need-same-length Inv-loop μ-loop
+same-length c = c .before .before .before .loop .inv .size
+
+returns-2 : tie.Need-returns-2 Inv-loop μ-loop
+returns-2 c = end _ _ _ _ _ _ _ _ (c .before .before .before .loop .inv) (all-done _ _ _ (after-nothing _ _ _ (c .before .before .next-named2 .ensures .0) (c .enum-told3 .given .1)))
+
+enum-known-k : tie.Need-enum-known-k Inv-loop μ-loop
+enum-known-k c = search needs
+
+cast-t20 : tie.Need-cast-t20 Inv-loop μ-loop
+cast-t20 c =
+    let w = inside-at _ _ _ (c .before .before .before .before .next-named2 .ensures .1) (c .before .before .k .given .1) in
+    omega (arith, w, c .before .before .before .before .before .before .before .before .before .before .before .before .before .before .pre .0)
+
+trace-beside-requires : tie.Need-trace-beside-requires Inv-loop μ-loop
+trace-beside-requires c κs =
+    let s = c .before .before .before .before .before .before .before .before .before .before .before .before .before .before in
+    let g = c .before .before .before .before .before .loop in
+    (s .pre .0, s .pre .1, rw (g .inv .size) (g .inv .room), s .pre .3)
+
+enum-told-4 : tie.Need-enum-told-4 Inv-loop μ-loop
+enum-told-4 c = search needs
+
+same-length-2 : tie.Need-same-length-2 Inv-loop μ-loop
+same-length-2 c = c .before .before .before .before .trace-beside .kept .1 .1 .1 .1 .0 ∙ c .before .before .before .before .before .before .before .before .before .before .loop .inv .size
+
+returns-3 : tie.Need-returns-3 Inv-loop μ-loop
+returns-3 c =
+    let g = c .before .before .before .before .before .before .before .before .before .before .loop in
+    let e = after-at _ _ _ _ (c .before .before .before .before .before .before .before .before .before .next-named2 .ensures .0) (c .before .before .before .before .before .before .before .k .given .1) in
+    full _ _ _ _ _ _ _ _ (g .inv) _ _ (all-next _ _ _ _ _ e) (c .before .before .before .before .trace-beside .result) _ (c .before .before .before .before .trace-beside .ensures) (c .enum-told4 .given .1) _
+
+enum-known-r : tie.Need-enum-known-r Inv-loop μ-loop
+enum-known-r c = search needs
+
+add-j : tie.Need-add-j Inv-loop μ-loop
+add-j c =
+    let w = inside-at _ _ _ (c .before .before .before .before .before .before .before .before .before .before .next-named2 .ensures .1) (c .before .before .before .before .before .before .before .before .k .given .1) in
+    omega (arith, w, c .before .before .before .before .before .before .before .before .before .before .before .before .before .before .before .before .before .before .before .before .pre .0)
+
+loop-less : tie.Need-loop-less Inv-loop μ-loop
+loop-less c =
+    let e = after-at _ _ _ _ (c .before .before .before .before .before .before .before .before .before .before .next-named2 .ensures .0) (c .before .before .before .before .before .before .before .before .k .given .1) in
+    fewer _ _ _ e
+
+loop-again : tie.Need-loop-again Inv-loop μ-loop
+loop-again c =
+    let g = c .before .before .before .before .before .before .before .before .before .before .before .loop in
+    let e = after-at _ _ _ _ (c .before .before .before .before .before .before .before .before .before .before .next-named2 .ensures .0) (c .before .before .before .before .before .before .before .before .k .given .1) in
+    turn _ _ _ _ _ _ _ _ (g .inv) _ _ (all-next _ _ _ _ _ e) (c .before .before .before .before .before .trace-beside .result) _ (c .before .before .before .before .before .trace-beside .ensures) _ (c .before .r .given .1)
+
+pub trace-all-to-all-spec : {M : Type 1} → statement M
+trace-all-to-all-spec =
+    tie.close
+    (tie.spec
+    Inv-loop
+    μ-loop
+    next-named-requires
+    enum-told
+    returns
+    enum-told-2
+    loop-holds
+    next-named-requires-2
+    enum-told-3
+    same-length
+    returns-2
+    enum-known-k
+    cast-t20
+    trace-beside-requires
+    enum-told-4
+    same-length-2
+    returns-3
+    enum-known-r
+    add-j
+    loop-less
+    loop-again)

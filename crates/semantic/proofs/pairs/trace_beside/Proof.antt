@@ -1,0 +1,106 @@
+use Rattle.semantic.proofs.PairLaws.{turn, full, end, beside-next, beside-done}
+use Rattle.trace.proofs.Scan.{fewer}
+use Rattle.semantic.specs.Rows.{namedFrom, rowsBeside}
+use Rattle.children.proofs.Scan.{after-at, after-nothing, inside-at}
+use borrow.Author.Needs.{needs}
+use Rattle.trace.proofs.Writing.{Remains, remains-start}
+use Rattle.trace.specs.Steps.{tracingIn, sideOf}
+use Rattle.as5506.specs.Layout.{tracedBlock}
+use lib.ListN.{length}
+use Prim.Native.Nat.{_-_}
+use native.Mathlib.Omega.{arith}
+use mathlib.Core.Path.{_∙_}
+use Rattle.semantic.proofs.pairs.trace_beside.Statement.{statement}
+use Rattle.semantic.proofs.pairs.trace_beside.Tie as tie
+use Rattle.semantic.proofs.pairs.trace_beside.Reads as reads
+use Rattle.semantic.proofs.pairs.trace_beside.Lts as lts
+use Rattle.semantic.proofs.ends.next_named.Reads as next-named-reads
+use Rattle.semantic.proofs.pairs.trace_on.Reads as trace-on-reads
+
+abbrev Inv-loop : tie.InvT-loop
+Inv-loop bytes n c x out₀ i side far count done₀ j₀ out done j = Remains 49 (tracedBlock (tracingIn bytes n c x)) (rowsBeside (tracingIn bytes n c x) i (sideOf side) far (namedFrom (tracingIn bytes n c x) (sideOf side) i 0)) out₀ count out done (rowsBeside (tracingIn bytes n c x) i (sideOf side) far (namedFrom (tracingIn bytes n c x) (sideOf side) i j))
+
+abbrev μ-loop : tie.MeasureT-loop
+μ-loop bytes n c x out₀ i side far count done₀ j₀ out done j = length (namedFrom (tracingIn bytes n c x) (sideOf side) i j)
+
+loop-holds : tie.Need-loop-holds Inv-loop μ-loop
+loop-holds c = remains-start _ _ _ _ _ (c .before .before .before .before .before .pre .2)
+
+next-named-requires : tie.Need-next-named-requires Inv-loop μ-loop
+next-named-requires c κs = c .before .before .before .before .before .before .pre .3
+
+enum-told : tie.Need-enum-told Inv-loop μ-loop
+enum-told c = search needs
+
+same-length : tie.Need-same-length Inv-loop μ-loop
+same-length c = c .before .before .before .loop .inv .size
+
+returns : tie.Need-returns Inv-loop μ-loop
+returns c = end _ _ _ _ _ _ _ _ (c .before .before .before .loop .inv) (beside-done _ _ _ _ _ (after-nothing _ _ _ (c .before .before .next-named .ensures .0) (c .enum-told .given .1)))
+
+enum-known-k : tie.Need-enum-known-k Inv-loop μ-loop
+enum-known-k c = search needs
+
+cast-t18 : tie.Need-cast-t18 Inv-loop μ-loop
+cast-t18 c =
+    let w = inside-at _ _ _ (c .before .before .before .before .next-named .ensures .1) (c .before .before .k .given .1) in
+    omega (arith, w, c .before .before .before .before .before .before .before .before .before .before .before .pre .0)
+
+trace-on-requires : tie.Need-trace-on-requires Inv-loop μ-loop
+trace-on-requires c κs =
+    let s = c .before .before .before .before .before .before .before .before .before .before .before in
+    let g = c .before .before .before .before .before .loop in
+    (s .pre .0, s .pre .1, rw (g .inv .size) (g .inv .room), s .pre .3)
+
+enum-told-2 : tie.Need-enum-told-2 Inv-loop μ-loop
+enum-told-2 c = search needs
+
+same-length-2 : tie.Need-same-length-2 Inv-loop μ-loop
+same-length-2 c = c .before .before .before .before .trace-on .kept .1 .1 .1 .1 .0 ∙ c .before .before .before .before .before .before .before .before .before .before .loop .inv .size
+
+returns-2 : tie.Need-returns-2 Inv-loop μ-loop
+returns-2 c =
+    let g = c .before .before .before .before .before .before .before .before .before .before .loop in
+    let e = after-at _ _ _ _ (c .before .before .before .before .before .before .before .before .before .next-named .ensures .0) (c .before .before .before .before .before .before .before .k .given .1) in
+    full _ _ _ _ _ _ _ _ (g .inv) _ _ (beside-next _ _ _ _ _ _ _ e) (c .before .before .before .before .trace-on .result) _ (c .before .before .before .before .trace-on .ensures) (c .enum-told2 .given .1) _
+
+enum-known-r : tie.Need-enum-known-r Inv-loop μ-loop
+enum-known-r c = search needs
+
+add-j : tie.Need-add-j Inv-loop μ-loop
+add-j c =
+    let w = inside-at _ _ _ (c .before .before .before .before .before .before .before .before .before .before .next-named .ensures .1) (c .before .before .before .before .before .before .before .before .k .given .1) in
+    omega (arith, w, c .before .before .before .before .before .before .before .before .before .before .before .before .before .before .before .before .before .pre .0)
+
+loop-less : tie.Need-loop-less Inv-loop μ-loop
+loop-less c =
+    let e = after-at _ _ _ _ (c .before .before .before .before .before .before .before .before .before .before .next-named .ensures .0) (c .before .before .before .before .before .before .before .before .k .given .1) in
+    fewer _ _ _ e
+
+loop-again : tie.Need-loop-again Inv-loop μ-loop
+loop-again c =
+    let g = c .before .before .before .before .before .before .before .before .before .before .before .loop in
+    let e = after-at _ _ _ _ (c .before .before .before .before .before .before .before .before .before .before .next-named .ensures .0) (c .before .before .before .before .before .before .before .before .k .given .1) in
+    turn _ _ _ _ _ _ _ _ (g .inv) _ _ (beside-next _ _ _ _ _ _ _ e) (c .before .before .before .before .before .trace-on .result) _ (c .before .before .before .before .before .trace-on .ensures) _ (c .before .r .given .1)
+
+pub trace-beside-spec : {M : Type 1} → statement M
+trace-beside-spec =
+    tie.close
+    (tie.spec
+    Inv-loop
+    μ-loop
+    loop-holds
+    next-named-requires
+    enum-told
+    same-length
+    returns
+    enum-known-k
+    cast-t18
+    trace-on-requires
+    enum-told-2
+    same-length-2
+    returns-2
+    enum-known-r
+    add-j
+    loop-less
+    loop-again)

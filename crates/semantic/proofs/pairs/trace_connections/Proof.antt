@@ -1,0 +1,82 @@
+use Rattle.semantic.proofs.PairLaws.{rows-next, rows-done, rows-from-start, turn, full, end, written-as}
+use Rattle.semantic.specs.Rows.{rowsFrom}
+use borrow.Author.Needs.{needs}
+use Rattle.trace.proofs.Writing.{Remains, remains-start}
+use Rattle.trace.specs.Steps.{tracingIn}
+use Rattle.as5506.specs.Layout.{tracedBlock}
+use Prim.Native.Nat.{_-_, _≤_}
+use native.Mathlib.Omega.{arith}
+use mathlib.Core.Path.{sym, _∙_}
+use Rattle.semantic.proofs.pairs.trace_connections.Statement.{statement}
+use Rattle.semantic.proofs.pairs.trace_connections.Tie as tie
+use Rattle.semantic.proofs.pairs.trace_connections.Reads as reads
+use Rattle.semantic.proofs.pairs.trace_connections.Lts as lts
+use Rattle.semantic.proofs.pairs.trace_connection.Reads as trace-connection-reads
+
+abbrev Inv-loop : tie.InvT-loop
+Inv-loop bytes n c x out₀ rows done₀ i₀ out done i =
+    (i ≤ rows) × Remains 49 (tracedBlock (tracingIn bytes n c x)) (rowsFrom (tracingIn bytes n c x) 0) out₀ 0 out done (rowsFrom (tracingIn bytes n c x) i)
+
+abbrev μ-loop : tie.MeasureT-loop
+μ-loop bytes n c x out₀ rows done₀ i₀ out done i = rows - i
+
+loop-holds : tie.Need-loop-holds Inv-loop μ-loop
+loop-holds c = (omega arith, remains-start _ _ _ _ _ (omega arith))
+
+trace-connection-requires : tie.Need-trace-connection-requires Inv-loop μ-loop
+trace-connection-requires c κs =
+    let s = c .before .before .before .before .before .before .before .before in
+    let g = c .before .before .loop in
+    (s .pre .0, s .pre .1, rw (g .inv .1 .size) (g .inv .1 .room), omega arith)
+
+enum-told : tie.Need-enum-told Inv-loop μ-loop
+enum-told c = search needs
+
+same-length : tie.Need-same-length Inv-loop μ-loop
+same-length c = c .before .before .before .before .trace-connection .kept .1 .1 .1 .1 .0 ∙ c .before .before .before .before .before .before .before .loop .inv .1 .size
+
+returns : tie.Need-returns Inv-loop μ-loop
+returns c =
+    let g = c .before .before .before .before .before .before .before .loop in
+    written-as _ _ _ _ _ _ _ _ (sym (rows-from-start _))
+    (full _ _ _ _ _ _ _ _ (g .inv .1) _ _ (rows-next _ _ (omega arith)) (c .before .before .before .before .trace-connection .result) _ (c .before .before .before .before .trace-connection .ensures) (c .enum-told .given .1) _)
+
+enum-known-r : tie.Need-enum-known-r Inv-loop μ-loop
+enum-known-r c = search needs
+
+add-i : tie.Need-add-i Inv-loop μ-loop
+add-i c = omega arith
+
+loop-less : tie.Need-loop-less Inv-loop μ-loop
+loop-less c = omega arith
+
+loop-again : tie.Need-loop-again Inv-loop μ-loop
+loop-again c =
+    let g = c .before .before .before .before .before .before .before .before .loop in
+    (omega arith, turn _ _ _ _ _ _ _ _ (g .inv .1) _ _ (rows-next _ _ (omega arith)) (c .before .before .before .before .before .trace-connection .result) _ (c .before .before .before .before .before .trace-connection .ensures) _ (c .before .r .given .1))
+
+same-length-2 : tie.Need-same-length-2 Inv-loop μ-loop
+same-length-2 c = c .before .loop .inv .1 .size
+
+returns-2 : tie.Need-returns-2 Inv-loop μ-loop
+returns-2 c =
+    let g = c .before .loop in
+    written-as _ _ _ _ _ _ _ _ (sym (rows-from-start _)) (end _ _ _ _ _ _ _ _ (g .inv .1) (rows-done _ _ (omega arith)))
+
+pub trace-connections-spec : {M : Type 1} → statement M
+trace-connections-spec =
+    tie.close
+    (tie.spec
+    Inv-loop
+    μ-loop
+    loop-holds
+    trace-connection-requires
+    enum-told
+    same-length
+    returns
+    enum-known-r
+    add-i
+    loop-less
+    loop-again
+    same-length-2
+    returns-2)

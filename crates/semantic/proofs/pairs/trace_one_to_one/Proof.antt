@@ -1,0 +1,146 @@
+use Rattle.semantic.proofs.PairLaws.{turn, full, end, zip-next, zip-done, zip-short}
+use Rattle.trace.proofs.Scan.{fewer}
+use Rattle.semantic.specs.Rows.{namedFrom, rowsZip}
+use Rattle.children.proofs.Scan.{after-at, after-nothing, inside-at}
+use Rattle.as5506.specs.Tables.{source, destination}
+use borrow.Author.Needs.{needs}
+use Rattle.trace.proofs.Writing.{Remains, remains-start}
+use Rattle.trace.specs.Steps.{tracingIn}
+use Rattle.as5506.specs.Layout.{tracedBlock}
+use lib.ListN.{length}
+use Prim.Native.Nat.{_-_}
+use native.Mathlib.Omega.{arith}
+use mathlib.Core.Path.{_∙_}
+use Rattle.semantic.proofs.pairs.trace_one_to_one.Statement.{statement}
+use Rattle.semantic.proofs.pairs.trace_one_to_one.Tie as tie
+use Rattle.semantic.proofs.pairs.trace_one_to_one.Reads as reads
+use Rattle.semantic.proofs.pairs.trace_one_to_one.Lts as lts
+use Rattle.semantic.proofs.ends.next_named.Reads as next-named-reads
+use Rattle.semantic.proofs.pairs.trace_pair.Reads as trace-pair-reads
+
+abbrev Inv-loop : tie.InvT-loop
+Inv-loop bytes n c x out₀ i count done₀ s₀ d₀ out done s d =
+    Remains 49 (tracedBlock (tracingIn bytes n c x))
+    (rowsZip (tracingIn bytes n c x) i (namedFrom (tracingIn bytes n c x) source i 0) (namedFrom (tracingIn bytes n c x) destination i 0)) out₀ count
+    out done (rowsZip (tracingIn bytes n c x) i (namedFrom (tracingIn bytes n c x) source i s) (namedFrom (tracingIn bytes n c x) destination i d))
+
+abbrev μ-loop : tie.MeasureT-loop
+μ-loop bytes n c x out₀ i count done₀ s₀ d₀ out done s d = length (namedFrom (tracingIn bytes n c x) source i s)
+
+loop-holds : tie.Need-loop-holds Inv-loop μ-loop
+loop-holds c = remains-start _ _ _ _ _ (c .before .before .before .before .before .pre .2)
+
+next-named-requires : tie.Need-next-named-requires Inv-loop μ-loop
+next-named-requires c κs = c .before .before .before .before .before .before .pre .3
+
+enum-known-a : tie.Need-enum-known-a Inv-loop μ-loop
+enum-known-a c = search needs
+
+enum-told : tie.Need-enum-told Inv-loop μ-loop
+enum-told c = search needs
+
+same-length : tie.Need-same-length Inv-loop μ-loop
+same-length c = c .before .before .before .loop .inv .size
+
+returns : tie.Need-returns Inv-loop μ-loop
+returns c = end _ _ _ _ _ _ _ _ (c .before .before .before .loop .inv) (zip-done _ _ _ _ (after-nothing _ _ _ (c .before .before .next-named .ensures .0) (c .enum-told .given .1)))
+
+next-named-requires-2 : tie.Need-next-named-requires-2 Inv-loop μ-loop
+next-named-requires-2 c κs = c .before .before .before .before .before .before .before .before .before .before .pre .3
+
+enum-known-b : tie.Need-enum-known-b Inv-loop μ-loop
+enum-known-b c = search needs
+
+enum-told-2 : tie.Need-enum-told-2 Inv-loop μ-loop
+enum-told-2 c = search needs
+
+same-length-2 : tie.Need-same-length-2 Inv-loop μ-loop
+same-length-2 c = c .before .before .before .before .before .before .before .loop .inv .size
+
+returns-2 : tie.Need-returns-2 Inv-loop μ-loop
+returns-2 c =
+    let e = after-at _ _ _ _ (c .before .before .before .before .before .before .next-named .ensures .0) (c .before .before .before .before .a .given .1) in
+    end _ _ _ _ _ _ _ _ (c .before .before .before .before .before .before .before .loop .inv) (zip-short _ _ _ _ _ _ e (after-nothing _ _ _ (c .before .before .next-named2 .ensures .0) (c .enum-told2 .given .1)))
+
+cast-t20 : tie.Need-cast-t20 Inv-loop μ-loop
+cast-t20 c =
+    let w = inside-at _ _ _ (c .before .before .before .before .before .before .before .before .next-named .ensures .1) (c .before .before .before .before .before .before .a .given .1) in
+    omega (arith, w, c .before .before .before .before .before .before .before .before .before .before .before .before .before .before .before .pre .0)
+
+cast-t22 : tie.Need-cast-t22 Inv-loop μ-loop
+cast-t22 c =
+    let w = inside-at _ _ _ (c .before .before .before .before .next-named2 .ensures .1) (c .before .before .b .given .1) in
+    omega (arith, w, c .before .before .before .before .before .before .before .before .before .before .before .before .before .before .before .pre .0)
+
+trace-pair-requires : tie.Need-trace-pair-requires Inv-loop μ-loop
+trace-pair-requires c κs =
+    let s = c .before .before .before .before .before .before .before .before .before .before .before .before .before .before .before in
+    let g = c .before .before .before .before .before .before .before .before .before .loop in
+    (s .pre .0, s .pre .1, rw (g .inv .size) (g .inv .room), s .pre .3)
+
+enum-told-3 : tie.Need-enum-told-3 Inv-loop μ-loop
+enum-told-3 c = search needs
+
+same-length-3 : tie.Need-same-length-3 Inv-loop μ-loop
+same-length-3 c = c .before .before .before .before .trace-pair .kept .1 .1 .1 .1 .0 ∙ c .before .before .before .before .before .before .before .before .before .before .before .before .before .before .loop .inv .size
+
+returns-3 : tie.Need-returns-3 Inv-loop μ-loop
+returns-3 c =
+    let g = c .before .before .before .before .before .before .before .before .before .before .before .before .before .before .loop in
+    let e = after-at _ _ _ _ (c .before .before .before .before .before .before .before .before .before .before .before .before .before .next-named .ensures .0) (c .before .before .before .before .before .before .before .before .before .before .before .a .given .1) in
+    let f = after-at _ _ _ _ (c .before .before .before .before .before .before .before .before .before .next-named2 .ensures .0) (c .before .before .before .before .before .before .before .b .given .1) in
+    full _ _ _ _ _ _ _ _ (g .inv) _ _ (zip-next _ _ _ _ _ _ _ _ e f) (c .before .before .before .before .trace-pair .result) _ (c .before .before .before .before .trace-pair .ensures) (c .enum-told3 .given .1) _
+
+enum-known-r : tie.Need-enum-known-r Inv-loop μ-loop
+enum-known-r c = search needs
+
+add-s : tie.Need-add-s Inv-loop μ-loop
+add-s c =
+    let w = inside-at _ _ _ (c .before .before .before .before .before .before .before .before .before .before .before .before .before .before .next-named .ensures .1) (c .before .before .before .before .before .before .before .before .before .before .before .before .a .given .1) in
+    omega (arith, w, c .before .before .before .before .before .before .before .before .before .before .before .before .before .before .before .before .before .before .before .before .before .pre .0)
+
+add-d : tie.Need-add-d Inv-loop μ-loop
+add-d c =
+    let w = inside-at _ _ _ (c .before .before .before .before .before .before .before .before .before .before .next-named2 .ensures .1) (c .before .before .before .before .before .before .before .before .b .given .1) in
+    omega (arith, w, c .before .before .before .before .before .before .before .before .before .before .before .before .before .before .before .before .before .before .before .before .before .pre .0)
+
+loop-less : tie.Need-loop-less Inv-loop μ-loop
+loop-less c =
+    let e = after-at _ _ _ _ (c .before .before .before .before .before .before .before .before .before .before .before .before .before .before .next-named .ensures .0) (c .before .before .before .before .before .before .before .before .before .before .before .before .a .given .1) in
+    fewer _ _ _ e
+
+loop-again : tie.Need-loop-again Inv-loop μ-loop
+loop-again c =
+    let g = c .before .before .before .before .before .before .before .before .before .before .before .before .before .before .before .loop in
+    let e = after-at _ _ _ _ (c .before .before .before .before .before .before .before .before .before .before .before .before .before .before .next-named .ensures .0) (c .before .before .before .before .before .before .before .before .before .before .before .before .a .given .1) in
+    let f = after-at _ _ _ _ (c .before .before .before .before .before .before .before .before .before .before .next-named2 .ensures .0) (c .before .before .before .before .before .before .before .before .b .given .1) in
+    turn _ _ _ _ _ _ _ _ (g .inv) _ _ (zip-next _ _ _ _ _ _ _ _ e f) (c .before .before .before .before .before .trace-pair .result) _ (c .before .before .before .before .before .trace-pair .ensures) _ (c .before .r .given .1)
+
+pub trace-one-to-one-spec : {M : Type 1} → statement M
+trace-one-to-one-spec =
+    tie.close
+    (tie.spec
+    Inv-loop
+    μ-loop
+    loop-holds
+    next-named-requires
+    enum-known-a
+    enum-told
+    same-length
+    returns
+    next-named-requires-2
+    enum-known-b
+    enum-told-2
+    same-length-2
+    returns-2
+    cast-t20
+    cast-t22
+    trace-pair-requires
+    enum-told-3
+    same-length-3
+    returns-3
+    enum-known-r
+    add-s
+    add-d
+    loop-less
+    loop-again)

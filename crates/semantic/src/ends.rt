@@ -1,0 +1,129 @@
+// What a connection names: its owner, its children, its pattern.
+ghost use mathlib.Core.Path.{_≡_};
+ghost use mathlib.Core.List.{[]};
+ghost use Prim.Native.Nat.{_+_, _*_, _/_, _<_, _≤_};
+ghost use lib.ListN.{length};
+ghost use Rattle.as5506.specs.Tables.{present, xOwner, cParent};
+ghost use Rattle.as5506.specs.Tracing.{shape, named, oneToOne};
+ghost use Rattle.name.specs.Pattern.{saysOneToOne};
+ghost use Rattle.children.specs.Found.{afterChild, Inside};
+ghost use Rattle.trace.specs.Steps.{tracingIn, sideOf};
+ghost use Rattle.semantic.specs.Rows.{shapeOf, namedFrom, componentOf, limitOf};
+use super::Shape;
+use super::Start;
+use as5506::MISSING;
+use as5506::STEPS;
+use children::Child;
+use name::ConnectionPattern;
+use trace::Side;
+
+// What X row i is.
+pub fn shape_of(x: &[u32], i: usize) -> Shape
+    requires { ⌜ i < length (now x) / 7 ⌝ }
+    ensures { λ r. ⌜ shapeOf r ≡ shape (tracingIn [] [] [] (now (x .entry))) i ⌝ }
+{
+    if trace::feature_of(x, Side::Source, i) == MISSING {
+        return Shape::Faulty;
+    }
+    if trace::feature_of(x, Side::Destination, i) == MISSING {
+        return Shape::Faulty;
+    }
+    let to = trace::subcomponent_of(x, Side::Destination, i);
+    if trace::subcomponent_of(x, Side::Source, i) == MISSING {
+        if to == MISSING {
+            return Shape::Neither;
+        }
+        return Shape::Downward;
+    }
+    if to == MISSING {
+        return Shape::Upward;
+    }
+    Shape::Across
+}
+
+// The owner of X row i.
+pub fn owner_of(x: &[u32], i: usize) -> u32
+    requires { ⌜ i < length (now x) / 7 ⌝ }
+    ensures { λ r. ⌜ r ≡ xOwner (tracingIn [] [] [] (now (x .entry))) i ⌝ }
+{
+    lent::number_at(x, i * 7 + 1)
+}
+
+// Whether a component has a parent.
+pub fn has_parent(c: &[u32], owner: u32) -> bool
+    ensures { λ r. ⌜ r ≡ present (cParent (tracingIn [] [] (now (c .entry)) []) owner) ⌝ }
+{
+    lent::number_at(c, (owner as usize) * 6 + 1) != MISSING
+}
+
+// The pattern of a component's connections.
+pub fn resolve_connection_pattern(
+    bytes: &[u8],
+    n: &[u32],
+    c: &[u32],
+    owner: u32,
+) -> ConnectionPattern
+    ensures { λ r. ⌜ saysOneToOne r ≡ oneToOne (tracingIn (now (bytes .entry)) (now (n .entry)) (now (c .entry)) []) owner ⌝ }
+{
+    name::pattern_of(bytes, n, lent::number_at(c, (owner as usize) * 6 + 5))
+}
+
+// The first child from row `from` on that X row i names on a side.
+pub fn next_named(
+    bytes: &[u8],
+    n: &[u32],
+    c: &[u32],
+    x: &[u32],
+    side: Side,
+    i: usize,
+    from: usize,
+) -> Child
+    requires { ⌜ i < length (now x) / 7 ⌝ }
+    ensures { λ r. ⌜ namedFrom (tracingIn (now (bytes .entry)) (now (n .entry)) (now (c .entry)) (now (x .entry))) (sideOf side) i from
+        ≡ afterChild (namedFrom (tracingIn (now (bytes .entry)) (now (n .entry)) (now (c .entry)) (now (x .entry))) (sideOf side) i) r ⌝ }
+    ensures { λ r. ⌜ Inside (now (c .entry)) r ⌝ }
+{
+    children::find_child_by_name(
+        bytes,
+        n,
+        c,
+        owner_of(x, i),
+        trace::subcomponent_of(x, side, i),
+        from,
+    )
+}
+
+// How many children X row i names on a side.
+pub fn count_named(bytes: &[u8], n: &[u32], c: &[u32], x: &[u32], side: Side, i: usize) -> usize
+    requires { ⌜ i < length (now x) / 7 ⌝ }
+    ensures { λ r. ⌜ r ≡ length (named (tracingIn (now (bytes .entry)) (now (n .entry)) (now (c .entry)) (now (x .entry))) (sideOf side) i) ⌝ }
+    ensures { λ r. ⌜ r ≤ length (now (c .entry)) / 6 ⌝ }
+{
+    children::count_children(
+        bytes,
+        n,
+        c,
+        owner_of(x, i),
+        trace::subcomponent_of(x, side, i),
+    )
+}
+
+// The component of a start.
+pub fn component_of(at: Start) -> u32
+    ensures { λ r. ⌜ r ≡ componentOf at ⌝ }
+{
+    match at {
+        Start::Element(i) => i,
+        Start::Owner(i) => i,
+    }
+}
+
+// How many steps are made from a start.
+pub fn limit_of(at: Start) -> usize
+    ensures { λ r. ⌜ r ≡ limitOf at ⌝ }
+{
+    match at {
+        Start::Element(_) => STEPS,
+        Start::Owner(_) => 0,
+    }
+}

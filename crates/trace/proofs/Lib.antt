@@ -1,0 +1,5 @@
+pub mod Writing
+pub mod Scan
+pub mod Chains
+mod Joining
+pub mod Rows

@@ -1,0 +1,78 @@
+-- What is left to write, and how a call that writes some of it brings it on. Nothing here knows what a block holds. Assumes nothing.
+use mathlib.Core.Path.{_≡_, refl, sym, ap, ap₂, _∙_, subst}
+use mathlib.Core.List.{List, [], _∷_, _++_, append-assoc}
+use Prim.Native.Nat.{ℕ, _+_, _*_, _/_, _≤_}
+use native.Mathlib.Nat.{add-mul, add-zero, zero-mul}
+use native.Mathlib.Omega.{arith}
+use lib.ListN.{length, length-append}
+use lib.Seq.{sets, length-sets}
+use Rattle.as5506.specs.Lists.{each}
+use Rattle.lent.proofs.Sets.{sets-append}
+use Rattle.trace.specs.declared.Wrote.{Wrote}
+use Rattle.trace.specs.declared.Wrote.the-variants.{Count, Full}
+use Rattle.trace.specs.Writing.{Written}
+
+module _ {A B : Type 0} where
+  pub each-append : (f : A → List B) (a b : List A) → each f (a ++ b) ≡ each f a ++ each f b
+  each-append f [] b = refl
+  each-append f (x ∷ a) b = ap (λ (r : List B). f x ++ r) (each-append f a b) ∙ sym (append-assoc (f x) (each f a) (each f b))
+
+-- Of the entries `all`, to be written behind `count` blocks of out₀, the entries `left` are still to be written behind `done` blocks of out.
+pub record Remains {A : Type 0} (w : ℕ) (f : A → List ℕ) (all : List A) (out₀ : List ℕ) (count : ℕ) (out : List ℕ) (done : ℕ) (left : List A) : Type 0 where
+  pub size : length out ≡ length out₀
+  pub room : done ≤ length out₀ / w
+  pub blocks : count + length all ≡ done + length left
+  pub places : count * w + length (each f all) ≡ done * w + length (each f left)
+  pub same : sets out₀ (count * w) (each f all) ≡ sets out (done * w) (each f left)
+
+module _ {A : Type 0} (w : ℕ) (f : A → List ℕ) where
+  -- what a call that wrote says
+  pub written-size : (l : List A) (out : List ℕ) (count : ℕ) (r : ℕ) (out′ : List ℕ) → Written w f l out count (Count r) out′ → length out′ ≡ length out
+  unfolding Written
+  written-size l out count r out′ v = ap length (v .3) ∙ length-sets out (count * w) (each f l)
+
+  pub written-room : (l : List A) (out : List ℕ) (count : ℕ) (r : ℕ) (out′ : List ℕ) → Written w f l out count (Count r) out′ → r ≤ length out′ / w
+  unfolding Written
+  written-room l out count r out′ v = subst (λ (n : ℕ). r ≤ n / w) (sym (written-size l out count r out′ v)) (v .1)
+
+  -- nothing to write
+  pub written-none : (out : List ℕ) (count : ℕ) → count ≤ length out / w → Written w f [] out count (Count count) out
+  unfolding Written
+  written-none out count h = (sym (add-zero count), h, sym (zero-mul w), refl)
+
+  module _ (all : List A) (out₀ : List ℕ) (count : ℕ) where
+    pub remains-start : count ≤ length out₀ / w → Remains w f all out₀ count out₀ count all
+    remains-start h = record { size = refl; room = h; blocks = refl; places = refl; same = refl }
+
+    module _ (out : List ℕ) (done : ℕ) (a b : List A) (m : Remains w f all out₀ count out done (a ++ b)) (q : Wrote) (out′ : List ℕ) (v : Written w f a out done q out′) where
+      turned : (r : ℕ) → Written w f a out done (Count r) out′ → Remains w f all out₀ count out′ r b
+      unfolding Written
+      turned r v =
+          let k : done * w + length (each f a) ≡ r * w = ap (λ (n : ℕ). done * w + n) (v .2) ∙ sym (add-mul done (length a) w) ∙ ap (λ (n : ℕ). n * w) (sym (v .0)) in
+          let l : length (each f (a ++ b)) ≡ length (each f a) + length (each f b) = ap length (each-append f a b) ∙ length-append (each f a) (each f b) in
+          record {
+            size = written-size a out done r out′ v ∙ m .size;
+            room = subst (λ (n : ℕ). r ≤ n / w) (m .size) (v .1);
+            blocks = omega (arith, m .blocks, length-append a b, v .0);
+            places = omega (arith, m .places, k, l);
+            same =
+                m .same ∙ ap (sets out (done * w)) (each-append f a b) ∙ sets-append (each f a) (each f b) out (done * w)
+                ∙ ap₂ (λ (o : List ℕ) (i : ℕ). sets o i (each f b)) (sym (v .3)) k;
+          }
+
+      pub remains-turn : (r : ℕ) → q ≡ Count r → Remains w f all out₀ count out′ r b
+      remains-turn r e = turned r (subst (λ (t : Wrote). Written w f a out done t out′) e v)
+
+      pub remains-full : q ≡ Full → (o : List ℕ) → Written w f all out₀ count Full o
+      unfolding Written
+      remains-full e o =
+          let u : Written w f a out done Full out′ = subst (λ (t : Wrote). Written w f a out done t out′) e v in
+          let s : length out / w ≡ length out₀ / w = ap (λ (k : ℕ). k / w) (m .size) in
+          omega (arith, length-append a b, m .blocks, u, s)
+
+    pub remains-end : (out : List ℕ) (done : ℕ) → Remains w f all out₀ count out done [] → Written w f all out₀ count (Count done) out
+    unfolding Written
+    remains-end out done m =
+        let e : done ≡ count + length all = omega (arith, m .blocks) in
+        let k : done * w ≡ count * w + length all * w = ap (λ (n : ℕ). n * w) e ∙ add-mul count (length all) w in
+        (e, m .room, omega (arith, m .places, k), sym (m .same))

@@ -1,0 +1,44 @@
+use Rattle.trace.proofs.Scan.{found-same, after-same, step-same, leads-after, leads-none}
+use Rattle.as5506.specs.Tables.{nameIn}
+use mathlib.Core.Path.{sym, ap, _∙_}
+use borrow.Author.Needs.{needs}
+use Rattle.trace.proofs.next_child.Statement.{statement}
+use Rattle.trace.proofs.next_child.Tie as tie
+use Rattle.trace.proofs.next_child.Reads as reads
+use Rattle.trace.proofs.next_child.Lts as lts
+use Rattle.children.proofs.find_child_by_name.Reads as find-child-by-name-reads
+use Rattle.trace.proofs.leads.Reads as leads-reads
+use Rattle.trace.proofs.subcomponent_of.Reads as subcomponent-of-reads
+
+leads-requires : tie.Need-leads-requires
+leads-requires c κs = search needs
+
+subcomponent-of-requires : tie.Need-subcomponent-of-requires
+subcomponent-of-requires c κs = search needs
+
+find-child-by-name-requires : tie.Need-find-child-by-name-requires
+find-child-by-name-requires c κs = search needs
+
+returns : tie.Need-returns
+returns c =
+    let s = c .before .before .before .before .before .before .before .before .args in
+    let w = nameIn (s .bytes .now) (s .n .now) (c .before .subcomponent-of .result) in (
+      leads-after _ _ (s .component) (s .feature) (s .i) _ (s .from) w (c .find-child-by-name .result) (c .before .before .if1 .taken) (c .before .before .before .leads .ensures ∙ step-same _ _ (s .c .now) _ _ _ _ _)
+          (ap (nameIn (s .bytes .now) (s .n .now)) (c .before .subcomponent-of .ensures))
+          (sym (found-same (s .bytes .now) (s .n .now) (s .c .now) (s .x .now) (s .component) w (s .from)) ∙ c .find-child-by-name .ensures .0
+          ∙ after-same _ _ (c .find-child-by-name .result) (found-same (s .bytes .now) (s .n .now) (s .c .now) (s .x .now) (s .component) w)),
+      c .find-child-by-name .ensures .1,
+    )
+
+returns-2 : tie.Need-returns-2
+returns-2 c = let s = c .before .before .before .before .before .before .args in (leads-none _ _ (s .component) (s .feature) (s .i) _ (s .from) (c .if1 .left) (c .before .leads .ensures ∙ step-same _ _ (s .c .now) _ _ _ _ _), tt)
+
+pub next-child-spec : {M : Type 1} → statement M
+next-child-spec =
+    tie.close
+    (tie.spec
+    leads-requires
+    subcomponent-of-requires
+    find-child-by-name-requires
+    returns
+    returns-2)

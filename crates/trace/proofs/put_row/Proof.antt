@@ -1,0 +1,87 @@
+use Rattle.trace.proofs.Rows.{row-written}
+use Rattle.trace.specs.Writing.{Written}
+use lib.ListN.{getD}
+use Prim.Native.Nat.{ℕ, _+_, _*_}
+use mathlib.Core.Path.{_≡_, _∙_, ap}
+use native.Mathlib.Omega.{arith}
+use borrow.Author.Needs.{needs}
+use Rattle.trace.proofs.put_row.Statement.{statement}
+use Rattle.trace.proofs.put_row.Tie as tie
+use Rattle.trace.proofs.put_row.Reads as reads
+use Rattle.trace.proofs.put_row.Lts as lts
+use Rattle.lent.proofs.number_at.Reads as number-at-reads
+use Rattle.lent.proofs.put_numbers.Reads as put-numbers-reads
+use Rattle.trace.proofs.join.Reads as join-reads
+
+returns : tie.Need-returns
+unfolding Written
+returns c = omega arith
+
+join-requires : tie.Need-join-requires
+join-requires c κs = search needs
+
+mul-row : tie.Need-mul-row
+mul-row c = search needs
+
+add-number-at : tie.Need-add-number-at
+add-number-at c = search needs
+
+number-at-requires : tie.Need-number-at-requires
+number-at-requires c κs = search needs
+
+number-at-requires-2 : tie.Need-number-at-requires-2
+number-at-requires-2 c κs = search needs
+
+cast-t19 : tie.Need-cast-t19
+cast-t19 c = search needs
+
+mul-at : tie.Need-mul-at
+mul-at c = search needs
+
+slice-aggregate-put-numbers : tie.Need-slice-aggregate-put-numbers
+slice-aggregate-put-numbers c = search needs
+
+put-numbers-requires : tie.Need-put-numbers-requires
+put-numbers-requires c κs = search needs
+
+add-put-numbers : tie.Need-add-put-numbers
+add-put-numbers c = search needs
+
+slice-aggregate-put-numbers-2 : tie.Need-slice-aggregate-put-numbers-2
+slice-aggregate-put-numbers-2 c = search needs
+
+put-numbers-requires-2 : tie.Need-put-numbers-requires-2
+put-numbers-requires-2 c κs = search needs
+
+add-t17 : tie.Need-add-t17
+add-t17 c = search needs
+
+same-length : tie.Need-same-length
+same-length c = search needs
+
+returns-2 : tie.Need-returns-2
+returns-2 c =
+    let s = c .before .before .before .before .before .before .before .before .before .before .before .before .before .before .before .before .before .before .before .before .args in
+    row-written _ _ _ _ _ _ _ _ (c .before .before .before .before .before .before .before .before .before .before .before .before .number-at .ensures) (c .before .before .before .before .before .before .before .before .before .before .before .number-at2 .ensures ∙ ap (λ (k : ℕ). getD (s .x .now) k 0) (let e : s .conn * 7 ≡ s .conn * 7 + 0 = omega arith in e)) (c .before .before .before .before .before .before .before .before .before .before .before .before .before .before .join .ensures .1 .0) (c .before .before .before .before .before .before .before .before .before .before .before .before .before .before .join .ensures .0)
+    _ _ _ _ (c .before .before .before .before .before .before .before .before .before .before .before .before .before .before .join .ensures .1 .1) (c .before .before .before .before .before .before .before .before .before .before .before .before .before .before .before .before .before .if1 .left) (c .before .before .before .before .before .before .before .put-numbers .ensures) (c .before .before .put-numbers2 .ensures)
+
+pub put-row-spec : {M : Type 1} → statement M
+put-row-spec =
+    tie.close
+    (tie.spec
+    returns
+    join-requires
+    mul-row
+    add-number-at
+    number-at-requires
+    number-at-requires-2
+    cast-t19
+    mul-at
+    slice-aggregate-put-numbers
+    put-numbers-requires
+    add-put-numbers
+    slice-aggregate-put-numbers-2
+    put-numbers-requires-2
+    add-t17
+    same-length
+    returns-2)

@@ -1,0 +1,39 @@
+-- What the tracer writes: the rows of chains that go on behind a path. Assumes nothing.
+use mathlib.Core.List.{List, [], _∷_, _++_, map}
+use Prim.Native.Nat.{ℕ, _+_, _≤_}
+use lib.ListN.{take}
+use Rattle.as5506.specs.Lists.{each}
+use Rattle.as5506.specs.Tables.{Tables, source, destination, xKind}
+use Rattle.as5506.specs.Tables.{Side as TheSide}
+use Rattle.as5506.specs.Tracing.{Chain as TheEnd, Traced, appendNew, chains}
+use Rattle.trace.specs.declared.Side.{Side}
+use Rattle.trace.specs.declared.Side.the-variants.{Source, Destination}
+use Rattle.trace.specs.declared.End.{End}
+
+-- the end that a value of the code stands for
+abbrev pub endOf : End → TheEnd
+endOf e = record { comp = e .component; feat = e .feature; path = take (e .len) (e .path) }
+
+-- a chain behind the connections p
+abbrev pub behind : List ℕ → TheEnd → TheEnd
+behind p e = record { comp = e .comp; feat = e .feat; path = p ++ e .path }
+
+-- the row of connection x from s to d, where the path of s begins with x (the definition's rowOf adds it)
+unfoldable pub rowAlong : Tables → ℕ → TheEnd → TheEnd → Traced
+rowAlong m x s d =
+    record { conn = x; kind = xKind m x; src = s .comp; dst = d .comp; srcFeat = s .feat; dstFeat = d .feat; path = appendNew (s .path) (d .path) }
+
+-- the rows of a chain that has ended at e: towards the source, with every destination chain of at most k steps behind o; towards the
+-- destination, with the source end o
+unfoldable pub rowsAtEnd : Tables → TheSide → ℕ → ℕ → TheEnd → TheEnd → List Traced
+rowsAtEnd m source x k o e = map (λ d. rowAlong m x e (behind (o .path) d)) (chains m destination k (o .comp) (o .feat))
+rowsAtEnd m destination x k o e = rowAlong m x o e ∷ []
+
+-- the rows of the chains es behind the connections p
+unfoldable pub rowsBehind : Tables → TheSide → ℕ → ℕ → TheEnd → List ℕ → List TheEnd → List Traced
+rowsBehind m s x k o p es = each (λ e. rowsAtEnd m s x k o (behind p e)) es
+
+-- that paths fit: `len` connections so far and at most `left` more, `other` those of the other end, and where that is still to be traced at most k more
+unfoldable pub Fit : Side → ℕ → ℕ → ℕ → ℕ → Type 0
+Fit Source len left other k = (len + left ≤ 21) × (other + k ≤ 20)
+Fit Destination len left other k = (len + left ≤ 20) × (other ≤ 21)

@@ -1,0 +1,62 @@
+-- The steps that are left from an X row and a child row on: what the scan for the next step keeps. Assumes nothing.
+use mathlib.Core.Bool.{Bool, true, false, _&&_, cond}
+use mathlib.Core.Path.{_≡_}
+use mathlib.Core.List.{List, [], _∷_, _++_, map}
+use Prim.Native.Nat.{ℕ, _+_, _-_, _<_}
+use lib.Dec.{eqb, ltb}
+use Rattle.as5506.specs.Lists.{span, each}
+use Rattle.as5506.specs.Tables.{Tables, tablesOf, nameOf, cCount, xCount, xOwner, xSub, source, destination}
+use Rattle.as5506.specs.Tables.{Side as TheSide}
+use Rattle.as5506.specs.Tracing.{Step as TheStep, stepTo, leads, steps, chains, stop}
+use Rattle.children.specs.Found.{foundFrom}
+use Rattle.trace.specs.declared.Side.{Side}
+use Rattle.trace.specs.declared.Side.the-variants.{Source, Destination}
+use Rattle.trace.specs.declared.Step.{Step}
+use Rattle.trace.specs.declared.Step.the-variants.{At, Done}
+
+-- the tables of names, components and connections, as far as tracing goes
+abbrev pub tracingIn : List ℕ → List ℕ → List ℕ → List ℕ → Tables
+tracingIn bytes n c x = tablesOf bytes n c [] x [] [] [] [] [] [] []
+
+-- a side of the code
+abbrev pub sideOf : Side → TheSide
+sideOf Source = source
+sideOf Destination = destination
+
+-- connection i is one of component p and leads from its feature f towards side s
+unfoldable pub isStep : Tables → TheSide → ℕ → ℕ → ℕ → Bool
+isStep m s p f i = eqb (xOwner m i) p && leads m s (nameOf m f) i
+
+abbrev pub listIf : Bool → List ℕ → List ℕ
+listIf true l = l
+listIf false l = []
+
+-- the children to which connection i leads from (p, f), from row j on
+unfoldable pub leadsTo : Tables → TheSide → ℕ → ℕ → ℕ → ℕ → List ℕ
+leadsTo m s p f i j = listIf (isStep m s p f i) (foundFrom m p (nameOf m (xSub m s i)) j)
+
+unfoldable pub stepsAt : Tables → TheSide → ℕ → ℕ → ℕ → ℕ → List TheStep
+stepsAt m s p f i j = map (stepTo m s i) (leadsTo m s p f i j)
+
+-- the steps from (p, f) from connection i on, over that connection only to children from row j on: all of them from 0 and 0 on (proofs: steps-from-start)
+unfoldable pub stepsFrom : Tables → TheSide → ℕ → ℕ → ℕ → ℕ → List TheStep
+stepsFrom m s p f i j =
+    cond (ltb i (xCount m)) (stepsAt m s p f i j ++ each (λ k. stepsAt m s p f k 0) (span (i + 1) (xCount m - (i + 1)))) []
+
+abbrev pub step : ℕ → ℕ → ℕ → TheStep
+step x i f = record { conn = x; child = i; feat = f }
+
+-- an answer stands for no step, or for its own and those behind it
+abbrev pub afterStep : Tables → TheSide → ℕ → ℕ → Step → List TheStep
+afterStep m s p f Done = []
+afterStep m s p f (At i j g) = step i j g ∷ stepsFrom m s p f i (j + 1)
+
+-- an answer's connection and child are rows
+abbrev pub Within : List ℕ → List ℕ → Step → Type 0
+Within c x Done = Unit {0}
+Within c x (At i j g) = (i < xCount (tracingIn [] [] [] x)) × (j < cCount (tracingIn [] [] c []))
+
+-- how the chains of at most k steps begin: there is no step to make, or a first one
+unfoldable pub Begins : Tables → TheSide → ℕ → ℕ → ℕ → Step → Type 0
+Begins m s k p f Done = chains m s k p f ≡ stop p f ∷ []
+Begins m s k p f (At i j g) = (k ≡ 0 → ⊥) × (stepsFrom m s p f 0 0 ≡ step i j g ∷ stepsFrom m s p f i (j + 1))

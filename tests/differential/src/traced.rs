@@ -1,0 +1,247 @@
+//! The traced listing: `instance_compute_semantic_connections` against the original's.
+
+use oracle::listing::{Listing, Row};
+use oracle::sheet::Sheet;
+use oracle::{model, traced};
+
+use crate::lent::Lent;
+use crate::tables::Tables;
+
+const ROW_NUMBERS: usize = 49;
+const DIAGNOSTIC_NUMBERS: usize = 4;
+
+/// More rows than this are not collected by the original.
+const MOST_ROWS: u64 = 300_000;
+
+unsafe extern "C" {
+    fn instance_compute_semantic_connections(
+        bytes: *const u8,
+        bytes_length: usize,
+        n: *const u32,
+        n_length: usize,
+        c: *const u32,
+        c_length: usize,
+        f: *const u32,
+        f_length: usize,
+        x: *const u32,
+        x_length: usize,
+        p: *const u32,
+        p_length: usize,
+        i: *const u32,
+        i_length: usize,
+        t: *const u32,
+        t_length: usize,
+        q: *const u32,
+        q_length: usize,
+        u: *const u32,
+        u_length: usize,
+        e: *const u32,
+        e_length: usize,
+        r: *const u32,
+        r_length: usize,
+        rows: *mut u32,
+        rows_length: usize,
+        diagnostics: *mut u32,
+        diagnostics_length: usize,
+        told: *mut u64,
+    );
+}
+
+/// The call's three numbers: 0, rows and diagnostics, or a refusal's number, place and letter.
+fn call(tables: &Tables, rows: &mut [u32], diagnostics: &mut [u32]) -> [u64; 3] {
+    let [n, c, f, x, p, i, t, q, u, e, r] = &tables.letters;
+    let mut told = [u64::MAX; 3];
+    // SAFETY: every slice crosses as its pointer and length, and none overlaps another.
+    unsafe {
+        instance_compute_semantic_connections(
+            tables.bytes.as_ptr(),
+            tables.bytes.len(),
+            n.as_ptr(),
+            n.len(),
+            c.as_ptr(),
+            c.len(),
+            f.as_ptr(),
+            f.len(),
+            x.as_ptr(),
+            x.len(),
+            p.as_ptr(),
+            p.len(),
+            i.as_ptr(),
+            i.len(),
+            t.as_ptr(),
+            t.len(),
+            q.as_ptr(),
+            q.len(),
+            u.as_ptr(),
+            u.len(),
+            e.as_ptr(),
+            e.len(),
+            r.as_ptr(),
+            r.len(),
+            rows.as_mut_ptr(),
+            rows.len(),
+            diagnostics.as_mut_ptr(),
+            diagnostics.len(),
+            told.as_mut_ptr(),
+        );
+    }
+    told
+}
+
+/// How often what was met, over all sheets.
+#[derive(Default)]
+pub struct Met {
+    pub rows: usize,
+    pub diagnostics: usize,
+    pub calls: usize,
+    pub refused_11: usize,
+    pub refused_12: usize,
+    pub endless: usize,
+}
+
+/// Compares the two on a sheet, with outputs of every telling size.
+pub fn compare(sheet: &Sheet, met: &mut Met) -> Result<(), String> {
+    let tables = Tables::of(sheet);
+    if traced::row_count(sheet) > MOST_ROWS {
+        met.endless += 1;
+        return refused(&tables, 64 * ROW_NUMBERS, 64 * DIAGNOSTIC_NUMBERS, 11, met);
+    }
+    let listing = traced::run(sheet, &mut model::instance(sheet));
+    met.rows += listing.rows.len();
+    met.diagnostics += listing.diagnostics.len();
+    let rows = listing.rows.len() * ROW_NUMBERS;
+    let diagnostics = listing.diagnostics.len() * DIAGNOSTIC_NUMBERS;
+
+    listed(sheet, &tables, rows, diagnostics, &listing, met)?;
+    let (more_rows, more_diagnostics) =
+        (rows + ROW_NUMBERS - 1, diagnostics + DIAGNOSTIC_NUMBERS - 1);
+    listed(sheet, &tables, more_rows, more_diagnostics, &listing, met)?;
+    listed(
+        sheet,
+        &tables,
+        rows + 100 * ROW_NUMBERS,
+        diagnostics + 1000,
+        &listing,
+        met,
+    )?;
+    if rows > 0 {
+        refused(&tables, rows - 1, diagnostics, 11, met)?;
+        refused(&tables, 0, 0, 11, met)?;
+    }
+    if diagnostics > 0 {
+        refused(&tables, rows, diagnostics - 1, 12, met)?;
+    }
+    if rows > 0 && diagnostics > 0 {
+        refused(&tables, rows - 1, diagnostics - 1, 11, met)?;
+    }
+    Ok(())
+}
+
+/// A call into outputs of these lengths: what it tells, and what it leaves in them.
+fn run(
+    tables: &Tables,
+    rows: usize,
+    diagnostics: usize,
+) -> Result<([u64; 3], Vec<u32>, Vec<u32>), String> {
+    let before = tables.clone();
+    let (mut row_output, mut diagnostic_output) =
+        (Lent::of_length(rows), Lent::of_length(diagnostics));
+    let told = call(tables, row_output.lend(), diagnostic_output.lend());
+    if *tables != before {
+        return Err("it changed an input".to_string());
+    }
+    let contents = (
+        row_output.contents()?.to_vec(),
+        diagnostic_output.contents()?.to_vec(),
+    );
+    Ok((told, contents.0, contents.1))
+}
+
+fn refused(
+    tables: &Tables,
+    rows: usize,
+    diagnostics: usize,
+    number: u64,
+    met: &mut Met,
+) -> Result<(), String> {
+    met.calls += 1;
+    match number {
+        11 => met.refused_11 += 1,
+        _ => met.refused_12 += 1,
+    }
+    let (told, rows, diagnostics) = run(tables, rows, diagnostics)?;
+    if told != [number, 0, b'-'.into()] {
+        return Err(format!("refusal {number} expected, it told {told:?}"));
+    }
+    if rows.iter().chain(&diagnostics).any(|&left| left != 0) {
+        return Err(format!("an output is not zero after refusal {number}"));
+    }
+    Ok(())
+}
+
+fn listed(
+    sheet: &Sheet,
+    tables: &Tables,
+    rows: usize,
+    diagnostics: usize,
+    expected: &Listing,
+    met: &mut Met,
+) -> Result<(), String> {
+    met.calls += 1;
+    let (told, rows, diagnostics) = run(tables, rows, diagnostics)?;
+    let counts = [
+        0,
+        expected.rows.len() as u64,
+        expected.diagnostics.len() as u64,
+    ];
+    if told != counts {
+        return Err(format!("{counts:?} expected, it told {told:?}"));
+    }
+    let (written, unused) = rows.split_at(expected.rows.len() * ROW_NUMBERS);
+    let given: Result<Vec<Row>, String> = written
+        .chunks(ROW_NUMBERS)
+        .map(|row| row_of(sheet, row))
+        .collect();
+    if given? != expected.rows {
+        return Err("the rows differ".to_string());
+    }
+    let numbers: Vec<u32> = expected
+        .diagnostics
+        .iter()
+        .flat_map(|own| own.numbers)
+        .collect();
+    let (said, unused_diagnostics) = diagnostics.split_at(numbers.len());
+    if said != numbers {
+        return Err("the diagnostics differ".to_string());
+    }
+    if unused
+        .iter()
+        .chain(unused_diagnostics)
+        .any(|&left| left != 0)
+    {
+        return Err("an unused place is not zero".to_string());
+    }
+    Ok(())
+}
+
+/// A row of the output, its name numbers as names.
+fn row_of(sheet: &Sheet, numbers: &[u32]) -> Result<Row, String> {
+    let name = |number: u32| sheet.names[number as usize].clone();
+    let (path, unused) = numbers[8..].split_at(numbers[7] as usize);
+    if unused.iter().any(|&left| left != 0) {
+        return Err("an unused place of a path is not zero".to_string());
+    }
+    if Some(numbers[4]) != sheet.connections[numbers[0] as usize][0] {
+        return Err("a row has another name number than its connection".to_string());
+    }
+    Ok(Row {
+        connection: numbers[0],
+        kind: numbers[1],
+        source: numbers[2],
+        destination: numbers[3],
+        path: path.to_vec(),
+        name: name(numbers[4]),
+        source_feature: name(numbers[5]),
+        destination_feature: name(numbers[6]),
+    })
+}
