@@ -31,7 +31,7 @@ use Rattle.trace.specs.declared.Wrote.the-variants.{Count, Full}
 use Rattle.trace.specs.Writing.{Written}
 use Rattle.instance.specs.declared.Listed.{Listed}
 use Rattle.instance.specs.declared.Listed.the-variants.{Rows, Refused}
-use Rattle.instance.specs.Answer.{listed, refusedFor, Wrote}
+use Rattle.instance.specs.Answer.{listed, refusedFor, Wrote, ListedInto}
 use Rattle.instance.proofs.Seen.{seen, traced-seen, diags-seen}
 
 -- ---- cases of an answer
@@ -220,24 +220,22 @@ module _ (m : Tables) (rows diags rows₁ diags₁ rows₂ diags₂ : List ℕ) 
   told-answer : z ≡ listed answer
   told-answer = g ∙ ap listed same-answer
 
-  -- what the call promises of its answer and of the two outputs at exit
-  abbrev pub Promised : List ℕ → List ℕ → Type 0
-  Promised out out′ =
-      (z ≡ listed answer)
-      × ((out ≡ output (length rows) (tracedRowNumbers m) answer)
-      × ((out′ ≡ output (length diags) tracedDiagNumbers answer)
-      × ((k d : ℕ) → z ≡ Rows k d → (rowsBack m k out ≡ unlimited m) ↔ NoneHasNext stepLimit m)))
+  listed-into : (out out′ : List ℕ) → out ≡ output (length rows) (tracedRowNumbers m) answer → out′ ≡ output (length diags) tracedDiagNumbers answer → ListedInto m rows diags z out out′
+  listed-into out out′ h i =
+      record {
+        answer = told-answer;
+        written-rows = h;
+        written-diagnostics = i;
+        step-limit = λ k d. answered m (roomIn (length rows) (length diags)) (length rows) z k d out told-answer h;
+      }
 
-  promised : (out out′ : List ℕ) → out ≡ output (length rows) (tracedRowNumbers m) answer → out′ ≡ output (length diags) tracedDiagNumbers answer → Promised out out′
-  promised out out′ h i = (told-answer, (h, (i, λ k d. answered m (roomIn (length rows) (length diags)) (length rows) z k d out told-answer h)))
-
-  pub given-call : (k d : ℕ) → z ≡ Rows k d → Wrote m (tracedAnswer (roomIn (length rows₁) (length diags₁)) m) rows₁ diags₁ rows₂ diags₂ → Promised rows₂ diags₂
+  pub given-call : (k d : ℕ) → z ≡ Rows k d → Wrote m (tracedAnswer (roomIn (length rows₁) (length diags₁)) m) rows₁ diags₁ rows₂ diags₂ → ListedInto m rows diags z rows₂ diags₂
   given-call k d h w =
       let o = keeps m answer k d (sym told-answer ∙ h) rows₁ diags₁ rows₂ diags₂ (length rows) (length diags) e f rows-size diags-size (subst (λ (a : Answer TracedList). Wrote m a rows₁ diags₁ rows₂ diags₂) same-answer w) in
-      promised rows₂ diags₂ (o .0) (o .1)
+      listed-into rows₂ diags₂ (o .0) (o .1)
 
   pub refused-call : (r : Told) → z ≡ Refused r → length rows₂ ≡ length rows₁ → length diags₂ ≡ length diags₁ → (rows₃ diags₃ : List ℕ) → rows₃ ≡ zeros (length rows₂) → diags₃ ≡ zeros (length diags₂)
-      → Promised rows₃ diags₃
+      → ListedInto m rows diags z rows₃ diags₃
   refused-call r h i j rows₃ diags₃ u v =
-      promised rows₃ diags₃ (u ∙ ap zeros (i ∙ rows-size) ∙ clears answer r (sym told-answer ∙ h) (length rows) (tracedRowNumbers m))
+      listed-into rows₃ diags₃ (u ∙ ap zeros (i ∙ rows-size) ∙ clears answer r (sym told-answer ∙ h) (length rows) (tracedRowNumbers m))
       (v ∙ ap zeros (j ∙ diags-size) ∙ clears answer r (sym told-answer ∙ h) (length diags) tracedDiagNumbers)

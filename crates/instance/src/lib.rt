@@ -1,15 +1,7 @@
 // The traced listing (instance.rs, `compute_semantic_connections`) over the caller's tables and outputs.
-ghost use mathlib.Core.Logic.{_↔_};
 ghost use mathlib.Core.Path.{_≡_};
-ghost use Prim.Native.Nat.{ℕ};
-ghost use lib.ListN.{length};
 ghost use Rattle.as5506.specs.Tables.{tablesOf};
-ghost use Rattle.as5506.specs.Tracing.{unlimited, stepLimit};
-ghost use Rattle.as5506.specs.Followed.{NoneHasNext};
-ghost use Rattle.as5506.specs.Listing.{tracedAnswer};
-ghost use Rattle.as5506.specs.Layout.{roomIn, tracedRowNumbers, tracedDiagNumbers, output, rowsBack};
-ghost use Rattle.instance.specs.declared.Listed.the-variants.{Rows};
-ghost use Rattle.instance.specs.Answer.{listed, refusedFor, Wrote as Outputs};
+ghost use Rattle.instance.specs.Answer.{listed, answerFor, ListedInto, refusedFor, Wrote as Outputs};
 use as5506::Refusal;
 use tables::Checked;
 use trace::Wrote;
@@ -49,8 +41,8 @@ fn list(
     rows: &mut [u32],
     diagnostics: &mut [u32],
 ) -> Listed
-    ensures { λ z. ⌜ z ≡ listed (tracedAnswer (roomIn (length (now (rows .entry))) (length (now (diagnostics .entry)))) (tablesOf (now (bytes .entry)) (now (n .entry)) (now (c .entry)) (now (f .entry)) (now (x .entry)) (now (p .entry)) (now (i .entry)) (now (t .entry)) (now (q .entry)) (now (u .entry)) (now (e .entry)) (now (r .entry)))) ⌝ }
-    ensures { λ _. ⌜ Outputs (tablesOf (now (bytes .entry)) (now (n .entry)) (now (c .entry)) (now (f .entry)) (now (x .entry)) (now (p .entry)) (now (i .entry)) (now (t .entry)) (now (q .entry)) (now (u .entry)) (now (e .entry)) (now (r .entry))) (tracedAnswer (roomIn (length (now (rows .entry))) (length (now (diagnostics .entry)))) (tablesOf (now (bytes .entry)) (now (n .entry)) (now (c .entry)) (now (f .entry)) (now (x .entry)) (now (p .entry)) (now (i .entry)) (now (t .entry)) (now (q .entry)) (now (u .entry)) (now (e .entry)) (now (r .entry)))) (now (rows .entry)) (now (diagnostics .entry)) (now (rows .exit)) (now (diagnostics .exit)) ⌝ }
+    ensures { λ z. ⌜ z ≡ listed (answerFor (tablesOf (now (bytes .entry)) (now (n .entry)) (now (c .entry)) (now (f .entry)) (now (x .entry)) (now (p .entry)) (now (i .entry)) (now (t .entry)) (now (q .entry)) (now (u .entry)) (now (e .entry)) (now (r .entry))) (now (rows .entry)) (now (diagnostics .entry))) ⌝ }
+    ensures { λ _. ⌜ Outputs (tablesOf (now (bytes .entry)) (now (n .entry)) (now (c .entry)) (now (f .entry)) (now (x .entry)) (now (p .entry)) (now (i .entry)) (now (t .entry)) (now (q .entry)) (now (u .entry)) (now (e .entry)) (now (r .entry))) (answerFor (tablesOf (now (bytes .entry)) (now (n .entry)) (now (c .entry)) (now (f .entry)) (now (x .entry)) (now (p .entry)) (now (i .entry)) (now (t .entry)) (now (q .entry)) (now (u .entry)) (now (e .entry)) (now (r .entry))) (now (rows .entry)) (now (diagnostics .entry))) (now (rows .entry)) (now (diagnostics .entry)) (now (rows .exit)) (now (diagnostics .exit)) ⌝ }
 {
     if let Checked::Refused(reason) = tables::check_tables(bytes, n, c, f, x, p, i, t, q, u, e, r) {
         return Listed::Refused(reason);
@@ -81,10 +73,9 @@ pub fn compute_semantic_connections(
     rows: &mut [u32],
     diagnostics: &mut [u32],
 ) -> Listed
-    ensures { λ z. ⌜ z ≡ listed (tracedAnswer (roomIn (length (now (rows .entry))) (length (now (diagnostics .entry)))) (tablesOf (now (bytes .entry)) (now (n .entry)) (now (c .entry)) (now (f .entry)) (now (x .entry)) (now (p .entry)) (now (i .entry)) (now (t .entry)) (now (q .entry)) (now (u .entry)) (now (e .entry)) (now (r .entry)))) ⌝ }
-    ensures { λ _. ⌜ now (rows .exit) ≡ output (length (now (rows .entry))) (tracedRowNumbers (tablesOf (now (bytes .entry)) (now (n .entry)) (now (c .entry)) (now (f .entry)) (now (x .entry)) (now (p .entry)) (now (i .entry)) (now (t .entry)) (now (q .entry)) (now (u .entry)) (now (e .entry)) (now (r .entry)))) (tracedAnswer (roomIn (length (now (rows .entry))) (length (now (diagnostics .entry)))) (tablesOf (now (bytes .entry)) (now (n .entry)) (now (c .entry)) (now (f .entry)) (now (x .entry)) (now (p .entry)) (now (i .entry)) (now (t .entry)) (now (q .entry)) (now (u .entry)) (now (e .entry)) (now (r .entry)))) ⌝ }
-    ensures { λ _. ⌜ now (diagnostics .exit) ≡ output (length (now (diagnostics .entry))) tracedDiagNumbers (tracedAnswer (roomIn (length (now (rows .entry))) (length (now (diagnostics .entry)))) (tablesOf (now (bytes .entry)) (now (n .entry)) (now (c .entry)) (now (f .entry)) (now (x .entry)) (now (p .entry)) (now (i .entry)) (now (t .entry)) (now (q .entry)) (now (u .entry)) (now (e .entry)) (now (r .entry)))) ⌝ }
-    ensures { λ z. ⌜ ((k d : ℕ) → z ≡ Rows k d → (rowsBack (tablesOf (now (bytes .entry)) (now (n .entry)) (now (c .entry)) (now (f .entry)) (now (x .entry)) (now (p .entry)) (now (i .entry)) (now (t .entry)) (now (q .entry)) (now (u .entry)) (now (e .entry)) (now (r .entry))) k (now (rows .exit)) ≡ unlimited (tablesOf (now (bytes .entry)) (now (n .entry)) (now (c .entry)) (now (f .entry)) (now (x .entry)) (now (p .entry)) (now (i .entry)) (now (t .entry)) (now (q .entry)) (now (u .entry)) (now (e .entry)) (now (r .entry)))) ↔ NoneHasNext stepLimit (tablesOf (now (bytes .entry)) (now (n .entry)) (now (c .entry)) (now (f .entry)) (now (x .entry)) (now (p .entry)) (now (i .entry)) (now (t .entry)) (now (q .entry)) (now (u .entry)) (now (e .entry)) (now (r .entry)))) ⌝ }
+    ensures { λ z. ⌜ ListedInto
+        (tablesOf (now (bytes .entry)) (now (n .entry)) (now (c .entry)) (now (f .entry)) (now (x .entry)) (now (p .entry)) (now (i .entry)) (now (t .entry)) (now (q .entry)) (now (u .entry)) (now (e .entry)) (now (r .entry)))
+        (now (rows .entry)) (now (diagnostics .entry)) z (now (rows .exit)) (now (diagnostics .exit)) ⌝ }
 {
     lent::clear_numbers(rows);
     lent::clear_numbers(diagnostics);

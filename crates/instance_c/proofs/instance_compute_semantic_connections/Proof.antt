@@ -1,5 +1,5 @@
 use Rattle.instance_c.specs.Numbers.{numbersOf}
-use mathlib.Core.Path.{sym, ap, _∙_}
+use mathlib.Core.Path.{refl, sym, ap, _∙_}
 use borrow.Author.Needs.{needs}
 use Rattle.instance_c.proofs.instance_compute_semantic_connections.Statement.{statement}
 use Rattle.instance_c.proofs.instance_compute_semantic_connections.Tie as tie
@@ -34,7 +34,7 @@ same-length-2 c = search needs
 returns : tie.Need-returns
 returns c =
     let e = c .before .before .before .before .before .before .before .before .compute-semantic-connections .ensures in
-    (ap numbersOf (sym (c .before .before .answer .given .1) ∙ e .0), (e .1 .0, (e .1 .1 .0, λ k d h. e .1 .1 .1 k d (e .0 ∙ h))))
+    (ap numbersOf (sym (c .before .before .answer .given .1) ∙ e .answer), record { answer = refl; written-rows = e .written-rows; written-diagnostics = e .written-diagnostics; step-limit = λ k d h. e .step-limit k d (e .answer ∙ h) })
 
 same-length-3 : tie.Need-same-length-3
 same-length-3 c = search needs
@@ -45,7 +45,7 @@ same-length-4 c = search needs
 returns-2 : tie.Need-returns-2
 returns-2 c =
     let e = c .before .before .before .before .before .before .before .before .before .before .before .compute-semantic-connections .ensures in
-    (ap numbersOf (sym (c .before .before .before .before .before .answer2 .given .1) ∙ e .0), (e .1 .0, (e .1 .1 .0, λ k d h. e .1 .1 .1 k d (e .0 ∙ h))))
+    (ap numbersOf (sym (c .before .before .before .before .before .answer2 .given .1) ∙ e .answer), record { answer = refl; written-rows = e .written-rows; written-diagnostics = e .written-diagnostics; step-limit = λ k d h. e .step-limit k d (e .answer ∙ h) })
 
 pub instance-compute-semantic-connections-spec : {M : Type 1} → statement M
 instance-compute-semantic-connections-spec =
