@@ -1,0 +1,159 @@
+-- Letters, their places in the order, and tables with an entry for each. Assumes nothing.
+use mathlib.Core.Bool.{Bool, true, false, cond}
+use mathlib.Core.List.{List, [], _∷_, map}
+use mathlib.Core.Option.{Option, none, some}
+use mathlib.Core.Path.{_≡_, refl, sym, ap, _∙_}
+use Prim.Native.Nat.{ℕ, zero, suc, _+_, _<_}
+use native.Mathlib.Nat.{not-suc-le-zero, le-of-suc-le-suc}
+use native.Mathlib.Omega.{arith}
+use borrow.Author.Tests.{eqb-true, eq-eqb}
+use lib.Dec.{eqb}
+use lib.ListN.{length, getD, drop}
+use Rattle.as5506.specs.Columns.{order, rank, letterByte, columns}
+use Rattle.as5506.specs.Lists.{span, putIf, keep, firstOf}
+use Rattle.as5506.specs.Sheet.{letterOf}
+use Rattle.as5506.specs.Tables.{Letter, letterN, letterC, letterF, letterX, letterP, letterI, letterT, letterQ, letterU, letterE, letterR, width}
+use Rattle.fields.specs.Fields.{marksOf}
+use Rattle.sheet.specs.Steps.{letterAt, rankOf, indexOf}
+
+-- what holds of each letter
+pub each-letter : (P : Letter → Type 0) → P letterN → P letterC → P letterF → P letterX → P letterP → P letterI → P letterT → P letterQ → P letterU → P letterE → P letterR → (l : Letter) → P l
+each-letter P n c f x p i t q u e r letterN = n
+each-letter P n c f x p i t q u e r letterC = c
+each-letter P n c f x p i t q u e r letterF = f
+each-letter P n c f x p i t q u e r letterX = x
+each-letter P n c f x p i t q u e r letterP = p
+each-letter P n c f x p i t q u e r letterI = i
+each-letter P n c f x p i t q u e r letterT = t
+each-letter P n c f x p i t q u e r letterQ = q
+each-letter P n c f x p i t q u e r letterU = u
+each-letter P n c f x p i t q u e r letterE = e
+each-letter P n c f x p i t q u e r letterR = r
+
+-- ---- by rank
+
+pub letter-at : (l : Letter) → letterAt (rank l) ≡ l
+letter-at = each-letter (λ l. letterAt (rank l) ≡ l) refl refl refl refl refl refl refl refl refl refl refl
+
+pub same-letter : (a b : Letter) → rank a ≡ rank b → a ≡ b
+same-letter a b e = sym (letter-at a) ∙ ap letterAt e ∙ letter-at b
+
+pub rank-below : (l : Letter) → rank l < 11
+rank-below = each-letter (λ l. rank l < 11) (omega arith) (omega arith) (omega arith) (omega arith) (omega arith) (omega arith) (omega arith) (omega arith) (omega arith) (omega arith) (omega arith)
+
+mapped-at : (f : Letter → ℕ) (ls : List Letter) (k : ℕ) → k < length ls → getD (map f ls) k 0 ≡ f (getD ls k letterN)
+mapped-at f [] k h = absurd (not-suc-le-zero h)
+mapped-at f (l ∷ ls) zero h = refl
+mapped-at f (l ∷ ls) (suc k) h = mapped-at f ls k (le-of-suc-le-suc h)
+
+entry : (f : Letter → ℕ) (k : ℕ) → k < 11 → getD (map f order) k 0 ≡ f (letterAt k)
+entry f = mapped-at f order
+
+-- the code's tables with an entry for each letter: as5506::WIDTHS, LETTERS and OPTIONAL
+abbrev pub widths : List ℕ
+widths = 2 ∷ 6 ∷ 3 ∷ 7 ∷ 1 ∷ 2 ∷ 3 ∷ 4 ∷ 9 ∷ 8 ∷ 5 ∷ []
+
+abbrev pub letters : List ℕ
+letters = 78 ∷ 67 ∷ 70 ∷ 88 ∷ 80 ∷ 73 ∷ 84 ∷ 81 ∷ 85 ∷ 69 ∷ 82 ∷ []
+
+abbrev pub optionals : List ℕ
+optionals = 0 ∷ 38 ∷ 0 ∷ 120 ∷ 0 ∷ 0 ∷ 0 ∷ 0 ∷ 504 ∷ 240 ∷ 16 ∷ []
+
+-- ONE COMPUTED TEST: they are the definition's
+pub tables-right : (widths ≡ map width order) × (letters ≡ map letterByte order) × (optionals ≡ map (λ l. marksOf (columns l)) order)
+unfolding marksOf
+tables-right = (refl, refl, refl)
+
+module _ (k : ℕ) (h : k < 11) where
+  pub width-at : getD widths k 0 ≡ width (letterAt k)
+  width-at = ap (λ (xs : List ℕ). getD xs k 0) (tables-right .0) ∙ entry width k h
+
+  pub byte-at : getD letters k 0 ≡ letterByte (letterAt k)
+  byte-at = ap (λ (xs : List ℕ). getD xs k 0) (tables-right .1) ∙ entry letterByte k h
+
+  pub optional-at : getD optionals k 0 ≡ marksOf (columns (letterAt k))
+  optional-at = ap (λ (xs : List ℕ). getD xs k 0) (tables-right .2) ∙ entry (λ l. marksOf (columns l)) k h
+
+span-at : (i n k : ℕ) → k < n → getD (span i n) k 0 ≡ i + k
+span-at i zero k h = absurd (not-suc-le-zero h)
+span-at i (suc n) zero h = omega arith
+span-at i (suc n) (suc k) h = span-at (suc i) n k (le-of-suc-le-suc h) ∙ omega arith
+
+pub rank-at : (k : ℕ) → k < 11 → rank (letterAt k) ≡ k
+rank-at k h = sym (entry rank k h) ∙ span-at 0 11 k h ∙ omega arith
+
+pub width-small : (l : Letter) → width l < 10
+width-small = each-letter (λ l. width l < 10) (omega arith) (omega arith) (omega arith) (omega arith) (omega arith) (omega arith) (omega arith) (omega arith) (omega arith) (omega arith) (omega arith)
+
+-- of every letter but N the row has a number for each column
+pub column-count : (k : ℕ) → 0 < k → k < 11 → width (letterAt k) ≡ length (columns (letterAt k))
+column-count k p h = sym (entry width k h) ∙ above k p ∙ entry (λ l. length (columns l)) k h
+  where
+    above : (k : ℕ) → 0 < k → getD (map width order) k 0 ≡ getD (map (λ l. length (columns l)) order) k 0
+    above zero p = absurd (not-suc-le-zero p)
+    above (suc k) p = refl
+
+-- ---- a line's letter
+
+-- the first of letters of ranks i, i + 1, .. to 10
+first-by : (b : ℕ) (ls : List Letter) (i : ℕ) → map rank ls ≡ span i (length ls) → i + length ls ≡ 11
+    → rankOf (firstOf (keep (λ l. eqb (letterByte l) b) ls)) ≡ i + indexOf b (map letterByte ls)
+unfolding indexOf
+first-by b [] i e n = omega arith
+first-by b (l ∷ ls) i e n = go (eqb (letterByte l) b) (first-by b ls (suc i) (ap (drop 1) e) (omega arith))
+  where
+    go : (t : Bool) → rankOf (firstOf (keep (λ l. eqb (letterByte l) b) ls)) ≡ suc i + indexOf b (map letterByte ls)
+        → rankOf (firstOf (putIf t l (keep (λ l. eqb (letterByte l) b) ls))) ≡ i + cond t 0 (suc (indexOf b (map letterByte ls)))
+    go true h = ap (λ (x : List ℕ). getD x 0 0) e ∙ omega arith
+    go false h = h ∙ omega arith
+
+-- the place of its first byte among the letters is its rank
+pub letter-rank : (s : List ℕ) → indexOf (getD s 0 0) letters ≡ rankOf (letterOf s)
+unfolding letterOf indexOf
+letter-rank [] = refl
+letter-rank (b ∷ s) = ap (indexOf b) (tables-right .1) ∙ sym (first-by b order 0 refl refl ∙ omega arith)
+
+passes : (p : Letter → Bool) (ls : List Letter) (l : Letter) → firstOf (keep p ls) ≡ some l → p l ≡ true
+passes p [] l e = absurd (let z : _≡_ {A = ℕ} 0 1 = cc in omega arith)
+passes p (x ∷ ls) l e = go (p x) refl (passes p ls l) e
+  where
+    go : (t : Bool) → p x ≡ t → (firstOf (keep p ls) ≡ some l → p l ≡ true) → firstOf (putIf t x (keep p ls)) ≡ some l → p l ≡ true
+    go true q h e = let z : x ≡ l = cc in ap p (sym z) ∙ q
+    go false q h e = h e
+
+-- a line of a known letter begins with that letter's byte
+pub letter-byte : (s : List ℕ) (l : Letter) → letterOf s ≡ some l → eqb (getD s 0 0) (letterByte l) ≡ true
+unfolding letterOf
+letter-byte [] l e = absurd (let z : _≡_ {A = ℕ} 0 1 = cc in omega arith)
+letter-byte (b ∷ s) l e = eq-eqb b (letterByte l) (sym (eqb-true (letterByte l) b (passes (λ l. eqb (letterByte l) b) order l e)))
+
+no-zero : (l : Letter) → eqb 0 (letterByte l) ≡ true → ⊥
+no-zero l e = let h : 0 ≡ letterByte l = eqb-true 0 (letterByte l) e in omega (arith, byte-some l)
+  where
+    byte-some : (l : Letter) → 0 < letterByte l
+    byte-some = each-letter (λ l. 0 < letterByte l) (omega arith) (omega arith) (omega arith) (omega arith) (omega arith) (omega arith) (omega arith) (omega arith) (omega arith) (omega arith) (omega arith)
+
+known : (l : Letter) (s : List ℕ) → letterOf (letterByte l ∷ s) ≡ some l
+unfolding letterOf
+known l s = each-letter (λ l. letterOf (letterByte l ∷ s) ≡ some l) refl refl refl refl refl refl refl refl refl refl refl l
+
+-- and a line that begins with it is of that letter
+pub byte-letter : (s : List ℕ) (l : Letter) → eqb (getD s 0 0) (letterByte l) ≡ true → letterOf s ≡ some l
+byte-letter [] l e = absurd (no-zero l e)
+byte-letter (b ∷ s) l e = ap (λ (c : ℕ). letterOf (c ∷ s)) (eqb-true b (letterByte l) e) ∙ known l s
+
+rank-letter : (o : Option Letter) (k : ℕ) → k < 11 → k ≡ rankOf o → o ≡ some (letterAt k)
+rank-letter none k h e = absurd (omega arith)
+rank-letter (some l) k h e = ap some (sym (letter-at l) ∙ ap letterAt (sym e))
+
+-- the letter of a line whose rank the code has
+pub letter-is : (s : List ℕ) (k : ℕ) → k < 11 → k ≡ rankOf (letterOf s) → letterOf s ≡ some (letterAt k)
+letter-is s = rank-letter (letterOf s)
+
+-- a line of one letter is of no other
+pub other-byte : (s : List ℕ) (a b : Letter) → letterOf s ≡ some a → (rank b ≡ rank a → ⊥) → eqb (getD s 0 0) (letterByte b) ≡ false
+other-byte s a b e z = go (eqb (getD s 0 0) (letterByte b)) refl
+  where
+    go : (t : Bool) → eqb (getD s 0 0) (letterByte b) ≡ t → t ≡ false
+    go false q = refl
+    go true q = absurd (z (let h : b ≡ a = cc (byte-letter s b q) in ap rank h))

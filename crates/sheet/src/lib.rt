@@ -1,0 +1,475 @@
+// The reader of a sheet: from any bytes to tables, or to one refusal. A first pass checks every line and writes nothing; then each table is
+// written by a pass of its own, which looks for the lines of its letter. So nothing has to be taken back, and a table's contract speaks of that
+// table alone. (Thirteen passes over at most 16,384 bytes; bench/sheet says how long they take.)
+// Definitions: as5506, Sheet and Fields; specs/Read.antt says what a call gives, specs/Steps.antt what the private functions say beside that.
+// Laws for callers: proofs/Model.antt.
+ghost use mathlib.Core.Path.{_≡_};
+ghost use mathlib.Core.Bool.{true, false};
+ghost use mathlib.Core.List.{List, [], _∷_, map, reverse};
+ghost use Prim.Native.Nat.{ℕ, _+_, _≤_, _<_};
+ghost use lib.Dec.{leb};
+ghost use lib.ListN.{length, drop, getD};
+ghost use lib.Seq.{sets};
+ghost use Rattle.as5506.specs.Lists.{allOf, each};
+ghost use Rattle.as5506.specs.Tables.{letterN, tablesOf};
+ghost use Rattle.as5506.specs.Answers.{refusal, line, told};
+ghost use Rattle.as5506.specs.Sheet.{ended, letterOf, linesOf, linesWith, lineName, keepsRules, hasPlace, lineFaults, nameBytes, placed, rowsRead, tablesRead, readSheet};
+ghost use Rattle.sheet.specs.Read.{countsOf, sheetRead, ReadInto};
+ghost use Rattle.sheet.specs.Steps.{letterAt, rankOf, indexOf, lentBy, Counted, firstFault, answerFrom, wellFormed, texts, Cleared};
+
+// The bytes of names, and the rows of each letter, that were read.
+pub struct Counts {
+    pub bytes: usize,
+    pub n: usize,
+    pub c: usize,
+    pub f: usize,
+    pub x: usize,
+    pub p: usize,
+    pub i: usize,
+    pub t: usize,
+    pub q: usize,
+    pub u: usize,
+    pub e: usize,
+    pub r: usize,
+}
+
+// What a call gives: what was read, or the refusal of the first bad line.
+pub enum SheetRead {
+    Read(Counts),
+    Refused(as5506::Refusal),
+}
+
+// A letter is known by its place in the order: 0 is N, 10 is R.
+const LETTERS: [u8; 11] = [
+    b'N',
+    b'C',
+    b'F',
+    b'X',
+    b'P',
+    b'I',
+    b'T',
+    b'Q',
+    b'U',
+    b'E',
+    b'R',
+];
+
+// For each letter a bit for each field that may be missing, the first field lowest.
+const OPTIONAL: [usize; 11] = [
+    0,
+    0b100110,
+    0,
+    0b1111000,
+    0,
+    0,
+    0,
+    0,
+    0b111111000,
+    0b11110000,
+    0b10000,
+];
+
+// What the caller lends: the bytes of the byte table and the numbers of each letter's table.
+pub struct Room {
+    pub bytes: usize,
+    pub numbers: [usize; 11],
+}
+
+// What the lines seen so far take of it, and the last one's letter.
+pub struct Seen {
+    pub last: usize,
+    pub bytes: usize,
+    pub numbers: [usize; 11],
+}
+
+// ---- lines
+
+// The index of the first `b` from `at` on, the length where there is none.
+fn index_from(s: &[u8], at: usize, b: u8) -> usize
+    requires { ⌜ at ≤ length (now s) ⌝ }
+    ensures { λ r. ⌜ (r ≡ at + indexOf b (drop at (now (s .entry)))) × (r ≤ length (now (s .entry))) ⌝ }
+{
+    let mut i = at;
+    while i < s.len() {
+        if s[i] == b {
+            return i;
+        }
+        i += 1;
+    }
+    i
+}
+
+// A line's letter, 11 where it is unknown. (An empty line's first byte is 0, which is no letter.)
+fn letter(line: &[u8]) -> usize
+    ensures { λ r. ⌜ r ≡ rankOf (letterOf (now (line .entry))) ⌝ }
+{
+    index_from(&LETTERS, 0, lent::byte_at(line, 0))
+}
+
+// The length of an N line's name; 0 of any other line.
+fn name_length(line: &[u8]) -> usize
+    ensures { λ r. ⌜ r ≡ nameBytes (now (line .entry) ∷ []) ⌝ }
+{
+    if lent::byte_at(line, 0) != b'N' {
+        return 0;
+    }
+    if line.len() < 2 {
+        return 0;
+    }
+    line.len() - 2
+}
+
+// ---- no. 4
+
+// Whether an N line keeps the rules: one space, then a name.
+fn name_ok(line: &[u8]) -> bool
+    ensures { λ r. ⌜ r ≡ keepsRules letterN (now (line .entry)) ⌝ }
+{
+    if line.len() < 2 {
+        return false;
+    }
+    if line[1] == b' ' {
+        name::good_name(&line[2..])
+    } else {
+        false
+    }
+}
+
+// Whether a line of any other letter k does: its length, then its fields.
+fn row_ok(line: &[u8], k: usize) -> bool
+    requires { ⌜ (0 < k) × (k < 11) ⌝ }
+    ensures { λ r. ⌜ r ≡ keepsRules (letterAt k) (now (line .entry)) ⌝ }
+{
+    let w = as5506::WIDTHS[k];
+    if line.len() == 1 + 6 * w {
+        fields::fields_fit(line, w, OPTIONAL[k])
+    } else {
+        false
+    }
+}
+
+// "length, field or name against the sheet's rules": whether a line of the letter k keeps them.
+fn line_ok(line: &[u8], k: usize) -> bool
+    requires { ⌜ k < 11 ⌝ }
+    ensures { λ r. ⌜ r ≡ keepsRules (letterAt k) (now (line .entry)) ⌝ }
+{
+    if k == 0 {
+        name_ok(line)
+    } else {
+        row_ok(line, k)
+    }
+}
+
+// ---- no. 5
+
+// Whether `more` behind the first `at` of `of` have a place.
+fn has_room(at: usize, more: usize, of: usize) -> bool
+    ensures { λ r. ⌜ r ≡ leb (at + more) of ⌝ }
+{
+    if at <= of { more <= of - at } else { false }
+}
+
+// Whether a line of the letter k has a place: its row in the letter's table, and at N its name in the byte table.
+fn has_place(line: &[u8], k: usize, seen: Seen, room: Room) -> bool
+    requires { ⌜ k < 11 ⌝ }
+    ensures { λ r. ⌜ ((before : List (List ℕ)) → Counted seen before → r ≡ hasPlace (lentBy room) before (letterAt k) (now (line .entry))) ⌝ }
+{
+    let numbers = seen.numbers;
+    let places = room.numbers;
+    if !has_room(numbers[k], as5506::WIDTHS[k], places[k]) {
+        return false;
+    }
+    if k != 0 {
+        return true;
+    }
+    has_room(seen.bytes, name_length(line), room.bytes)
+}
+
+// ---- the check
+
+// The number of a line's refusal, 0 where it has none. "The table is the order of checks."
+fn check_line(line: &[u8], seen: Seen, room: Room) -> u32
+    ensures { λ r. ⌜ ((before : List (List ℕ)) → Counted seen before → r ≡ firstFault (lineFaults (lentBy room) before (ended (now (line .entry))))) ⌝ }
+{
+    let k = letter(line);
+    if 11 <= k {
+        return 2;
+    }
+    if k < seen.last {
+        return 3;
+    }
+    let rules = line_ok(line, k);
+    let place = has_place(line, k, seen, room);
+    if !rules {
+        return 4;
+    }
+    if !place {
+        return 5;
+    }
+    0
+}
+
+// What has been seen after one more line, of the letter k.
+fn count_line(line: &[u8], k: usize, seen: Seen) -> Seen
+    requires { ⌜ (k < 11) × (k ≡ rankOf (letterOf (now line))) × (length (now line) ≤ 16384) × (seen .bytes ≤ 16384) × (getD (seen .numbers) k 0 ≤ 16384) ⌝ }
+    ensures { λ r. ⌜ ((before : List (List ℕ)) → Counted seen before → Counted r (now (line .entry) ∷ before)) ⌝ }
+{
+    let more = name_length(line);
+    let mut numbers = seen.numbers;
+    numbers[k] = numbers[k] + as5506::WIDTHS[k];
+    Seen {
+        last: k,
+        bytes: seen.bytes + more,
+        numbers,
+    }
+}
+
+// The rows of each letter, from the numbers in its table.
+fn counted(seen: Seen) -> Counts
+    ensures { λ r. ⌜ ((before : List (List ℕ)) → Counted seen before → r ≡ countsOf (tablesRead (reverse before))) ⌝ }
+{
+    let numbers = seen.numbers;
+    Counts {
+        bytes: seen.bytes,
+        n: numbers[0] / 2,
+        c: numbers[1] / 6,
+        f: numbers[2] / 3,
+        x: numbers[3] / 7,
+        p: numbers[4],
+        i: numbers[5] / 2,
+        t: numbers[6] / 3,
+        q: numbers[7] / 4,
+        u: numbers[8] / 9,
+        e: numbers[9] / 8,
+        r: numbers[10] / 5,
+    }
+}
+
+// A refusal at a line; 0 where it has no place.
+fn refused(number: u32, place: u32) -> SheetRead
+    ensures { λ r. ⌜ r ≡ SheetRead.Refused (told (refusal number (line place))) ⌝ }
+{
+    SheetRead::Refused(as5506::Refusal {
+        number,
+        place,
+        letter: b'-',
+    })
+}
+
+// "Lines go singly through 2 to 5, up to the first bad one."
+fn check_lines(sheet: &[u8], room: Room) -> SheetRead
+    requires { ⌜ length (now sheet) ≤ 16384 ⌝ }
+    ensures { λ r. ⌜ r ≡ answerFrom (lentBy room) [] 1 (linesOf (now (sheet .entry))) ⌝ }
+{
+    let mut seen = Seen {
+        last: 0,
+        bytes: 0,
+        numbers: [0; 11],
+    };
+    let mut from = 0;
+    let mut place: u32 = 1;
+    while from < sheet.len() {
+        let end = index_from(sheet, from, b'\n');
+        if end == sheet.len() {
+            return refused(2, place);
+        }
+        let line = &sheet[from..end];
+        let number = check_line(line, seen, room);
+        if number != 0 {
+            return refused(number, place);
+        }
+        seen = count_line(line, letter(line), seen);
+        from = end + 1;
+        place += 1;
+    }
+    SheetRead::Read(counted(seen))
+}
+
+// The reader's answer. Nothing is written.
+fn check_sheet(sheet: &[u8], room: Room) -> SheetRead
+    ensures { λ r. ⌜ r ≡ sheetRead (readSheet (lentBy room) (now (sheet .entry))) ⌝ }
+{
+    if as5506::SHEET_BYTES < sheet.len() {
+        return refused(1, 0);
+    }
+    check_lines(sheet, room)
+}
+
+// ---- the tables
+
+// Writes the row of a line of the letter k to `table` from index `at` on, and gives the next place; passes over any other line.
+fn put_row(line: &[u8], k: usize, table: &mut [u32], at: usize) -> usize
+    requires { ⌜ (0 < k) × (k < 11) × (wellFormed (ended (now line)) ≡ true) × (at + length (rowsRead (letterAt k) (now line ∷ [])) ≤ length (now table)) ⌝ }
+    ensures { λ r. ⌜ (r ≡ at + length (rowsRead (letterAt k) (now (line .entry) ∷ [])))
+        × (now (table .exit) ≡ sets (now (table .entry)) at (rowsRead (letterAt k) (now (line .entry) ∷ []))) ⌝ }
+{
+    if lent::byte_at(line, 0) == LETTERS[k] {
+        let w = as5506::WIDTHS[k];
+        fields::put_fields(line, w, table, at);
+        return at + w;
+    }
+    at
+}
+
+// Writes the rows of a letter k other than N to its table.
+fn put_rows(sheet: &[u8], k: usize, table: &mut [u32])
+    requires { ⌜ (0 < k) × (k < 11) × (allOf wellFormed (linesOf (now sheet)) ≡ true) × (length (rowsRead (letterAt k) (texts (now sheet))) ≤ length (now table)) ⌝ }
+    ensures { λ _. ⌜ now (table .exit) ≡ sets (now (table .entry)) 0 (rowsRead (letterAt k) (texts (now (sheet .entry)))) ⌝ }
+{
+    let mut from = 0;
+    let mut at = 0;
+    while from < sheet.len() {
+        let end = index_from(sheet, from, b'\n');
+        at = put_row(&sheet[from..end], k, table, at);
+        from = end + 1;
+    }
+}
+
+// Writes the name of an N line to the byte table from index `at` on; passes over any other line.
+fn put_name(line: &[u8], bytes: &mut [u8], at: usize)
+    requires { ⌜ (wellFormed (ended (now line)) ≡ true) ⌝ }
+    ensures { λ _. ⌜ now (bytes .exit) ≡ sets (now (bytes .entry)) at (each lineName (linesWith letterN (now (line .entry) ∷ []))) ⌝ }
+{
+    if lent::byte_at(line, 0) == b'N' {
+        lent::put_bytes(bytes, at, &line[2..]);
+    }
+}
+
+// Writes the names one after the other to the byte table.
+fn put_names(sheet: &[u8], bytes: &mut [u8])
+    requires { ⌜ (allOf wellFormed (linesOf (now sheet)) ≡ true) × (length (each lineName (linesWith letterN (texts (now sheet)))) ≤ length (now bytes)) ⌝ }
+    ensures { λ _. ⌜ now (bytes .exit) ≡ sets (now (bytes .entry)) 0 (each lineName (linesWith letterN (texts (now (sheet .entry))))) ⌝ }
+{
+    let mut from = 0;
+    let mut used = 0;
+    while from < sheet.len() {
+        let end = index_from(sheet, from, b'\n');
+        let line = &sheet[from..end];
+        put_name(line, bytes, used);
+        used += name_length(line);
+        from = end + 1;
+    }
+}
+
+// Writes the row of an N line, whose name stands at `used` in the byte table, to `n` from index `at` on, and gives the next place; passes over any other line.
+fn put_name_row(line: &[u8], n: &mut [u32], at: usize, used: usize) -> usize
+    requires { ⌜ (wellFormed (ended (now line)) ≡ true) × (used ≤ 16384) × (at + length (placed used (map lineName (linesWith letterN (now line ∷ [])))) ≤ length (now n)) ⌝ }
+    ensures { λ r. ⌜ (r ≡ at + length (placed used (map lineName (linesWith letterN (now (line .entry) ∷ [])))))
+        × (now (n .exit) ≡ sets (now (n .entry)) at (placed used (map lineName (linesWith letterN (now (line .entry) ∷ []))))) ⌝ }
+{
+    if lent::byte_at(line, 0) == b'N' {
+        n[at] = used as u32;
+        n[at + 1] = (line.len() - 2) as u32;
+        return at + 2;
+    }
+    at
+}
+
+// Writes the rows of N: each name's offset and length in the byte table.
+fn put_name_rows(sheet: &[u8], n: &mut [u32])
+    requires { ⌜ (length (now sheet) ≤ 16384) × (allOf wellFormed (linesOf (now sheet)) ≡ true) × (length (placed 0 (map lineName (linesWith letterN (texts (now sheet))))) ≤ length (now n)) ⌝ }
+    ensures { λ _. ⌜ now (n .exit) ≡ sets (now (n .entry)) 0 (placed 0 (map lineName (linesWith letterN (texts (now (sheet .entry)))))) ⌝ }
+{
+    let mut from = 0;
+    let mut at = 0;
+    let mut used = 0;
+    while from < sheet.len() {
+        let end = index_from(sheet, from, b'\n');
+        let line = &sheet[from..end];
+        at = put_name_row(line, n, at, used);
+        used += name_length(line);
+        from = end + 1;
+    }
+}
+
+// ---- the whole
+
+// Makes every lent place 0.
+fn clear_all(
+    bytes: &mut [u8],
+    n: &mut [u32],
+    c: &mut [u32],
+    f: &mut [u32],
+    x: &mut [u32],
+    p: &mut [u32],
+    i: &mut [u32],
+    t: &mut [u32],
+    q: &mut [u32],
+    u: &mut [u32],
+    e: &mut [u32],
+    r: &mut [u32],
+)
+    ensures { λ _. ⌜ Cleared
+        (tablesOf (now (bytes .entry)) (now (n .entry)) (now (c .entry)) (now (f .entry)) (now (x .entry)) (now (p .entry)) (now (i .entry)) (now (t .entry)) (now (q .entry)) (now (u .entry)) (now (e .entry)) (now (r .entry)))
+        (tablesOf (now (bytes .exit)) (now (n .exit)) (now (c .exit)) (now (f .exit)) (now (x .exit)) (now (p .exit)) (now (i .exit)) (now (t .exit)) (now (q .exit)) (now (u .exit)) (now (e .exit)) (now (r .exit))) ⌝ }
+{
+    lent::clear_bytes(bytes);
+    lent::clear_numbers(n);
+    lent::clear_numbers(c);
+    lent::clear_numbers(f);
+    lent::clear_numbers(x);
+    lent::clear_numbers(p);
+    lent::clear_numbers(i);
+    lent::clear_numbers(t);
+    lent::clear_numbers(q);
+    lent::clear_numbers(u);
+    lent::clear_numbers(e);
+    lent::clear_numbers(r);
+}
+
+// THE READER: the answer, and every lent slice afterwards. The tables are cleared first; a refusal leaves it at that.
+pub fn read_sheet(
+    sheet: &[u8],
+    bytes: &mut [u8],
+    n: &mut [u32],
+    c: &mut [u32],
+    f: &mut [u32],
+    x: &mut [u32],
+    p: &mut [u32],
+    i: &mut [u32],
+    t: &mut [u32],
+    q: &mut [u32],
+    u: &mut [u32],
+    e: &mut [u32],
+    r: &mut [u32],
+) -> SheetRead
+    ensures { λ z. ⌜ ReadInto
+        (tablesOf (now (bytes .entry)) (now (n .entry)) (now (c .entry)) (now (f .entry)) (now (x .entry)) (now (p .entry)) (now (i .entry)) (now (t .entry)) (now (q .entry)) (now (u .entry)) (now (e .entry)) (now (r .entry)))
+        (now (sheet .entry)) z
+        (tablesOf (now (bytes .exit)) (now (n .exit)) (now (c .exit)) (now (f .exit)) (now (x .exit)) (now (p .exit)) (now (i .exit)) (now (t .exit)) (now (q .exit)) (now (u .exit)) (now (e .exit)) (now (r .exit))) ⌝ }
+{
+    let room = Room {
+        bytes: bytes.len(),
+        numbers: [
+            n.len(),
+            c.len(),
+            f.len(),
+            x.len(),
+            p.len(),
+            i.len(),
+            t.len(),
+            q.len(),
+            u.len(),
+            e.len(),
+            r.len(),
+        ],
+    };
+    clear_all(bytes, n, c, f, x, p, i, t, q, u, e, r);
+    let read = check_sheet(sheet, room);
+    let SheetRead::Read(_) = read else {
+        return read;
+    };
+    put_names(sheet, bytes);
+    put_name_rows(sheet, n);
+    put_rows(sheet, 1, c);
+    put_rows(sheet, 2, f);
+    put_rows(sheet, 3, x);
+    put_rows(sheet, 4, p);
+    put_rows(sheet, 5, i);
+    put_rows(sheet, 6, t);
+    put_rows(sheet, 7, q);
+    put_rows(sheet, 8, u);
+    put_rows(sheet, 9, e);
+    put_rows(sheet, 10, r);
+    read
+}
