@@ -177,6 +177,10 @@ pub and-both : (a b : Bool) → T a → T b → T (a && b)
 and-both true b t u = u
 and-both false b t u = t
 
+pub and-false : (b : Bool) → b && false ≡ false
+and-false true = refl
+and-false false = refl
+
 pub not-not : (b : Bool) → T (not (not b)) → T b
 not-not true t = tt
 not-not false t = t

@@ -1,4 +1,5 @@
 pub mod Laws
+pub mod Scans
 pub mod Letters
 pub mod Whole
 pub mod Limit

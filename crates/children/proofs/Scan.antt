@@ -1,35 +1,23 @@
 -- Laws of the children that a name finds: what one more row adds, and that they are the definition's. Assumes nothing.
-use mathlib.Core.Bool.{Bool, true, false, _&&_}
+use mathlib.Core.Bool.{Bool, true, false}
 use mathlib.Core.Path.{_≡_, refl, sym, ap, ap₂, _∙_, subst}
 use mathlib.Core.List.{List, [], _∷_}
-use Prim.Native.Nat.{ℕ, suc, _+_, _-_, _*_, _≤_, _<_}
+use Prim.Native.Nat.{ℕ, _+_, _-_, _*_, _≤_, _<_}
 use native.Mathlib.Nat.{add-zero, sub-zero}
-use native.Mathlib.Numerals.{add-one}
 use native.Mathlib.Omega.{arith}
 use lib.Dec.{eqb}
 use lib.ListN.{length, getD}
 use borrow.Author.Tests.{eq-eqb, ne-eqb}
-use Rattle.as5506.specs.Lists.{span, putIf, keep, isNil, has, sameBytes}
+use Rattle.as5506.specs.Lists.{putIf, keep, isNil, has, sameBytes}
 use Rattle.as5506.specs.Tables.{Tables, missing, nameOf, rowsNaming, childrenOf, cCount, cParent, cIndex}
 use Rattle.as5506.specs.Names.{sameFolded, bracket, baseName}
 use Rattle.as5506.specs.Tracing.{isNamed, isElement, orElements, foundChildren}
+use Rattle.as5506.proofs.Scans.{span-next, span-done, keep-put}
 use Rattle.children.specs.declared.Rule.{Rule}
 use Rattle.children.specs.declared.Rule.the-variants.{Exact, Base}
 use Rattle.children.specs.declared.Child.{Child}
 use Rattle.children.specs.declared.Child.the-variants.{At, Nothing}
 use Rattle.children.specs.Found.{fits, isFound, childrenFrom, ruleBy, ruleFor, foundFrom, afterChild, Inside}
-
--- ---- rows
-
-pub span-next : (i n : ℕ) → i < n → span i (n - i) ≡ i ∷ span (i + 1) (n - (i + 1))
-span-next i n h = rw (let e : n - i ≡ suc (n - (i + 1)) = omega arith in e, add-one i)
-
-pub span-done : (i n : ℕ) → n ≤ i → span i (n - i) ≡ []
-span-done i n h = rw (let e : n - i ≡ 0 = omega arith in e)
-
-pub keep-put : (q : ℕ → Bool) (b : Bool) (x : ℕ) (l : List ℕ) → keep q (putIf b x l) ≡ putIf (b && q x) x (keep q l)
-keep-put q true x l = refl
-keep-put q false x l = refl
 
 module _ (m : Tables) (rule : Rule) (p : ℕ) (w : List ℕ) (i : ℕ) where
   pub children-end : cCount m ≤ i → childrenFrom m rule p w i ≡ []

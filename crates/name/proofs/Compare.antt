@@ -12,6 +12,7 @@ use lib.Seq.{take-length}
 use Rattle.as5506.specs.Lists.{sameBytes}
 use Rattle.as5506.specs.Tables.{Tables, nameOf}
 use Rattle.as5506.specs.Names.{foldByte, folded, key, sameFolded}
+use Rattle.as5506.proofs.Laws.{and-false}
 
 -- a list equals itself
 pub same-equal : (a b : List ℕ) → a ≡ b → true ≡ sameBytes a b
@@ -31,10 +32,6 @@ lengths-differ [] [] h = absurd (h refl)
 lengths-differ [] (y ∷ b) h = refl
 lengths-differ (x ∷ a) [] h = refl
 lengths-differ (x ∷ a) (y ∷ b) h = sym (ap (λ (c : Bool). eqb x y && c) (sym (lengths-differ a b (λ e. h (ap suc e)))) ∙ and-false (eqb x y))
-  where
-    and-false : (c : Bool) → c && false ≡ false
-    and-false true = refl
-    and-false false = refl
 
 -- ---- the loop: the first i bytes of both are still to be compared
 

@@ -9,6 +9,7 @@ use native.Mathlib.Numerals.{add-one}
 use native.Mathlib.Omega.{arith}
 use Rattle.as5506.specs.Lists.{span, putIf, keep, firstOf}
 use Rattle.as5506.proofs.Laws.{All}
+use Rattle.as5506.proofs.Scans.{keep-put}
 
 -- a row of a table of whole rows lies within the table
 pub row-within : (len width i : ℕ) → i < len / width → i * width + width ≤ len
@@ -17,18 +18,6 @@ row-within len width i h = omega (arith, div-mul-le-self len width, mul-le-mul-r
 -- ---- a scan, row by row
 
 module _ (p : ℕ → Bool) where
-  rows-step : (i n : ℕ) → i < n → keep p (span i (n - i)) ≡ putIf (p i) i (keep p (span (i + 1) (n - (i + 1))))
-  rows-step i n h = let e : n - i ≡ suc (n - (i + 1)) = omega arith in rw (e, add-one)
-
-  pub rows-hit : (i n : ℕ) → i < n → p i ≡ true → keep p (span i (n - i)) ≡ i ∷ keep p (span (i + 1) (n - (i + 1)))
-  rows-hit i n h q = rows-step i n h ∙ rw q
-
-  pub rows-miss : (i n : ℕ) → i < n → p i ≡ false → keep p (span i (n - i)) ≡ keep p (span (i + 1) (n - (i + 1)))
-  rows-miss i n h q = rows-step i n h ∙ rw q
-
-  pub rows-end : (i n : ℕ) → n ≤ i → keep p (span i (n - i)) ≡ []
-  rows-end i n h = let e : n - i ≡ 0 = omega arith in rw e
-
   -- ---- the first row from i on: a row from i on, and the others follow it
 
   abbrev IsFirst : ℕ → ℕ → ℕ → List ℕ → Type 0
@@ -56,17 +45,9 @@ module _ (p : ℕ → Bool) where
 
 -- ---- tests
 
-pub keep-same : (p q : ℕ → Bool) → ((i : ℕ) → p i ≡ q i) → (xs : List ℕ) → keep p xs ≡ keep q xs
-keep-same p q h [] = refl
-keep-same p q h (x ∷ xs) = rw (h x, keep-same p q h xs)
-
-both-by : (p q : ℕ → Bool) (b : Bool) (x : ℕ) (xs : List ℕ) → keep p (putIf b x xs) ≡ putIf (b && p x) x (keep p xs)
-both-by p q true x xs = refl
-both-by p q false x xs = refl
-
 pub keep-both : (p q : ℕ → Bool) (xs : List ℕ) → keep p (keep q xs) ≡ keep (λ i. q i && p i) xs
 keep-both p q [] = refl
-keep-both p q (x ∷ xs) = both-by p q (q x) x (keep q xs) ∙ rw (keep-both p q xs)
+keep-both p q (x ∷ xs) = keep-put p (q x) x (keep q xs) ∙ rw (keep-both p q xs)
 
 -- ---- the first of a list
 

@@ -16,7 +16,7 @@ use Rattle.as5506.specs.Rows.{Diag, diag}
 use Rattle.as5506.specs.Tracing.{shape, named, oneToOne, noChild, diagsBy, diagsAt, tracedDiags, faulty, across, neither}
 use Rattle.as5506.specs.Tracing.{Shape as TheShape}
 use Rattle.as5506.specs.Layout.{diagBlock}
-use Rattle.children.proofs.Scan.{span-next, span-done}
+use Rattle.as5506.proofs.Scans.{span-next, span-done}
 use Rattle.trace.specs.declared.Wrote.{Wrote}
 use Rattle.trace.specs.declared.Wrote.the-variants.{Count, Full}
 use Rattle.trace.specs.Writing.{Written}

@@ -12,7 +12,7 @@ use Rattle.as5506.specs.Tracing.{Chain, faulty, across, neither, chainsBy, chai
 use Rattle.as5506.specs.Tracing.{Shape as TheShape}
 use Rattle.as5506.specs.Layout.{tracedBlock}
 use Rattle.as5506.proofs.Laws.{all-of, each-same}
-use Rattle.children.proofs.Scan.{span-next, span-done}
+use Rattle.as5506.proofs.Scans.{span-next, span-done}
 use Rattle.trace.specs.declared.Side.{Side}
 use Rattle.trace.specs.declared.Side.the-variants.{Source, Destination}
 use Rattle.trace.specs.declared.Wrote.{Wrote}

@@ -16,7 +16,8 @@ use Rattle.tables.specs.declared.Rule.the-variants.{Keys}
 use Rattle.tables.specs.Answer.{checked}
 use Rattle.tables.specs.Tests.{samePart, samePartAt, sameKey, sameKeys, keyTaken}
 use Rattle.tables.specs.Order.{spanBy, spanOf, badRow, asked, refusedAt, over, tables, lengths, tableChecked, checkTable, checkRule}
-use Rattle.tables.proofs.Letters.{joined-head, ranked, rows-head, keep-same, table-rows}
+use Rattle.tables.proofs.Letters.{joined-head, ranked, rows-head, table-rows}
+use Rattle.as5506.proofs.Scans.{keep-same}
 
 -- ---- the definition's clashes: it keeps the keys of earlier rows in a list, the latest first
 module _ (keyOf : ℕ → Key) where

@@ -11,6 +11,7 @@ use Rattle.as5506.specs.Columns.{order, rank, letterByte}
 use Rattle.as5506.specs.Answers.{row, Refusal, refusal}
 use Rattle.as5506.specs.Refusals.{rowFaults}
 use Rattle.as5506.proofs.Laws.{All}
+use Rattle.as5506.proofs.Scans.{keep-same}
 use Rattle.tables.specs.declared.Rule.{Rule}
 use Rattle.tables.specs.declared.Rule.the-variants.{Whole, Few}
 use Rattle.tables.specs.declared.Checked.{Checked}
@@ -85,10 +86,6 @@ count-is m l = rw (ranked m l .long, ranked m l .wide)
 pub rows-head : (number : ℕ) (l : Letter) (is : List ℕ) → refusedAt number (letterByte l) is ≡ checked (map (λ i. refusal number (row l i)) is)
 rows-head number l [] = refl
 rows-head number l (i ∷ is) = refl
-
-pub keep-same : (p q : ℕ → Bool) → ((i : ℕ) → p i ≡ q i) → (is : List ℕ) → keep p is ≡ keep q is
-keep-same p q h [] = refl
-keep-same p q h (i ∷ is) = rw (h i, keep-same p q h is)
 
 pub keep-never : (p : ℕ → Bool) → ((i : ℕ) → p i ≡ false) → (is : List ℕ) → keep p is ≡ []
 keep-never p h [] = refl

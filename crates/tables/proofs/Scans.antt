@@ -2,23 +2,17 @@
 use mathlib.Core.Bool.{Bool, true, false}
 use mathlib.Core.Path.{_≡_, refl, sym, ap, subst, _∙_}
 use mathlib.Core.List.{List, [], _∷_}
-use Prim.Native.Nat.{ℕ, suc, _+_, _-_, _≤_, _<_}
+use Prim.Native.Nat.{ℕ, _+_, _-_, _≤_, _<_}
 use native.Mathlib.Omega.{arith}
-use native.Mathlib.Numerals.{add-one}
 use lib.Dec.{T}
 use lib.ListN.{getD}
 use Rattle.as5506.specs.Lists.{span, upTo, keep, allOf, anyOf}
+use Rattle.as5506.proofs.Scans.{span-next, span-done, keep-hit, keep-done}
 use Rattle.tables.specs.declared.Checked.{Checked}
 use Rattle.tables.specs.declared.Checked.the-variants.{Accepted, Refused}
 use Rattle.tables.specs.declared.Rule.{Rule}
 use Rattle.tables.specs.Order.{isRefused, orElse, over, refusedAt, numberOf, spanOf, badRow, checkTable}
 use Rattle.tables.specs.Tests.{letters}
-
-span-step : (i n : ℕ) → i < n → span i (n - i) ≡ i ∷ span (i + 1) (n - (i + 1))
-span-step i n h = let e : n - i ≡ suc (n - (i + 1)) = omega arith in rw (e, add-one i)
-
-pub span-end : (i n : ℕ) → n ≤ i → span i (n - i) ≡ []
-span-end i n h = let e : n - i ≡ 0 = omega arith in rw e
 
 -- where a loop starts nothing is done: f is what it makes of the rows that are left
 pub whole-left : {A : Type 0} (f : List ℕ → A) (n : ℕ) → f (span 0 (n - 0)) ≡ f (upTo n)
@@ -26,33 +20,24 @@ whole-left f n = let e : n - 0 ≡ n = omega arith in rw e
 
 -- ---- a loop that looks for a bad one
 module _ (p : ℕ → Bool) (i n : ℕ) (h : i < n) where
-  pub keep-hit : p i ≡ true → keep p (span i (n - i)) ≡ i ∷ keep p (span (i + 1) (n - (i + 1)))
-  keep-hit q = rw (span-step i n h, q)
-
-  pub keep-miss : p i ≡ false → keep p (span i (n - i)) ≡ keep p (span (i + 1) (n - (i + 1)))
-  keep-miss q = rw (span-step i n h, q)
-
   pub all-hit : p i ≡ true → allOf p (span i (n - i)) ≡ allOf p (span (i + 1) (n - (i + 1)))
-  all-hit q = rw (span-step i n h, q)
+  all-hit q = rw (span-next i n h, q)
 
   pub all-miss : p i ≡ false → allOf p (span i (n - i)) ≡ false
-  all-miss q = rw (span-step i n h, q)
+  all-miss q = rw (span-next i n h, q)
 
   pub any-hit : p i ≡ true → anyOf p (span i (n - i)) ≡ true
-  any-hit q = rw (span-step i n h, q)
+  any-hit q = rw (span-next i n h, q)
 
   pub any-miss : p i ≡ false → anyOf p (span i (n - i)) ≡ anyOf p (span (i + 1) (n - (i + 1)))
-  any-miss q = rw (span-step i n h, q)
+  any-miss q = rw (span-next i n h, q)
 
 module _ (p : ℕ → Bool) (i n : ℕ) (h : n ≤ i) where
-  pub keep-end : keep p (span i (n - i)) ≡ []
-  keep-end = rw (span-end i n h)
-
   pub all-end : allOf p (span i (n - i)) ≡ true
-  all-end = rw (span-end i n h)
+  all-end = rw (span-done i n h)
 
   pub any-end : anyOf p (span i (n - i)) ≡ false
-  any-end = rw (span-end i n h)
+  any-end = rw (span-done i n h)
 
 -- ---- refusals one after the other
 pub false-true : false ≡ true → ⊥
@@ -95,4 +80,4 @@ module _ (bytes n t lens : List ℕ) (rule : Rule) (k : ℕ) where
   pub table-passes : (i count : ℕ) → count ≡ spanOf lens rule k → count ≤ i → left i count ≡ left 0 count → Accepted ≡ checkTable bytes n t lens rule k
   unfolding checkTable
   table-passes i count e h so =
-      rw (← e) (ap (refusedAt (numberOf rule) (getD letters k 0)) (sym (keep-end (badRow bytes n t lens rule k) i count h) ∙ so ∙ whole-left (keep (badRow bytes n t lens rule k)) count))
+      rw (← e) (ap (refusedAt (numberOf rule) (getD letters k 0)) (sym (keep-done (badRow bytes n t lens rule k) i count h) ∙ so ∙ whole-left (keep (badRow bytes n t lens rule k)) count))

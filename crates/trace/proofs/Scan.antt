@@ -18,7 +18,8 @@ use Rattle.children.specs.declared.Rule.the-variants.{Exact, Base}
 use Rattle.children.specs.declared.Child.{Child}
 use Rattle.children.specs.declared.Child.the-variants.{At as ChildAt, Nothing}
 use Rattle.children.specs.Found.{componentsIn, fits, childrenFrom, ruleBy, ruleFor, foundFrom, afterChild}
-use Rattle.children.proofs.Scan.{span-next, span-done, keep-put, found-from-start}
+use Rattle.children.proofs.Scan.{found-from-start}
+use Rattle.as5506.proofs.Scans.{span-next, span-done, keep-put}
 use Rattle.trace.specs.declared.Step.{Step}
 use Rattle.trace.specs.declared.Step.the-variants.{At, Done}
 use Rattle.trace.specs.Steps.{tracingIn, isStep, listIf, leadsTo, stepsAt, stepsFrom, step, afterStep, Within}

@@ -8,7 +8,8 @@ use lib.ListN.{length}
 use borrow.Author.Needs.{needs}
 use Rattle.as5506.specs.Lists.{span, keep, firstOf}
 use Rattle.resolver.specs.Keys.{rowHasKey, rowsWithKey}
-use Rattle.resolver.proofs.Scan.{row-within, rows-hit, rows-miss, rows-end}
+use Rattle.resolver.proofs.Scan.{row-within}
+use Rattle.as5506.proofs.Scans.{keep-hit, keep-miss, keep-done}
 use Rattle.resolver.proofs.find_row.Statement.{statement}
 use Rattle.resolver.proofs.find_row.Tie as tie
 
@@ -49,7 +50,7 @@ has-key-requires : tie.Need-has-key-requires Inv-loop μ-loop
 has-key-requires c κs = omega (arith, within c)
 
 returns : tie.Need-returns Inv-loop μ-loop
-returns c = sym (c .before .before .before .loop .inv ∙ ap firstOf (rows-hit (test (c .before .before .before .before .before .before .before)) (c .before .before .before .loop .row) (count (c .before .before .before .before .before .before .before)) (c .before .before .loop-test .taken) (sym (tested (c .before)) ∙ c .if1 .taken)))
+returns c = sym (c .before .before .before .loop .inv ∙ ap firstOf (keep-hit (test (c .before .before .before .before .before .before .before)) (c .before .before .before .loop .row) (count (c .before .before .before .before .before .before .before)) (c .before .before .loop-test .taken) (sym (tested (c .before)) ∙ c .if1 .taken)))
 
 add-row : tie.Need-add-row Inv-loop μ-loop
 add-row c = omega (arith, div-le-self (length (c .before .before .before .before .before .before .before .args .table .now)) (c .before .before .before .before .before .before .before .args .width), c .before .before .loop-test .taken)
@@ -58,10 +59,10 @@ loop-less : tie.Need-loop-less Inv-loop μ-loop
 loop-less c = omega (arith, c .before .before .loop-test .taken)
 
 loop-again : tie.Need-loop-again Inv-loop μ-loop
-loop-again c = c .before .before .before .loop .inv ∙ ap firstOf (rows-miss (test (c .before .before .before .before .before .before .before)) (c .before .before .before .loop .row) (count (c .before .before .before .before .before .before .before)) (c .before .before .loop-test .taken) (sym (tested (c .before)) ∙ c .if1 .left))
+loop-again c = c .before .before .before .loop .inv ∙ ap firstOf (keep-miss (test (c .before .before .before .before .before .before .before)) (c .before .before .before .loop .row) (count (c .before .before .before .before .before .before .before)) (c .before .before .loop-test .taken) (sym (tested (c .before)) ∙ c .if1 .left))
 
 returns-2 : tie.Need-returns-2 Inv-loop μ-loop
-returns-2 c = sym (c .before .loop .inv ∙ ap firstOf (rows-end (test (c .before .before .before .before .before)) (c .before .loop .row) (count (c .before .before .before .before .before)) (omega arith)))
+returns-2 c = sym (c .before .loop .inv ∙ ap firstOf (keep-done (test (c .before .before .before .before .before)) (c .before .loop .row) (count (c .before .before .before .before .before)) (omega arith)))
 
 pub find-row-spec : {M : Type 1} → statement M
 find-row-spec =

@@ -4,7 +4,8 @@ use mathlib.Core.Bool.{Bool}
 use Prim.Native.Nat.{_-_, _≤_, ℕ}
 use native.Mathlib.Omega.{arith}
 use Rattle.tables.specs.Order.{badRow}
-use Rattle.tables.proofs.Scans.{keep-miss, refused-stays, accepted-goes, left, table-refused, table-passes}
+use Rattle.tables.proofs.Scans.{refused-stays, accepted-goes, left, table-refused, table-passes}
+use Rattle.as5506.proofs.Scans.{keep-miss}
 use Rattle.tables.proofs.check_table.Statement.{statement}
 use Rattle.tables.proofs.check_table.Tie as tie
 
