@@ -4,7 +4,7 @@ use mathlib.Core.Bool.{Bool, true, false, not, _&&_, cond}
 use mathlib.Core.Path.{_≡_, refl, sym, ap, ap₂, _∙_, subst}
 use mathlib.Core.List.{List, [], _∷_, _++_, map}
 use mathlib.Core.Option.{Option, none, some}
-use Prim.Native.Nat.{ℕ, suc, _+_, _-_, _*_}
+use Prim.Native.Nat.{ℕ, suc, _+_, _-_, _*_, _/_}
 use Prim.Native.String.{String}
 use lib.Dec.{T, eqb, leb, eqb→eq, eqb-refl, T-not}
 use lib.ListN.{length, getD, drop}
@@ -15,12 +15,12 @@ use Rattle.as5506.specs.Answers.{Place, nowhere, line, row, Refusal, ref
 use Rattle.as5506.specs.Sheet.{Lent, lentOf, readSheet, tableAfter, bytesAfter, rowsAfter, usedAfter}
 use Rattle.as5506.specs.Refusals.{faults10, faults, accepted}
 use Rattle.as5506.specs.Resolve.{Resolved, componentType, componentImpl, groupType, unresolved, resolve}
-use Rattle.as5506.specs.Groups.{Feature, Expansion, expand, expansionWithin, expansionAfter}
+use Rattle.as5506.specs.Groups.{Feature, Expansion, expand}
 use Rattle.as5506.specs.Rows.{Row}
 use Rattle.as5506.specs.Tracing.{foundChildren, rows, unlimited, stepLimit}
 use Rattle.as5506.specs.GroupList.{GroupConnection}
-use Rattle.as5506.specs.Listing.{Room, BothLists, groupOf, tracedAnswer, groupAnswer, bothAnswer}
-use Rattle.as5506.specs.Layout.{roomIn, output, tracedRowNumbers, tracedDiagNumbers, groupRowNumbers, groupDiagNumbers, composedNames, ofTraced, ofGroup}
+use Rattle.as5506.specs.Listing.{Room, BothLists, groupOf, expansionWithin, expansionAfter, expandAnswer, tracedAnswer, groupAnswer, bothAnswer}
+use Rattle.as5506.specs.Layout.{roomIn, output, featureNumbers, tracedRowNumbers, tracedDiagNumbers, groupRowNumbers, groupDiagNumbers, expansionNumbers, composedNames, ofTraced, ofGroup}
 use Rattle.as5506.specs.Text.{column}
 use Rattle.as5506.specs.Program.{lent, room, namesLent, textLent, printedOrRefusal, textAfter, conlist}
 use Rattle.as5506.proofs.Laws.{All, and-left, and-right, and-both}
@@ -219,8 +219,10 @@ pub data Trial : Type 0 where
   resolves : List String → Resolved → Trial
   -- tables, the names of the asking package and of the group: the features and the number of visits
   expands : Tables → ℕ → ℕ → List String → ℕ → Trial
-  -- an expansion: 13 or not, and what is left of it
-  stops : Expansion → Option Refusal → ℕ → ℕ → Trial
+  -- room for features and an expansion: 13, 11 or neither, and what is left of it
+  stops : ℕ → Expansion → Option Refusal → ℕ → ℕ → Trial
+  -- tables, the names of the asking package and of the group, the inverse flag: the refusal or none, and the output of features afterwards
+  expandsInto : Tables → ℕ → ℕ → Bool → Option Refusal → List ℕ → Trial
   children : Tables → ℕ → String → List ℕ → Trial
   -- the rows of at most 20 steps are the rows without a limit; they are not
   whole : Tables → Trial
@@ -249,8 +251,13 @@ Means (checks m r) = firstOf (faults m) ≡ r
 Means (checks10 m r) = firstOf (faults10 m) ≡ r
 Means (resolves ls r) = resolve (model ls) (askedFrom (question ls)) (askedFor (question ls)) ≡ r
 Means (expands m g u fs visits) = (featureTexts m (expand m g u) ≡ map bytesOf fs) × (expand m g u .visits ≡ visits)
-Means (stops x r fs visits) =
-    (refusalOf (expansionWithin x) ≡ r) × (length (expansionAfter (expansionWithin x) .features) ≡ fs) × (expansionAfter (expansionWithin x) .visits ≡ visits)
+Means (stops room x r fs visits) =
+    (refusalOf (expansionWithin room x) ≡ r)
+    × (length (expansionAfter (expansionWithin room x) .features) ≡ fs)
+    × (expansionAfter (expansionWithin room x) .visits ≡ visits)
+Means (expandsInto m g u inverse r out) =
+    (refusalOf (expandAnswer (length out / featureNumbers) m g u inverse) ≡ r)
+    × (output (length out) expansionNumbers (expandAnswer (length out / featureNumbers) m g u inverse) ≡ out)
 Means (children m c s l) = foundChildren m c (bytesOf s) ≡ l
 Means (whole m) = T (accepted m) × (rows stepLimit m ≡ unlimited m)
 Means (cut m) = T (accepted m) × (rows stepLimit m ≡ unlimited m → ⊥)
@@ -438,9 +445,12 @@ passes (checks m r) = sameRefusal (firstOf (faults m)) r
 passes (checks10 m r) = sameRefusal (firstOf (faults10 m)) r
 passes (resolves ls r) = sameFound (resolve (model ls) (askedFrom (question ls)) (askedFor (question ls))) r
 passes (expands m g u fs visits) = sameLists (featureTexts m (expand m g u)) (map bytesOf fs) && eqb (expand m g u .visits) visits
-passes (stops x r fs visits) =
-    sameRefusal (refusalOf (expansionWithin x)) r
-    && (eqb (length (expansionAfter (expansionWithin x) .features)) fs && eqb (expansionAfter (expansionWithin x) .visits) visits)
+passes (stops room x r fs visits) =
+    sameRefusal (refusalOf (expansionWithin room x)) r
+    && (eqb (length (expansionAfter (expansionWithin room x) .features)) fs && eqb (expansionAfter (expansionWithin room x) .visits) visits)
+passes (expandsInto m g u inverse r out) =
+    sameRefusal (refusalOf (expandAnswer (length out / featureNumbers) m g u inverse)) r
+    && sameBytes (output (length out) expansionNumbers (expandAnswer (length out / featureNumbers) m g u inverse)) out
 passes (children m c s l) = sameBytes (foundChildren m c (bytesOf s)) l
 passes (whole m) = accepted m && sameRows (rows stepLimit m) (unlimited m)
 passes (cut m) = accepted m && not (sameRows (rows stepLimit m) (unlimited m))
@@ -476,8 +486,9 @@ meant (checks m r) t = same-refusal (firstOf (faults m)) r t
 meant (checks10 m r) t = same-refusal (firstOf (faults10 m)) r t
 meant (resolves ls r) t = same-found (resolve (model ls) (askedFrom (question ls)) (askedFor (question ls))) r t
 meant (expands m g u fs visits) t = (same-lists _ (map bytesOf fs) (search and-left), eqb→eq _ visits (search (and-left, and-right)))
-meant (stops x r fs visits) t =
+meant (stops room x r fs visits) t =
     (same-refusal _ r (search and-left), eqb→eq _ fs (search (and-left, and-right)), eqb→eq _ visits (search (and-left, and-right)))
+meant (expandsInto m g u inverse r out) t = (same-refusal _ r (search and-left), same-bytes _ out (search and-right))
 meant (children m c s l) t = same-bytes (foundChildren m c (bytesOf s)) l t
 meant (whole m) t = (and-left (accepted m) _ t, same-rows (rows stepLimit m) (unlimited m) (and-right (accepted m) _ t))
 meant (cut m) t = (

@@ -1,10 +1,11 @@
--- How rows, diagnostics and names lie in lent outputs. Assumes nothing.
+-- How rows, diagnostics, names and features lie in lent outputs. Assumes nothing.
 use mathlib.Core.List.{List, [], _∷_}
 use Prim.Native.Nat.{ℕ, zero, suc, _/_}
 use lib.ListN.{length, getD, take, drop}
 use Rattle.as5506.specs.Lists.{each, zeros, padded}
 use Rattle.as5506.specs.Tables.{Tables, nameOf, xName}
 use Rattle.as5506.specs.Answers.{Answer, given, refused}
+use Rattle.as5506.specs.Groups.{Feature, Expansion, depthLimit}
 use Rattle.as5506.specs.Rows.{Row, Diag}
 use Rattle.as5506.specs.Tracing.{Traced}
 use Rattle.as5506.specs.Listing.{Room, TracedList, GroupList, BothLists, rowNames}
@@ -39,6 +40,13 @@ groupBlock r = rowBlock (r .conn) (r .kind) (r .src) (r .dst) (length (r .name))
 unfoldable pub diagBlock : Diag → List ℕ
 diagBlock d = d .code ∷ d .conn ∷ d .one ∷ d .two ∷ []
 
+-- a feature of an expansion: name, kind, direction, and its prefix, a name for each visit that it may lie below the first
+abbrev pub featureNumbers : ℕ
+featureNumbers = 14
+
+unfoldable pub featureBlock : Feature → List ℕ
+featureBlock f = f .name ∷ f .kind ∷ f .direction ∷ length (f .prefix) ∷ padded depthLimit (f .prefix)
+
 -- ---- every lent output, of length n, afterwards. "A refusal leaves zeros .. After success unused output is zero"
 
 abbrev pub output : ℕ → {A : Type 0} → (A → List ℕ) → Answer A → List ℕ
@@ -57,6 +65,9 @@ groupRowNumbers g = each groupBlock (g .rows)
 
 unfoldable pub groupDiagNumbers : GroupList → List ℕ
 groupDiagNumbers g = each diagBlock (g .diags)
+
+unfoldable pub expansionNumbers : Expansion → List ℕ
+expansionNumbers x = each featureBlock (x .features)
 
 -- "Each row's names (row, source, destination)"
 unfoldable pub composedNames : GroupList → List ℕ

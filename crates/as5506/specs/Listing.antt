@@ -1,4 +1,4 @@
--- The listings' answers: rows and diagnostics, or a refusal. Assumes nothing.
+-- The answers of the listings and of an expansion: rows and diagnostics, features and visits, or a refusal. Assumes nothing.
 use mathlib.Core.Bool.{Bool}
 use mathlib.Core.List.{List, [], _∷_, _++_}
 use Prim.Native.Nat.{ℕ, _+_}
@@ -8,6 +8,7 @@ use Rattle.as5506.specs.Lists.{total}
 use Rattle.as5506.specs.Tables.{Tables}
 use Rattle.as5506.specs.Answers.{Refusal, Answer, given, refused, fault, unlessFaults}
 use Rattle.as5506.specs.Refusals.{faults}
+use Rattle.as5506.specs.Groups.{Expansion, joined, expandFeatureGroup, tooManyVisits}
 use Rattle.as5506.specs.Rows.{Row, Diag}
 use Rattle.as5506.specs.Tracing.{Traced, traced, tracedDiags, stepLimit}
 use Rattle.as5506.specs.GroupList.{GroupConnection, groupConnections, overrun, Match, matches, rowsMatched, diagsMatched}
@@ -70,7 +71,26 @@ groupListOf m ms = record { rows = rowsMatched m ms; diags = diagsMatched ms }
 unfoldable pub groupOf : Room → ℕ → Tables → List GroupConnection → Answer GroupList
 groupOf room names m bs = groupWithin room names (overrun bs) (groupListOf m (matches m bs))
 
--- ---- THE THREE CALLS: tables that are not accepted are refused before any listing
+-- ---- an expansion
+
+-- in the table's order 13, 11; room: how many features the output holds. "Over 65,536 the expansion stops: 13"
+unfoldable pub expansionWithin : ℕ → Expansion → Answer Expansion
+expansionWithin room x = unlessFaults (fault 13 (tooManyVisits x) ++ fault 11 (ltb room (length (x .features)))) x
+
+-- what an answer holds: after a refusal "count 0, no features"
+unfoldable pub expansionAfter : Answer Expansion → Expansion
+expansionAfter (given x) = x
+expansionAfter (refused r) = joined []
+
+-- ---- THE FOUR CALLS: tables that are not accepted are refused before any listing or expansion
+
+unfoldable pub expandOn : ℕ → Expansion → List Refusal → Answer Expansion
+expandOn room x [] = expansionWithin room x
+expandOn room x (r ∷ rs) = refused r
+
+-- the expansion of a group type by its name, asked from a package, with the inverse flag
+unfoldable pub expandAnswer : ℕ → Tables → ℕ → ℕ → Bool → Answer Expansion
+expandAnswer room m from name inverse = expandOn room (expandFeatureGroup m from name inverse) (faults m)
 
 unfoldable pub tracedOn : Room → Tables → List Refusal → Answer TracedList
 tracedOn room m [] = tracedWithin room (tracedList m)

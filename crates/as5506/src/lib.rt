@@ -20,6 +20,10 @@ pub const ROW_NUMBERS: usize = 49;
 pub const PATH_PLACES: usize = 41;
 
 pub const DIAGNOSTIC_NUMBERS: usize = 4;
+// A feature of an expansion: name, kind, direction, length of its prefix, 10 places.
+pub const FEATURE_NUMBERS: usize = 14;
+
+pub const PREFIX_PLACES: usize = 10;
 
 // A refusal as document 01 prints it: its number, its place (a line, a row, else 0) and the letter of the place's table, or `-`.
 pub struct Refusal {

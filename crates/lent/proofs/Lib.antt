@@ -1,3 +1,4 @@
 pub mod Sets
 pub mod Padded
+pub mod Append
 mod Turns

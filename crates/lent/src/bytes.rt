@@ -3,6 +3,7 @@ ghost use mathlib.Core.Path.{_≡_};
 ghost use lib.ListN.{length, getD, take, drop, set};
 ghost use lib.Seq.{sets};
 ghost use Rattle.as5506.specs.Lists.{zeros};
+ghost use Rattle.lent.specs.Append.{filled, append};
 
 // The byte at place i, 0 past the end.
 pub fn byte_at(s: &[u8], i: usize) -> u8
@@ -60,4 +61,20 @@ pub fn put_bytes(out: &mut [u8], at: usize, block: &[u8])
         place += 1;
         k += 1;
     }
+}
+
+// Writes a piece behind the first `used` bytes, if there is room for the whole of it: how many are used then, one more than there are where
+// there is no room.
+pub fn append_bytes(out: &mut [u8], used: usize, piece: &[u8]) -> usize
+    ensures { λ r. ⌜ filled (now (out .exit)) r ≡ append (now (piece .entry)) (filled (now (out .entry)) used) ⌝ }
+{
+    let len = out.len();
+    if len < used {
+        return len + 1;
+    }
+    if len - used < piece.len() {
+        return len + 1;
+    }
+    put_bytes(out, used, piece);
+    used + piece.len()
 }

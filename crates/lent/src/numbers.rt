@@ -3,6 +3,7 @@ ghost use mathlib.Core.Path.{_≡_};
 ghost use lib.ListN.{length, getD, set};
 ghost use lib.Seq.{sets};
 ghost use Rattle.as5506.specs.Lists.{zeros};
+ghost use Rattle.lent.specs.Append.{filled, append};
 
 // The number at place i, 0 past the end.
 pub fn number_at(s: &[u32], i: usize) -> u32
@@ -45,4 +46,20 @@ pub fn put_numbers(out: &mut [u32], at: usize, block: &[u32])
         place += 1;
         k += 1;
     }
+}
+
+// Writes a piece behind the first `used` numbers, if there is room for the whole of it: how many are used then, one more than there are where
+// there is no room.
+pub fn append_numbers(out: &mut [u32], used: usize, piece: &[u32]) -> usize
+    ensures { λ r. ⌜ filled (now (out .exit)) r ≡ append (now (piece .entry)) (filled (now (out .entry)) used) ⌝ }
+{
+    let len = out.len();
+    if len < used {
+        return len + 1;
+    }
+    if len - used < piece.len() {
+        return len + 1;
+    }
+    put_numbers(out, used, piece);
+    used + piece.len()
 }

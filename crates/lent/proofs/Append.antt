@@ -1,0 +1,89 @@
+-- Laws of `append` and `appendAll`: pieces written one behind the other, all of them in full, or the output is told to be full. Assumes nothing.
+use mathlib.Core.Bool.{Bool, true, false}
+use mathlib.Core.Path.{_≡_, refl, sym, ap, subst, _∙_}
+use mathlib.Core.List.{List, [], _∷_, _++_}
+use Prim.Native.Nat.{ℕ, _+_, _≤_, _<_}
+use native.Mathlib.Nat.{add-zero}
+use native.Mathlib.Omega.{arith}
+use native.Mathlib.Decide.{decLe}
+use borrow.Author.Tests.{le-leb, lt-leb}
+use lib.Dec.{leb}
+use lib.ListN.{length, length-append}
+use lib.Seq.{sets, length-sets}
+use Rattle.lent.specs.Append.{Filled, filled, appendBy, append, appendAll, together}
+use Rattle.lent.proofs.Sets.{sets-append}
+
+-- ---- one piece
+
+pub append-fits : (p : List ℕ) (o : Filled) → o .used + length p ≤ length (o .holds) → append p o ≡ filled (sets (o .holds) (o .used) p) (o .used + length p)
+unfolding append appendBy
+append-fits p o h = ap (λ (b : Bool). appendBy b p o) (le-leb _ _ h)
+
+pub append-full : (p : List ℕ) (o : Filled) → length (o .holds) < o .used + length p → append p o ≡ filled (o .holds) (length (o .holds) + 1)
+unfolding append appendBy
+append-full p o h = ap (λ (b : Bool). appendBy b p o) (lt-leb _ _ h)
+
+append-by-length : (b : Bool) (p : List ℕ) (o : Filled) → length (appendBy b p o .holds) ≡ length (o .holds)
+unfolding appendBy
+append-by-length true p o = length-sets (o .holds) (o .used) p
+append-by-length false p o = refl
+
+pub append-length : (p : List ℕ) (o : Filled) → length (append p o .holds) ≡ length (o .holds)
+unfolding append
+append-length p o = append-by-length (leb (o .used + length p) (length (o .holds))) p o
+
+pub append-bound : (p : List ℕ) (o : Filled) → append p o .used ≤ length (o .holds) + 1
+append-bound p o = go (decLe (o .used + length p) (length (o .holds)))
+  where
+    go : Dec (o .used + length p ≤ length (o .holds)) → append p o .used ≤ length (o .holds) + 1
+    go (yes h) = rw (append-fits p o h) (omega (arith, h))
+    go (no h) = rw (append-full p o (omega (arith, h))) (omega arith)
+
+-- with what comes behind it there is no room: after it, neither
+past : (p : List ℕ) (o : Filled) (n : ℕ) → length (o .holds) < o .used + length p + n → length (o .holds) < append p o .used + n
+past p o n b = go (decLe (o .used + length p) (length (o .holds)))
+  where
+    go : Dec (o .used + length p ≤ length (o .holds)) → length (o .holds) < append p o .used + n
+    go (yes h) = rw (append-fits p o h) b
+    go (no h) = rw (append-full p o (omega (arith, h))) (omega arith)
+
+-- ---- pieces, one behind the other
+
+pub all-length : (ps : List (List ℕ)) (o : Filled) → length (appendAll ps o .holds) ≡ length (o .holds)
+unfolding appendAll
+all-length [] o = refl
+all-length (p ∷ ps) o = all-length ps (append p o) ∙ append-length p o
+
+pub all-bound : (ps : List (List ℕ)) (o : Filled) → o .used ≤ length (o .holds) + 1 → appendAll ps o .used ≤ length (o .holds) + 1
+unfolding appendAll
+all-bound [] o h = h
+all-bound (p ∷ ps) o h =
+    subst (λ (k : ℕ). appendAll ps (append p o) .used ≤ k + 1) (append-length p o) (all-bound ps (append p o) (rw (append-length p o) (append-bound p o)))
+
+pub all-append : (ps qs : List (List ℕ)) (o : Filled) → appendAll (ps ++ qs) o ≡ appendAll qs (appendAll ps o)
+unfolding appendAll
+all-append [] qs o = refl
+all-append (p ∷ ps) qs o = all-append ps qs (append p o)
+
+-- there is room for all of them
+pub all-fit : (ps : List (List ℕ)) (o : Filled) → o .used + length (together ps) ≤ length (o .holds)
+    → appendAll ps o ≡ filled (sets (o .holds) (o .used) (together ps)) (o .used + length (together ps))
+unfolding appendAll
+all-fit [] o h = ap (filled (o .holds)) (sym (add-zero (o .used)))
+all-fit (p ∷ ps) o h =
+    let k : length (p ++ together ps) ≡ length p + length (together ps) = length-append p (together ps) in
+    let one : append p o ≡ filled (sets (o .holds) (o .used) p) (o .used + length p) = append-fits p o (omega (arith, h, k)) in
+    ap (appendAll ps) one
+    ∙ all-fit ps (filled (sets (o .holds) (o .used) p) (o .used + length p)) (rw (length-sets (o .holds) (o .used) p) (omega (arith, h, k)))
+    ∙ ap (λ (l : List ℕ). filled l (o .used + length p + length (together ps))) (sym (sets-append p (together ps) (o .holds) (o .used)))
+    ∙ ap (filled (sets (o .holds) (o .used) (p ++ together ps))) (omega (arith, k))
+
+-- there is not
+pub all-full : (ps : List (List ℕ)) (o : Filled) → o .used ≤ length (o .holds) + 1 → length (o .holds) < o .used + length (together ps)
+    → appendAll ps o .used ≡ length (o .holds) + 1
+unfolding appendAll
+all-full [] o b h = omega (arith, b, h)
+all-full (p ∷ ps) o b h =
+    let k : length (p ++ together ps) ≡ length p + length (together ps) = length-append p (together ps) in
+    let then : length (o .holds) < append p o .used + length (together ps) = past p o (length (together ps)) (omega (arith, h, k)) in
+    all-full ps (append p o) (rw (append-length p o) (append-bound p o)) (rw (append-length p o) then) ∙ ap (λ (n : ℕ). n + 1) (append-length p o)

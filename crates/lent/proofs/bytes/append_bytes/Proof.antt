@@ -1,0 +1,51 @@
+use mathlib.Core.Path.{sym, ap, _∙_}
+use mathlib.Core.List.{List}
+use Prim.Native.Nat.{ℕ, _+_}
+use native.Mathlib.Omega.{arith}
+use borrow.Author.Needs.{needs}
+use lib.ListN.{length}
+use Rattle.lent.specs.Append.{filled}
+use Rattle.lent.proofs.Append.{append-fits, append-full}
+use Rattle.lent.proofs.bytes.append_bytes.Statement.{statement}
+use Rattle.lent.proofs.bytes.append_bytes.Tie as tie
+use Rattle.lent.proofs.bytes.append_bytes.Reads as reads
+use Rattle.lent.proofs.bytes.append_bytes.Lts as lts
+use Rattle.lent.proofs.bytes.put_bytes.Reads as put-bytes-reads
+
+add-result : tie.Need-add-result
+add-result c = search needs
+
+returns : tie.Need-returns
+returns c = sym (append-full _ _ (omega arith))
+
+add-result-2 : tie.Need-add-result-2
+add-result-2 c = search needs
+
+returns-2 : tie.Need-returns-2
+returns-2 c = sym (append-full _ _ (omega arith))
+
+put-bytes-requires : tie.Need-put-bytes-requires
+put-bytes-requires c κs = search needs
+
+add-result-3 : tie.Need-add-result-3
+add-result-3 c = search needs
+
+same-length : tie.Need-same-length
+same-length c = search needs
+
+returns-3 : tie.Need-returns-3
+returns-3 c = ap (λ (l : List ℕ). filled l (c .before .before .before .before .before .before .before .before .args .used + length (c .before .before .before .before .before .before .before .before .args .piece .now))) (c .before .before .put-bytes .ensures)
+    ∙ sym (append-fits (c .before .before .before .before .before .before .before .before .args .piece .now) (filled (c .before .before .before .before .before .before .before .before .args .out .now) (c .before .before .before .before .before .before .before .before .args .used)) (omega arith))
+
+pub append-bytes-spec : {M : Type 1} → statement M
+append-bytes-spec =
+    tie.close
+    (tie.spec
+    add-result
+    returns
+    add-result-2
+    returns-2
+    put-bytes-requires
+    add-result-3
+    same-length
+    returns-3)

@@ -1,0 +1,51 @@
+use mathlib.Core.Path.{sym, ap, _∙_}
+use mathlib.Core.List.{List}
+use Prim.Native.Nat.{ℕ, _+_}
+use native.Mathlib.Omega.{arith}
+use borrow.Author.Needs.{needs}
+use lib.ListN.{length}
+use Rattle.lent.specs.Append.{filled}
+use Rattle.lent.proofs.Append.{append-fits, append-full}
+use Rattle.lent.proofs.numbers.append_numbers.Statement.{statement}
+use Rattle.lent.proofs.numbers.append_numbers.Tie as tie
+use Rattle.lent.proofs.numbers.append_numbers.Reads as reads
+use Rattle.lent.proofs.numbers.append_numbers.Lts as lts
+use Rattle.lent.proofs.numbers.put_numbers.Reads as put-numbers-reads
+
+add-result : tie.Need-add-result
+add-result c = search needs
+
+returns : tie.Need-returns
+returns c = sym (append-full _ _ (omega arith))
+
+add-result-2 : tie.Need-add-result-2
+add-result-2 c = search needs
+
+returns-2 : tie.Need-returns-2
+returns-2 c = sym (append-full _ _ (omega arith))
+
+put-numbers-requires : tie.Need-put-numbers-requires
+put-numbers-requires c κs = search needs
+
+add-result-3 : tie.Need-add-result-3
+add-result-3 c = search needs
+
+same-length : tie.Need-same-length
+same-length c = search needs
+
+returns-3 : tie.Need-returns-3
+returns-3 c = ap (λ (l : List ℕ). filled l (c .before .before .before .before .before .before .before .before .args .used + length (c .before .before .before .before .before .before .before .before .args .piece .now))) (c .before .before .put-numbers .ensures)
+    ∙ sym (append-fits (c .before .before .before .before .before .before .before .before .args .piece .now) (filled (c .before .before .before .before .before .before .before .before .args .out .now) (c .before .before .before .before .before .before .before .before .args .used)) (omega arith))
+
+pub append-numbers-spec : {M : Type 1} → statement M
+append-numbers-spec =
+    tie.close
+    (tie.spec
+    add-result
+    returns
+    add-result-2
+    returns-2
+    put-numbers-requires
+    add-result-3
+    same-length
+    returns-3)
