@@ -6,7 +6,7 @@ use Rattle.as5506.specs.Lists.{each, zeros, padded}
 use Rattle.as5506.specs.Tables.{Tables, nameOf, xName}
 use Rattle.as5506.specs.Answers.{Answer, given, refused}
 use Rattle.as5506.specs.Groups.{Feature, Expansion, depthLimit}
-use Rattle.as5506.specs.Rows.{Row, Diag}
+use Rattle.as5506.specs.Rows.{Row, Diag, diag}
 use Rattle.as5506.specs.Tracing.{Traced}
 use Rattle.as5506.specs.Listing.{Room, TracedList, GroupList, BothLists, rowNames}
 
@@ -122,3 +122,12 @@ namesBehind b names = drop (getD b 6 0) (drop (getD b 5 0) (drop (getD b 4 0) na
 unfoldable pub groupRowsBack : ℕ → List ℕ → List ℕ → List Row
 groupRowsBack zero out names = []
 groupRowsBack (suc n) out names = groupBack (take rowNumbers out) names ∷ groupRowsBack n (drop rowNumbers out) (namesBehind (take rowNumbers out) names)
+
+-- ---- and diagnostics
+
+unfoldable pub diagBack : List ℕ → Diag
+diagBack b = diag (getD b 0 0) (getD b 1 0) (getD b 2 0) (getD b 3 0)
+
+unfoldable pub diagsBack : ℕ → List ℕ → List Diag
+diagsBack zero out = []
+diagsBack (suc n) out = diagBack (take diagNumbers out) ∷ diagsBack n (drop diagNumbers out)

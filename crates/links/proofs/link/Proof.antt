@@ -1,0 +1,68 @@
+-- `links::link` meets its contract. Each case of what the resolver answers, read as a link. Assumes nothing.
+use mathlib.Core.List.{List, []}
+use Prim.Native.Nat.{ℕ}
+use native.Mathlib.Omega.{arith}
+use Rattle.as5506.specs.Tables.{Tables, tablesOf, Ref, ref}
+use Rattle.resolver.proofs.Answers.{located}
+use Rattle.links.proofs.Rows.{link-means}
+use borrow.Author.Needs.{needs}
+use Rattle.links.proofs.link.Statement.{statement}
+use Rattle.links.proofs.link.Tie as tie
+
+-- the tables that are asked, whatever the others are
+abbrev model : tie.Start → (c f x e : List ℕ) → Tables
+model s c f x e = tablesOf (s .args .bytes .now) (s .args .n .now) c f x (s .args .p .now) (s .args .i .now) (s .args .t .now) (s .args .q .now) (s .args .u .now) e (s .args .r .now)
+
+abbrev reference : tie.Start → Ref
+reference s = ref (s .args .«package») (s .args .type-name) (s .args .implementation)
+
+resolve-classifier-requires : tie.Need-resolve-classifier-requires
+resolve-classifier-requires c κs = search needs
+
+enum-told : tie.Need-enum-told
+enum-told c = search needs
+
+enum-told-2 : tie.Need-enum-told-2
+enum-told-2 c = search needs
+
+enum-known-found : tie.Need-enum-known-found
+enum-known-found c = search needs
+
+cast-result : tie.Need-cast-result
+cast-result c =
+    let s = c .before .before .before .before .before .before .before .before .before .before .before .before in
+    omega (arith, s .pre, located (model s [] [] [] []) (s .args .from) (reference s) _ _ (c .before .before .before .resolve-classifier .ensures [] [] [] []) (c .before .found .given .1) .0)
+
+enum-told-3 : tie.Need-enum-told-3
+enum-told-3 c = search needs
+
+returns : tie.Need-returns
+returns c =
+    let s = c .before .before .before .before .before .before .before .before .before .before .before in λ c₁ f x e. link-means (model s c₁ f x e) (s .args .from) (reference s) _ _ (c .before .before .resolve-classifier .ensures c₁ f x e) (c .enum-told .given .1)
+
+returns-2 : tie.Need-returns-2
+returns-2 c =
+    let s = c .before .before .before .before .before .before .before .before .before .before .before in λ c₁ f x e. link-means (model s c₁ f x e) (s .args .from) (reference s) _ _ (c .before .before .resolve-classifier .ensures c₁ f x e) (c .enum-told2 .given .1)
+
+returns-3 : tie.Need-returns-3
+returns-3 c =
+    let s = c .before .before .before .before .before .before .before .before .before .before .before .before in λ c₁ f x e. link-means (model s c₁ f x e) (s .args .from) (reference s) _ _ (c .before .before .before .resolve-classifier .ensures c₁ f x e) (c .before .found .given .1)
+
+returns-4 : tie.Need-returns-4
+returns-4 c =
+    let s = c .before .before .before .before .before .before .before .before .before .before .before in λ c₁ f x e. link-means (model s c₁ f x e) (s .args .from) (reference s) _ _ (c .before .before .resolve-classifier .ensures c₁ f x e) (c .enum-told3 .given .1)
+
+pub link-spec : {M : Type 1} → statement M
+link-spec =
+    tie.close
+    (tie.spec
+    resolve-classifier-requires
+    enum-told
+    enum-told-2
+    enum-known-found
+    cast-result
+    enum-told-3
+    returns
+    returns-2
+    returns-3
+    returns-4)

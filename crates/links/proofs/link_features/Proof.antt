@@ -1,0 +1,63 @@
+-- `links::link_features` meets its contract. The invariant: the table has the links of the rows below `row`. The measure: the rows that are left. Assumes nothing.
+use mathlib.Core.Path.{_≡_, refl, ap, _∙_}
+use mathlib.Core.List.{List}
+use Prim.Native.Nat.{ℕ, _-_, _/_, _<_}
+use native.Mathlib.Nat.{div-le-self}
+use native.Mathlib.Omega.{arith}
+use lib.ListN.{length, length-set}
+use borrow.Author.Needs.{needs}
+use Rattle.as5506.specs.Tables.{tablesOf}
+use Rattle.links.specs.Links.{nestedLink, Holds}
+use Rattle.links.proofs.Rows.{holds-none, holds-turn, holds-end}
+use Rattle.links.proofs.link_features.Statement.{statement}
+use Rattle.links.proofs.link_features.Tie as tie
+
+abbrev Inv-loop : tie.InvT-loop
+Inv-loop bytes n p i t q u e r nested₀ count row₀ nested row =
+    (length nested ≡ length nested₀) × ((c f x : List ℕ) → Holds (nestedLink (tablesOf bytes n c f x p i t q u e r)) nested row)
+
+abbrev μ-loop : tie.MeasureT-loop
+μ-loop bytes n p i t q u e r nested₀ count row₀ nested row = length e / 8 - row
+
+loop-holds : tie.Need-loop-holds Inv-loop μ-loop
+loop-holds c = (refl, λ c₁ f x. holds-none _ _)
+
+link-feature-requires : tie.Need-link-feature-requires Inv-loop μ-loop
+link-feature-requires c κs = (c .before .before .before .before .before .before .before .before .before .before .before .before .pre .0, c .loop-test .taken)
+
+put-number-requires : tie.Need-put-number-requires Inv-loop μ-loop
+put-number-requires c κs = search needs
+
+add-row : tie.Need-add-row Inv-loop μ-loop
+add-row c = omega (arith, div-le-self (length (c .before .before .before .before .before .before .before .before .before .before .before .before .before .before .before .before .before .args .e .now)) 8, c .before .before .before .before .before .loop-test .taken)
+
+loop-less : tie.Need-loop-less Inv-loop μ-loop
+loop-less c = omega (arith, c .before .before .before .before .before .loop-test .taken)
+
+loop-again : tie.Need-loop-again Inv-loop μ-loop
+loop-again c =
+    let l = c .before .before .before .before .before .before .loop in
+    let put = c .before .before .put-number .ensures in
+    let room : l .row < length (l .nested) = omega (arith, c .before .before .before .before .before .loop-test .taken, c .before .before .before .before .before .before .before .before .before .before .before .before .before .before .before .before .before .pre .1, l .inv .0) in
+    (ap length put ∙ length-set (l .nested) (l .row) _ ∙ l .inv .0, λ c₁ f x. holds-turn _ _ _ _ _ room (c .before .before .before .before .link-feature .ensures c₁ f x) put (l .inv .1 c₁ f x))
+
+same-length : tie.Need-same-length Inv-loop μ-loop
+same-length c = c .before .loop .inv .0
+
+returns : tie.Need-returns Inv-loop μ-loop
+returns c = λ c₁ f x. holds-end _ _ _ _ (omega arith) (c .before .loop .inv .1 c₁ f x)
+
+pub link-features-spec : {M : Type 1} → statement M
+link-features-spec =
+    tie.close
+    (tie.spec
+    Inv-loop
+    μ-loop
+    loop-holds
+    link-feature-requires
+    put-number-requires
+    add-row
+    loop-less
+    loop-again
+    same-length
+    returns)

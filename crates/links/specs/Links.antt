@@ -1,0 +1,53 @@
+-- What the references of group types and of their features mean: each as one number, by its row. Assumes nothing.
+use mathlib.Core.Bool.{Bool, _&&_, cond}
+use mathlib.Core.Path.{_≡_}
+use mathlib.Core.List.{List}
+use Prim.Native.Nat.{ℕ, _+_, _<_}
+use lib.Dec.{eqb}
+use lib.ListN.{getD}
+use Rattle.as5506.specs.Tables.{Tables, missing, present, letterU, letterE, count, Ref, ref, pName, uPackage, uExtends, uInverseOf, eHolderKind, eHolder, eClassifier}
+use Rattle.as5506.specs.Resolve.{Resolved, componentType, componentImpl, groupType, unresolved, resolve}
+use Rattle.as5506.specs.Groups.{isNested}
+
+-- a reference that names no group type
+abbrev pub unfound : ℕ
+unfound = 4294967294
+
+-- the row of the group type that is found
+abbrev pub groupRow : Resolved → ℕ
+groupRow (componentType i) = unfound
+groupRow (componentImpl i) = unfound
+groupRow (groupType u) = u
+groupRow unresolved = unfound
+
+-- what a reference means that is asked from a package, given by its name
+unfoldable pub linkOf : Tables → ℕ → Ref → ℕ
+linkOf m from r = groupRow (resolve m from r)
+
+-- "References inside a group ask from the package it was found in": a reference of group type u, missing where there is none
+abbrev pub linkIn : Bool → Tables → ℕ → Ref → ℕ
+linkIn b m u r = cond b (linkOf m (pName m (uPackage m u)) r) missing
+
+-- the reference in the three numbers of a table from a place on
+abbrev pub refIn : List ℕ → ℕ → Ref
+refIn table place = ref (getD table place 0) (getD table (place + 1) 0) (getD table (place + 2) 0)
+
+unfoldable pub extendsLink : Tables → ℕ → ℕ
+extendsLink m u = linkIn (present (uExtends m u .type)) m u (uExtends m u)
+
+unfoldable pub inverseLink : Tables → ℕ → ℕ
+inverseLink m u = linkIn (present (uInverseOf m u .type)) m u (uInverseOf m u)
+
+-- the classifier of a nested group
+unfoldable pub nestedLink : Tables → ℕ → ℕ
+nestedLink m e = linkIn (eqb (eHolderKind m e) 1 && isNested m e) m (eHolder m e) (eClassifier m e)
+
+-- a table that has the links of the rows below n
+unfoldable pub Holds : (ℕ → ℕ) → List ℕ → ℕ → Type 0
+Holds link table n = (i : ℕ) → i < n → getD table i 0 ≡ link i
+
+-- the three tables: nested by E row, extends and inverse by U row
+pub record Linked (m : Tables) (nested extends inverse : List ℕ) : Type 0 where
+  pub of-nested : (e : ℕ) → e < count m letterE → getD nested e 0 ≡ nestedLink m e
+  pub of-extends : (u : ℕ) → u < count m letterU → getD extends u 0 ≡ extendsLink m u
+  pub of-inverse : (u : ℕ) → u < count m letterU → getD inverse u 0 ≡ inverseLink m u

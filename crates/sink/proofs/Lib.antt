@@ -1,0 +1,4 @@
+pub mod Ready
+mod Blocks
+mod Search
+mod Purposes
