@@ -1,0 +1,4 @@
+mod Tests
+mod Scan
+mod Steps
+pub mod Answers

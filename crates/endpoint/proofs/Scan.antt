@@ -1,0 +1,72 @@
+-- The definition's searches as one scan of a table each, and the answer of the search for an E row. Assumes nothing.
+use mathlib.Core.Bool.{Bool, true, false, not, _&&_, _||_}
+use mathlib.Core.Path.{_≡_, refl, sym, ap, _∙_}
+use mathlib.Core.List.{List, [], _∷_}
+use mathlib.Core.Option.{Option, none, some}
+use Prim.Native.Nat.{ℕ, _-_, _<_}
+use native.Mathlib.Nat.{sub-zero}
+use lib.Dec.{eqb}
+use Rattle.as5506.specs.Lists.{span, upTo, putIf, keep, isNil, firstOf, anyOf, sameBytes}
+use Rattle.as5506.specs.Tables.{Tables, letterF, letterE, count, rowsNaming, fName, fOwner, fKind, featuresOf, eName, eKind, eHolder, eHolderKind}
+use Rattle.as5506.specs.Names.{key}
+use Rattle.as5506.specs.Groups.{featureKindGroup}
+use Rattle.as5506.specs.GroupList.{isGroupFeature, declaredGroup}
+use Rattle.resolver.proofs.Scan.{keep-both, rows-first}
+use Rattle.endpoint.specs.declared.Found.{Found}
+use Rattle.endpoint.specs.declared.Found.the-variants.{At, Nothing}
+use Rattle.endpoint.specs.Ends.{rowOf, featuresIn, declaredIn, isGroup, isDeclared}
+
+-- ---- F
+
+-- whether a list has an entry
+abbrev pub some-of : List ℕ → Bool
+some-of l = not (isNil l)
+
+-- an entry passes exactly where one is kept
+any-kept : (p : ℕ → Bool) (xs : List ℕ) → anyOf p xs ≡ some-of (keep p xs)
+any-kept p [] = refl
+any-kept p (x ∷ xs) = by-first (p x) (anyOf p xs) (keep p xs) (any-kept p xs)
+  where
+    by-first : (b a : Bool) (l : List ℕ) → a ≡ some-of l → b || a ≡ some-of (putIf b x l)
+    by-first true a l e = refl
+    by-first false a l e = e
+
+module _ (m : Tables) (c : ℕ) (k : List ℕ) where
+  pub feature-scan : isGroupFeature m c k ≡ some-of (keep (isGroup m c k) (span 0 (count m letterF - 0)))
+  unfolding isGroupFeature rowsNaming isGroup
+  feature-scan =
+      rw (sub-zero (count m letterF))
+      (any-kept (λ f. eqb (fKind m f) featureKindGroup && sameBytes (key m (fName m f)) k) (featuresOf m c)
+      ∙ ap some-of (keep-both (λ f. eqb (fKind m f) featureKindGroup && sameBytes (key m (fName m f)) k) (λ f. eqb (fOwner m f) c) (upTo (count m letterF))))
+
+-- no other table is asked
+pub feature-same : (m : Tables) (c f : ℕ) → let l : Tables = featuresIn (m .bytes) (m .n) (m .f) in isGroupFeature l c (key l f) ≡ isGroupFeature m c (key m f)
+unfolding isGroupFeature rowsNaming key
+feature-same m c f = refl
+
+-- ---- E
+
+module _ (m : Tables) (t : ℕ) (k : List ℕ) where
+  pub declared-scan : declaredGroup m t k ≡ firstOf (keep (isDeclared m t k) (span 0 (count m letterE - 0)))
+  unfolding declaredGroup rowsNaming isDeclared
+  declared-scan =
+      rw (sub-zero (count m letterE))
+      (ap firstOf
+      (keep-both (λ e. eqb (eKind m e) featureKindGroup && sameBytes (key m (eName m e)) k) (λ e. eqb (eHolderKind m e) 0) (keep (λ e. eqb (eHolder m e) t) (upTo (count m letterE)))
+      ∙ keep-both (λ e. eqb (eHolderKind m e) 0 && (eqb (eKind m e) featureKindGroup && sameBytes (key m (eName m e)) k)) (λ e. eqb (eHolder m e) t) (upTo (count m letterE))))
+
+  -- what is found is a row
+  pub declared-row : (e : ℕ) → some e ≡ declaredGroup m t k → e < count m letterE
+  declared-row e h = rows-first (isDeclared m t k) 0 (count m letterE) e (sym (h ∙ declared-scan)) .1
+
+pub declared-same : (m : Tables) (t f : ℕ) → let l : Tables = declaredIn (m .bytes) (m .n) (m .e) in declaredGroup l t (key l f) ≡ declaredGroup m t (key m f)
+unfolding declaredGroup rowsNaming key
+declared-same m t f = refl
+
+-- ---- an answer
+
+pub at-row : (z : Found) (i : ℕ) (o : Option ℕ) → z ≡ At i → rowOf z ≡ o → some i ≡ o
+at-row z i o e p = sym (ap rowOf e) ∙ p
+
+pub no-row : (z : Found) (o : Option ℕ) → z ≡ Nothing → rowOf z ≡ o → none ≡ o
+no-row z o e p = sym (ap rowOf e) ∙ p

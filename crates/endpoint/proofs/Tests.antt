@@ -1,0 +1,45 @@
+-- Laws of tests, part by part: of a number that was read, of a key, and of parts one after the other. Assumes nothing.
+use mathlib.Core.Bool.{Bool, true, false, _&&_}
+use mathlib.Core.Path.{_≡_, sym, ap, _∙_}
+use mathlib.Core.List.{List}
+use Prim.Native.Nat.{ℕ, _+_}
+use native.Mathlib.Nat.{add-zero}
+use lib.Dec.{eqb}
+use lib.ListN.{getD}
+use borrow.Author.Tests.{eq-eqb, ne-eqb}
+use Rattle.as5506.specs.Lists.{sameBytes}
+use Rattle.as5506.specs.Tables.{Tables, missing, present, nameOf}
+use Rattle.as5506.specs.Names.{key, sameFolded}
+use Rattle.name.proofs.Compare.{keys-folded}
+
+-- ---- a part that fails, and one that holds
+
+pub fails : (a rest : Bool) → a ≡ false → false ≡ a && rest
+fails a rest h = rw h
+
+pub holds : (a rest z : Bool) → a ≡ true → z ≡ rest → z ≡ a && rest
+holds a rest z h q = rw h q
+
+-- ---- v was read for the field w
+
+module _ (v w : ℕ) (e : v ≡ w) where
+  pub equal : (k : ℕ) → v ≡ k → eqb w k ≡ true
+  equal k h = eq-eqb w k (sym e ∙ h)
+
+  pub other : (k : ℕ) → (v ≡ k → ⊥) → eqb w k ≡ false
+  other k h = ne-eqb w k (λ z. h (e ∙ z))
+
+  pub absent : v ≡ missing → present w ≡ false
+  absent h = rw (equal missing h)
+
+  pub is-present : (v ≡ missing → ⊥) → present w ≡ true
+  is-present h = rw (other missing h)
+
+-- the first field of a row
+pub first-field : (t : List ℕ) (place v : ℕ) → v ≡ getD t place 0 → v ≡ getD t (place + 0) 0
+first-field t place v e = rw (add-zero place) e
+
+-- ---- names that were compared folded
+
+pub same-key : (m : Tables) (v w k : ℕ) (r : Bool) → v ≡ w → r ≡ sameFolded (nameOf m v) (nameOf m k) → r ≡ sameBytes (key m w) (key m k)
+same-key m v w k r e q = q ∙ keys-folded m v k ∙ ap (λ (j : ℕ). sameBytes (key m j) (key m k)) e

@@ -1,0 +1,236 @@
+// The ends of a group connection (instance.rs, `resolve_endpoint_component` and `expand_endpoint_feature_group`): the component of an end, and the
+// group that its feature stands for.
+use as5506::MISSING;
+use children::Child;
+use lent::number_at;
+use resolver::Resolved;
+use trace::Side;
+ghost use mathlib.Core.Path.{_≡_};
+ghost use mathlib.Core.List.{List, []};
+ghost use Prim.Native.Nat.{ℕ, _/_, _<_};
+ghost use lib.ListN.{length};
+ghost use Rattle.as5506.specs.Tables.{Tables, tablesOf, nameIn, present, cPackage, eClassifier};
+ghost use Rattle.as5506.specs.Names.{key, sameFolded};
+ghost use Rattle.as5506.specs.GroupList.{isGroupConnection, isGroupFeature, declaredGroup, classifierBy, endComponent, endpoint as theEndpoint};
+ghost use Rattle.trace.specs.Steps.{tracingIn, sideOf};
+ghost use Rattle.endpoint.specs.Ends.{componentOf, rowOf, expandedAt, featuresIn, declaredIn, isGroup, isDeclared};
+
+// The group that an end stands for: its type's name and the name of the package to ask from; or none.
+pub enum Asked {
+    Group { package: u32, type_name: u32 },
+    NoGroup,
+}
+
+// A row, or none.
+enum Found {
+    At(usize),
+    Nothing,
+}
+
+// `FeatureKind::FeatureGroup` and `ConnectionKind::FeatureGroup`.
+const FEATURE_KIND: u32 = 8;
+
+const CONNECTION_KIND: u32 = 2;
+
+// Whether X row i connects groups: it has their kind, and a feature at both ends.
+pub fn is_group_connection(x: &[u32], i: usize) -> bool
+    requires { ⌜ i < length (now x) / 7 ⌝ }
+    ensures { λ z. ⌜ z ≡ isGroupConnection (tracingIn [] [] [] (now (x .entry))) i ⌝ }
+{
+    if number_at(x, i * 7 + 2) != CONNECTION_KIND {
+        return false;
+    }
+    if trace::feature_of(x, Side::Source, i) == MISSING {
+        return false;
+    }
+    trace::feature_of(x, Side::Destination, i) != MISSING
+}
+
+// The component at an end of X row i: the first child of the name, or the owner where no subcomponent is named.
+pub fn end_component(bytes: &[u8], n: &[u32], c: &[u32], x: &[u32], side: Side, i: usize) -> Child
+    requires { ⌜ i < length (now x) / 7 ⌝ }
+    ensures { λ z. ⌜ componentOf z ≡ endComponent (tracingIn (now (bytes .entry)) (now (n .entry)) (now (c .entry)) (now (x .entry))) (sideOf side) i ⌝ }
+{
+    let owner = number_at(x, i * 7 + 1);
+    let sub = trace::subcomponent_of(x, side, i);
+    if sub == MISSING {
+        let row = owner as usize;
+        return Child::At(row);
+    }
+    children::find_child_by_name(bytes, n, c, owner, sub, 0)
+}
+
+// Whether names j and k are the same feature's: case ignored.
+fn same_feature(bytes: &[u8], n: &[u32], j: u32, k: u32) -> bool
+    ensures { λ z. ⌜ z ≡ sameFolded (nameIn (now (bytes .entry)) (now (n .entry)) j) (nameIn (now (bytes .entry)) (now (n .entry)) k) ⌝ }
+{
+    name::same_folded_names(bytes, n, j, k)
+}
+
+// Whether F row i is a group of a component and a name, case ignored.
+fn is_group_feature(
+    bytes: &[u8],
+    n: &[u32],
+    f: &[u32],
+    component: u32,
+    feature: u32,
+    i: usize,
+) -> bool
+    requires { ⌜ i < length (now f) / 3 ⌝ }
+    ensures { λ z.
+        ⌜ (let m : Tables = featuresIn (now (bytes .entry)) (now (n .entry)) (now (f .entry)) in
+        z ≡ isGroup m component (key m feature) i) ⌝ }
+{
+    let place = i * 3;
+    if number_at(f, place + 1) != component {
+        return false;
+    }
+    if number_at(f, place + 2) != FEATURE_KIND {
+        return false;
+    }
+    same_feature(bytes, n, number_at(f, place), feature)
+}
+
+// Whether a component has a group feature of a name, case ignored.
+fn has_group_feature(bytes: &[u8], n: &[u32], f: &[u32], component: u32, feature: u32) -> bool
+    ensures { λ z.
+        ⌜ (let m : Tables = featuresIn (now (bytes .entry)) (now (n .entry)) (now (f .entry)) in
+        z ≡ isGroupFeature m component (key m feature)) ⌝ }
+{
+    let count = f.len() / 3;
+    let mut i: usize = 0;
+    while i < count {
+        if is_group_feature(bytes, n, f, component, feature, i) {
+            return true;
+        }
+        i += 1;
+    }
+    false
+}
+
+// Whether E row i is a group of a component type and a name, case ignored.
+fn is_declared_group(
+    bytes: &[u8],
+    n: &[u32],
+    e: &[u32],
+    holder: usize,
+    feature: u32,
+    i: usize,
+) -> bool
+    requires { ⌜ i < length (now e) / 8 ⌝ }
+    ensures { λ z.
+        ⌜ (let m : Tables = declaredIn (now (bytes .entry)) (now (n .entry)) (now (e .entry)) in
+        z ≡ isDeclared m holder (key m feature) i) ⌝ }
+{
+    let place = i * 8;
+    if number_at(e, place + 1) as usize != holder {
+        return false;
+    }
+    if number_at(e, place) != 0 {
+        return false;
+    }
+    if number_at(e, place + 3) != FEATURE_KIND {
+        return false;
+    }
+    same_feature(bytes, n, number_at(e, place + 2), feature)
+}
+
+// The first such row.
+fn declared_group(bytes: &[u8], n: &[u32], e: &[u32], holder: usize, feature: u32) -> Found
+    ensures { λ z.
+        ⌜ (let m : Tables = declaredIn (now (bytes .entry)) (now (n .entry)) (now (e .entry)) in
+        rowOf z ≡ declaredGroup m holder (key m feature)) ⌝ }
+{
+    let count = e.len() / 8;
+    let mut i: usize = 0;
+    while i < count {
+        if is_declared_group(bytes, n, e, holder, feature, i) {
+            return Found::At(i);
+        }
+        i += 1;
+    }
+    Found::Nothing
+}
+
+// What the classifier of E row i asks for, on a component of a package.
+fn classifier(e: &[u32], i: usize, component_package: u32) -> Asked
+    requires { ⌜ i < length (now e) / 8 ⌝ }
+    ensures { λ z.
+        ⌜ ((bytes n c f x p j t q u r : List ℕ) (component : ℕ) →
+        let m : Tables = tablesOf bytes n c f x p j t q u (now (e .entry)) r in
+        «component_package» ≡ cPackage m component → expandedAt m z ≡ classifierBy (present (eClassifier m i .type)) m component (eClassifier m i)) ⌝ }
+{
+    let place = i * 8;
+    let type_name = number_at(e, place + 6);
+    if type_name == MISSING {
+        return Asked::NoGroup;
+    }
+    let package = number_at(e, place + 5);
+    if package == MISSING {
+        return Asked::Group {
+            package: component_package,
+            type_name: type_name,
+        };
+    }
+    Asked::Group {
+        package: package,
+        type_name: type_name,
+    }
+}
+
+// The group that a feature of a component stands for.
+pub fn endpoint(
+    bytes: &[u8],
+    n: &[u32],
+    c: &[u32],
+    f: &[u32],
+    p: &[u32],
+    i: &[u32],
+    t: &[u32],
+    q: &[u32],
+    u: &[u32],
+    e: &[u32],
+    r: &[u32],
+    component: u32,
+    feature: u32,
+) -> Asked
+    ensures { λ z.
+        ⌜ ((x : List ℕ) →
+        let m : Tables = tablesOf (now (bytes .entry)) (now (n .entry)) (now (c .entry)) (now (f .entry)) x (now (p .entry)) (now (i .entry)) (now (t .entry)) (now (q .entry)) (now (u .entry)) (now (e .entry)) (now (r .entry)) in
+        expandedAt m z ≡ theEndpoint m component feature) ⌝ }
+{
+    if !has_group_feature(bytes, n, f, component, feature) {
+        return Asked::NoGroup;
+    }
+    let place = component as usize * 6;
+    let package = number_at(c, place + 3);
+    let found = resolver::resolve_classifier(
+        bytes,
+        n,
+        p,
+        i,
+        t,
+        q,
+        u,
+        r,
+        package,
+        package,
+        number_at(c, place + 4),
+        MISSING,
+    );
+    match found {
+        Resolved::ComponentType { package: _, row } => match declared_group(
+            bytes,
+            n,
+            e,
+            row,
+            feature,
+        ) {
+            Found::At(j) => classifier(e, j, package),
+            Found::Nothing => Asked::NoGroup,
+        },
+        Resolved::ComponentImpl { package: _, row: _ } => Asked::NoGroup,
+        Resolved::GroupType { package: _, row: _ } => Asked::NoGroup,
+        Resolved::Unresolved => Asked::NoGroup,
+    }
+}
