@@ -1,0 +1,2 @@
+pub mod Records
+mod Filled
