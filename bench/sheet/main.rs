@@ -4,7 +4,7 @@ use std::time::Instant;
 
 // A slice crosses as a pointer and a count.
 unsafe extern "C" {
-    fn sheet_read(
+    fn conlist_read_sheet(
         sheet: *const u8, sheet_len: usize,
         bytes: *mut u8, bytes_len: usize,
         n: *mut u32, n_len: usize,
@@ -18,7 +18,8 @@ unsafe extern "C" {
         u: *mut u32, u_len: usize,
         e: *mut u32, e_len: usize,
         r: *mut u32, r_len: usize,
-    ) -> u32;
+        told: *mut u64,
+    );
 }
 
 struct Tables {
@@ -26,12 +27,14 @@ struct Tables {
     numbers: Vec<Vec<u32>>,
 }
 
-fn read(sheet: &[u8], tables: &mut Tables) -> u32 {
+/// The refusal's number, or 0.
+fn read(sheet: &[u8], tables: &mut Tables) -> u64 {
+    let mut told = [0u64; 13];
     let bytes = &mut tables.bytes;
     let [n, c, f, x, p, i, t, q, u, e, r] = &mut tables.numbers[..] else { unreachable!() };
     // SAFETY: every pointer comes with the length of its own slice, and no two overlap.
     unsafe {
-        sheet_read(
+        conlist_read_sheet(
             sheet.as_ptr(), sheet.len(),
             bytes.as_mut_ptr(), bytes.len(),
             n.as_mut_ptr(), n.len(),
@@ -45,8 +48,10 @@ fn read(sheet: &[u8], tables: &mut Tables) -> u32 {
             u.as_mut_ptr(), u.len(),
             e.as_mut_ptr(), e.len(),
             r.as_mut_ptr(), r.len(),
+            told.as_mut_ptr(),
         )
     }
+    told[0]
 }
 
 fn row(letter: char, width: usize, count: usize) -> String {

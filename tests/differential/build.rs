@@ -2,7 +2,7 @@
 
 use std::path::Path;
 
-const ARCHIVES: &[&str] = &["instance_c"];
+const ARCHIVES: &[&str] = &["conlist_c"];
 
 fn main() {
     let folder = Path::new(env!("CARGO_MANIFEST_DIR")).join("../../target/staticlib");

@@ -5,6 +5,7 @@
 //! long, full of rubbish before the call and with guards around them.
 
 mod lent;
+mod library;
 mod tables;
 mod traced;
 
@@ -15,6 +16,13 @@ use generate::{Sort, case};
 use oracle::sheet::Sheet;
 use oracle::stream::{self, Case};
 use traced::Met;
+
+/// The numbers of a row and of a diagnostic in their outputs.
+const ROW_NUMBERS: usize = 49;
+const DIAGNOSTIC_NUMBERS: usize = 4;
+
+/// More rows than this are not collected by the original.
+const MOST_ROWS: u64 = 300_000;
 
 /// The accepted sheets that are stored, and one on which the original would not end.
 fn stored() -> Vec<Case> {

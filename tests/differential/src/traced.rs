@@ -1,92 +1,13 @@
-//! The traced listing: `instance_compute_semantic_connections` against the original's.
+//! The traced listing: `compute_semantic_connections` against the original's.
 
 use oracle::listing::{Listing, Row};
 use oracle::sheet::Sheet;
 use oracle::{model, traced};
 
 use crate::lent::Lent;
+use crate::library;
 use crate::tables::Tables;
-
-const ROW_NUMBERS: usize = 49;
-const DIAGNOSTIC_NUMBERS: usize = 4;
-
-/// More rows than this are not collected by the original.
-const MOST_ROWS: u64 = 300_000;
-
-unsafe extern "C" {
-    fn instance_compute_semantic_connections(
-        bytes: *const u8,
-        bytes_length: usize,
-        n: *const u32,
-        n_length: usize,
-        c: *const u32,
-        c_length: usize,
-        f: *const u32,
-        f_length: usize,
-        x: *const u32,
-        x_length: usize,
-        p: *const u32,
-        p_length: usize,
-        i: *const u32,
-        i_length: usize,
-        t: *const u32,
-        t_length: usize,
-        q: *const u32,
-        q_length: usize,
-        u: *const u32,
-        u_length: usize,
-        e: *const u32,
-        e_length: usize,
-        r: *const u32,
-        r_length: usize,
-        rows: *mut u32,
-        rows_length: usize,
-        diagnostics: *mut u32,
-        diagnostics_length: usize,
-        told: *mut u64,
-    );
-}
-
-/// The call's three numbers: 0, rows and diagnostics, or a refusal's number, place and letter.
-fn call(tables: &Tables, rows: &mut [u32], diagnostics: &mut [u32]) -> [u64; 3] {
-    let [n, c, f, x, p, i, t, q, u, e, r] = &tables.letters;
-    let mut told = [u64::MAX; 3];
-    // SAFETY: every slice crosses as its pointer and length, and none overlaps another.
-    unsafe {
-        instance_compute_semantic_connections(
-            tables.bytes.as_ptr(),
-            tables.bytes.len(),
-            n.as_ptr(),
-            n.len(),
-            c.as_ptr(),
-            c.len(),
-            f.as_ptr(),
-            f.len(),
-            x.as_ptr(),
-            x.len(),
-            p.as_ptr(),
-            p.len(),
-            i.as_ptr(),
-            i.len(),
-            t.as_ptr(),
-            t.len(),
-            q.as_ptr(),
-            q.len(),
-            u.as_ptr(),
-            u.len(),
-            e.as_ptr(),
-            e.len(),
-            r.as_ptr(),
-            r.len(),
-            rows.as_mut_ptr(),
-            rows.len(),
-            diagnostics.as_mut_ptr(),
-            diagnostics.len(),
-            told.as_mut_ptr(),
-        );
-    }
-    told
-}
+use crate::{DIAGNOSTIC_NUMBERS, MOST_ROWS, ROW_NUMBERS};
 
 /// How often what was met, over all sheets.
 #[derive(Default)]
@@ -146,7 +67,8 @@ fn run(
     let before = tables.clone();
     let (mut row_output, mut diagnostic_output) =
         (Lent::of_length(rows), Lent::of_length(diagnostics));
-    let told = call(tables, row_output.lend(), diagnostic_output.lend());
+    let told =
+        library::compute_semantic_connections(tables, row_output.lend(), diagnostic_output.lend());
     if *tables != before {
         return Err("it changed an input".to_string());
     }

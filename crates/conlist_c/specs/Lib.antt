@@ -1,0 +1,4 @@
+-- What the exported calls tell.
+--
+--     Numbers   answers as numbers
+pub mod Numbers

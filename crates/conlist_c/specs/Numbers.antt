@@ -1,0 +1,30 @@
+-- Answers as numbers. Assumes nothing.
+use mathlib.Core.List.{List, [], _∷_, _++_}
+use Prim.Native.Nat.{ℕ}
+use Rattle.as5506.specs.Lists.{zeros}
+use Rattle.as5506.specs.declared.Refusal.{Refusal}
+use Rattle.sheet.specs.declared.SheetRead.{SheetRead}
+use Rattle.sheet.specs.declared.SheetRead.the-variants.{Read, Refused as ReadRefused}
+use Rattle.tables.specs.declared.Checked.{Checked}
+use Rattle.tables.specs.declared.Checked.the-variants.{Accepted, Refused as CheckRefused}
+use Rattle.instance.specs.declared.Listed.{Listed}
+use Rattle.instance.specs.declared.Listed.the-variants.{Rows as TracedRows, Refused as TracedRefused}
+
+-- a refusal: its number, which is never 0, its place, and its letter
+abbrev pub refusalNumbers : Refusal → List ℕ
+refusalNumbers r = r .number ∷ r .place ∷ r .letter ∷ []
+
+-- 0 and what was read
+abbrev pub readNumbers : SheetRead → List ℕ
+readNumbers (Read k) =
+    0 ∷ k .bytes ∷ k .n ∷ k .c ∷ k .f ∷ k .x ∷ k .p ∷ k .i ∷ k .t ∷ k .q ∷ k .u ∷ k .e ∷ k .r ∷ []
+readNumbers (ReadRefused r) = refusalNumbers r ++ zeros 10
+
+abbrev pub checkedNumbers : Checked → List ℕ
+checkedNumbers Accepted = zeros 3
+checkedNumbers (CheckRefused r) = refusalNumbers r
+
+-- 0 and how many rows and diagnostics there are
+abbrev pub tracedNumbers : Listed → List ℕ
+tracedNumbers (TracedRows k d) = 0 ∷ k ∷ d ∷ []
+tracedNumbers (TracedRefused r) = refusalNumbers r

@@ -1,0 +1,41 @@
+// The tables' checks.
+ghost use mathlib.Core.Path.{_≡_};
+ghost use Rattle.as5506.specs.Tables.{tablesOf};
+ghost use Rattle.as5506.specs.Refusals.{faults};
+ghost use Rattle.tables.specs.Answer.{checked};
+ghost use Rattle.conlist_c.specs.Numbers.{checkedNumbers};
+use tables::Checked;
+
+// Checks as `check_tables` does. `told` then holds zeros, or a refusal's number, place and letter.
+#[no_mangle]
+pub extern "C" fn conlist_check_tables(
+    bytes: &[u8],
+    n: &[u32],
+    c: &[u32],
+    f: &[u32],
+    x: &[u32],
+    p: &[u32],
+    i: &[u32],
+    t: &[u32],
+    q: &[u32],
+    u: &[u32],
+    e: &[u32],
+    r: &[u32],
+    told: &mut [u64; 3],
+)
+    ensures { λ _. ⌜ now (told .exit) ≡ checkedNumbers (checked (faults (tablesOf (now (bytes .entry)) (now (n .entry)) (now (c .entry)) (now (f .entry)) (now (x .entry)) (now (p .entry)) (now (i .entry)) (now (t .entry)) (now (q .entry)) (now (u .entry)) (now (e .entry)) (now (r .entry))))) ⌝ }
+{
+    let answer = tables::check_tables(bytes, n, c, f, x, p, i, t, q, u, e, r);
+    match answer {
+        Checked::Accepted => {
+            *told = [0, 0, 0];
+        }
+        Checked::Refused(reason) => {
+            *told = [
+                reason.number as u64,
+                reason.place as u64,
+                reason.letter as u64,
+            ];
+        }
+    }
+}

@@ -1,0 +1,4 @@
+// The library for Rust and C. Each slice crosses as two arguments, a pointer and a count; an answer is told in numbers.
+mod check;
+mod read;
+mod traced;

@@ -1,0 +1,68 @@
+// The sheet's reader.
+ghost use mathlib.Core.Path.{_≡_};
+ghost use Rattle.as5506.specs.Tables.{tablesOf};
+ghost use Rattle.as5506.specs.Sheet.{lentOf, readSheet};
+ghost use Rattle.sheet.specs.Read.{sheetRead, ReadInto};
+ghost use Rattle.conlist_c.specs.Numbers.{readNumbers};
+use sheet::SheetRead;
+
+// Reads as `read_sheet` does. `told` then holds 0, the bytes of names and the rows of each letter that were read, or a refusal's number, place and
+// letter and zeros.
+#[no_mangle]
+pub extern "C" fn conlist_read_sheet(
+    sheet: &[u8],
+    bytes: &mut [u8],
+    n: &mut [u32],
+    c: &mut [u32],
+    f: &mut [u32],
+    x: &mut [u32],
+    p: &mut [u32],
+    i: &mut [u32],
+    t: &mut [u32],
+    q: &mut [u32],
+    u: &mut [u32],
+    e: &mut [u32],
+    r: &mut [u32],
+    told: &mut [u64; 13],
+)
+    ensures { λ _. ⌜ now (told .exit) ≡ readNumbers (sheetRead (readSheet (lentOf (tablesOf (now (bytes .entry)) (now (n .entry)) (now (c .entry)) (now (f .entry)) (now (x .entry)) (now (p .entry)) (now (i .entry)) (now (t .entry)) (now (q .entry)) (now (u .entry)) (now (e .entry)) (now (r .entry)))) (now (sheet .entry)))) ⌝ }
+    ensures { λ _. ⌜ ReadInto (tablesOf (now (bytes .entry)) (now (n .entry)) (now (c .entry)) (now (f .entry)) (now (x .entry)) (now (p .entry)) (now (i .entry)) (now (t .entry)) (now (q .entry)) (now (u .entry)) (now (e .entry)) (now (r .entry))) (now (sheet .entry)) (sheetRead (readSheet (lentOf (tablesOf (now (bytes .entry)) (now (n .entry)) (now (c .entry)) (now (f .entry)) (now (x .entry)) (now (p .entry)) (now (i .entry)) (now (t .entry)) (now (q .entry)) (now (u .entry)) (now (e .entry)) (now (r .entry)))) (now (sheet .entry)))) (tablesOf (now (bytes .exit)) (now (n .exit)) (now (c .exit)) (now (f .exit)) (now (x .exit)) (now (p .exit)) (now (i .exit)) (now (t .exit)) (now (q .exit)) (now (u .exit)) (now (e .exit)) (now (r .exit))) ⌝ }
+{
+    let answer = sheet::read_sheet(sheet, bytes, n, c, f, x, p, i, t, q, u, e, r);
+    match answer {
+        SheetRead::Read(k) => {
+            *told = [
+                0,
+                k.bytes as u64,
+                k.n as u64,
+                k.c as u64,
+                k.f as u64,
+                k.x as u64,
+                k.p as u64,
+                k.i as u64,
+                k.t as u64,
+                k.q as u64,
+                k.u as u64,
+                k.e as u64,
+                k.r as u64,
+            ];
+        }
+        SheetRead::Refused(reason) => {
+            *told = [
+                reason.number as u64,
+                reason.place as u64,
+                reason.letter as u64,
+                0,
+                0,
+                0,
+                0,
+                0,
+                0,
+                0,
+                0,
+                0,
+                0,
+            ];
+        }
+    }
+}

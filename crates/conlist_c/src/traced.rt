@@ -1,0 +1,59 @@
+// The traced listing.
+ghost use mathlib.Core.Path.{_≡_};
+ghost use Rattle.as5506.specs.Tables.{tablesOf};
+ghost use Rattle.instance.specs.Answer.{listed, answerFor, ListedInto};
+ghost use Rattle.conlist_c.specs.Numbers.{tracedNumbers};
+use instance::Listed;
+
+// Lists as `compute_semantic_connections` does. `told` then holds 0, the rows and the diagnostics that were written, or a refusal's number, place and
+// letter.
+#[no_mangle]
+pub extern "C" fn conlist_compute_semantic_connections(
+    bytes: &[u8],
+    n: &[u32],
+    c: &[u32],
+    f: &[u32],
+    x: &[u32],
+    p: &[u32],
+    i: &[u32],
+    t: &[u32],
+    q: &[u32],
+    u: &[u32],
+    e: &[u32],
+    r: &[u32],
+    rows: &mut [u32],
+    diagnostics: &mut [u32],
+    told: &mut [u64; 3],
+)
+    ensures { λ _. ⌜ now (told .exit) ≡ tracedNumbers (listed (answerFor (tablesOf (now (bytes .entry)) (now (n .entry)) (now (c .entry)) (now (f .entry)) (now (x .entry)) (now (p .entry)) (now (i .entry)) (now (t .entry)) (now (q .entry)) (now (u .entry)) (now (e .entry)) (now (r .entry))) (now (rows .entry)) (now (diagnostics .entry)))) ⌝ }
+    ensures { λ _. ⌜ ListedInto (tablesOf (now (bytes .entry)) (now (n .entry)) (now (c .entry)) (now (f .entry)) (now (x .entry)) (now (p .entry)) (now (i .entry)) (now (t .entry)) (now (q .entry)) (now (u .entry)) (now (e .entry)) (now (r .entry))) (now (rows .entry)) (now (diagnostics .entry)) (listed (answerFor (tablesOf (now (bytes .entry)) (now (n .entry)) (now (c .entry)) (now (f .entry)) (now (x .entry)) (now (p .entry)) (now (i .entry)) (now (t .entry)) (now (q .entry)) (now (u .entry)) (now (e .entry)) (now (r .entry))) (now (rows .entry)) (now (diagnostics .entry)))) (now (rows .exit)) (now (diagnostics .exit)) ⌝ }
+{
+    let answer = instance::compute_semantic_connections(
+        bytes,
+        n,
+        c,
+        f,
+        x,
+        p,
+        i,
+        t,
+        q,
+        u,
+        e,
+        r,
+        rows,
+        diagnostics,
+    );
+    match answer {
+        Listed::Rows(k, d) => {
+            *told = [0, k as u64, d as u64];
+        }
+        Listed::Refused(reason) => {
+            *told = [
+                reason.number as u64,
+                reason.place as u64,
+                reason.letter as u64,
+            ];
+        }
+    }
+}

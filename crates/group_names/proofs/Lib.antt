@@ -1,0 +1,4 @@
+pub mod Names
+pub mod Blocks
+mod Joining
+mod Composing

@@ -1,0 +1,24 @@
+use Rattle.group_walk.proofs.Laws.{turn-none, turn-in, turn-out, turn-other}
+use Rattle.group_walk.proofs.turn.Statement.{statement}
+use Rattle.group_walk.proofs.turn.Tie as tie
+use Rattle.group_walk.proofs.turn.Reads as reads
+use Rattle.group_walk.proofs.turn.Lts as lts
+
+-- src/lib.rt:32:9
+returns : tie.Need-returns
+returns c = turn-none _ _ (c .if1 .taken)
+
+-- src/lib.rt:35:9
+returns-2 : tie.Need-returns-2
+returns-2 c = turn-in _ _ (c .before .if1 .left) (c .if2 .taken)
+
+-- src/lib.rt:38:9
+returns-3 : tie.Need-returns-3
+returns-3 c = turn-out _ _ (c .before .before .if1 .left) (c .if3 .taken)
+
+-- src/lib.rt:28:1
+returns-4 : tie.Need-returns-4
+returns-4 c = turn-other _ _ (c .before .before .if1 .left) (c .before .if2 .left) (c .if3 .left)
+
+pub turn-spec : {M : Type 1} → statement M
+turn-spec = tie.close (tie.spec returns returns-2 returns-3 returns-4)

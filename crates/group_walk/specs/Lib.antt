@@ -1,0 +1,4 @@
+-- A walk over an expansion.
+--
+--     Run   what an expansion does to what a walk carries, and when it is over the limit of visits
+pub mod Run

@@ -1,0 +1,290 @@
+// The expansion of a feature group (feature_group.rs, `expand_from_ref`): one routine visits a reference, the other walks the features of the type
+// that it means, and they call each other. What is done with a feature is `sink::take_feature`.
+use as5506::MISSING;
+use as5506::VISITS;
+use lent::number_at;
+use links::UNFOUND;
+use sink::Feature;
+use sink::Purpose;
+use sink::Tally;
+ghost use mathlib.Core.Bool.{_&&_};
+ghost use mathlib.Core.Path.{_≡_};
+ghost use Prim.Native.Nat.{ℕ, _+_, _*_, _/_, _<_, _≤_};
+ghost use lib.Dec.{eqb};
+ghost use lib.ListN.{length, take};
+ghost use Rattle.as5506.specs.Tables.{eHolder, eHolderKind};
+ghost use Rattle.as5506.specs.Groups.{turned};
+ghost use Rattle.links.specs.Walk.{groupsIn, declaredIn, rowsIn, walk, visitLink};
+ghost use Rattle.sink.specs.Take.{held, taken, Ready};
+ghost use Rattle.group_walk.specs.Run.{going, run, stateOf};
+
+// How a walk ends: with over 65,536 visits, or with what was written and the number of visits.
+pub enum Walked {
+    Over,
+    Done { tally: Tally, visits: u32 },
+}
+
+// A direction with the inverse flag: in and out are swapped.
+fn turn(inverse: bool, direction: u32) -> u32
+    ensures { λ z. ⌜ z ≡ turned inverse direction ⌝ }
+{
+    if !inverse {
+        return direction;
+    }
+    if direction == 0 {
+        return 1;
+    }
+    if direction == 1 {
+        return 0;
+    }
+    direction
+}
+
+// Whether E row i is a feature of group type `row`.
+fn belongs(e: &[u32], row: u32, i: usize) -> bool
+    requires { ⌜ i < length (now e) / 8 ⌝ }
+    ensures { λ z. ⌜ z ≡ eqb (eHolder (declaredIn (now (e .entry))) i) row && eqb (eHolderKind (declaredIn (now (e .entry))) i) 1 ⌝ }
+{
+    let place = i * 8;
+    if number_at(e, place + 1) != row {
+        return false;
+    }
+    number_at(e, place) == 1
+}
+
+// Visits what a link means: a row of U, or nothing. `left`: how many visits may lie one inside the other, this one included.
+pub fn visit(
+    e: &[u32],
+    nested: &[u32],
+    extends: &[u32],
+    inverse: &[u32],
+    bytes: &[u8],
+    n: &[u32],
+    kept: &[u32],
+    memo: &mut [u32],
+    out: &mut [u32],
+    notes: &mut [u32],
+    purpose: Purpose,
+    to: u32,
+    turned: bool,
+    prefix: [u32; 11],
+    len: usize,
+    left: usize,
+    tally: Tally,
+    visits: u32,
+) -> Walked
+    requires { ⌜ Ready purpose (now bytes) (now n) (now kept) (now memo) × (length prefix ≡ 11) × (len + left ≤ 11) ⌝ }
+    ensures { λ z. ⌜ stateOf z (now (memo .exit)) (now (out .exit)) (now (notes .exit))
+        ≡ run (taken purpose (now (bytes .entry)) (now (n .entry)) (now (kept .entry))) (going (held tally (now (memo .entry)) (now (out .entry)) (now (notes .entry))) visits)
+        (visitLink (groupsIn (now (e .entry)) (now (nested .entry)) (now (extends .entry)) (now (inverse .entry))) left to turned (take len prefix)) ⌝ }
+{
+    if VISITS <= visits {
+        return Walked::Over;
+    }
+    let next = visits + 1;
+    if left == 0 {
+        return Walked::Done {
+            tally: tally,
+            visits: next,
+        };
+    }
+    if UNFOUND <= to {
+        return Walked::Done {
+            tally: tally,
+            visits: next,
+        };
+    }
+    let below = left - 1;
+    let row = to as usize;
+    let back = number_at(inverse, row);
+    if back != MISSING {
+        return visit(
+            e,
+            nested,
+            extends,
+            inverse,
+            bytes,
+            n,
+            kept,
+            memo,
+            out,
+            notes,
+            purpose,
+            back,
+            !turned,
+            prefix,
+            len,
+            below,
+            tally,
+            next,
+        );
+    }
+    let up = number_at(extends, row);
+    if up == MISSING {
+        return walk_features(
+            e,
+            nested,
+            extends,
+            inverse,
+            bytes,
+            n,
+            kept,
+            memo,
+            out,
+            notes,
+            purpose,
+            to,
+            turned,
+            prefix,
+            len,
+            below,
+            tally,
+            next,
+        );
+    }
+    match visit(
+        e,
+        nested,
+        extends,
+        inverse,
+        bytes,
+        n,
+        kept,
+        memo,
+        out,
+        notes,
+        purpose,
+        up,
+        turned,
+        prefix,
+        len,
+        below,
+        tally,
+        next,
+    ) {
+        Walked::Over => Walked::Over,
+        Walked::Done {
+            tally: so_far,
+            visits: seen,
+        } => walk_features(
+            e,
+            nested,
+            extends,
+            inverse,
+            bytes,
+            n,
+            kept,
+            memo,
+            out,
+            notes,
+            purpose,
+            to,
+            turned,
+            prefix,
+            len,
+            below,
+            so_far,
+            seen,
+        ),
+    }
+}
+
+// Walks the features of group type `row`. `left`: how many visits may lie one inside the other below it.
+fn walk_features(
+    e: &[u32],
+    nested: &[u32],
+    extends: &[u32],
+    inverse: &[u32],
+    bytes: &[u8],
+    n: &[u32],
+    kept: &[u32],
+    memo: &mut [u32],
+    out: &mut [u32],
+    notes: &mut [u32],
+    purpose: Purpose,
+    row: u32,
+    turned: bool,
+    prefix: [u32; 11],
+    len: usize,
+    left: usize,
+    tally: Tally,
+    visits: u32,
+) -> Walked
+    requires { ⌜ Ready purpose (now bytes) (now n) (now kept) (now memo) × (length prefix ≡ 11) × (len + left ≤ 10) × (visits ≤ 65536) ⌝ }
+    ensures { λ z. ⌜ stateOf z (now (memo .exit)) (now (out .exit)) (now (notes .exit))
+        ≡ run (taken purpose (now (bytes .entry)) (now (n .entry)) (now (kept .entry))) (going (held tally (now (memo .entry)) (now (out .entry)) (now (notes .entry))) visits)
+        (walk (groupsIn (now (e .entry)) (now (nested .entry)) (now (extends .entry)) (now (inverse .entry)))
+        (visitLink (groupsIn (now (e .entry)) (now (nested .entry)) (now (extends .entry)) (now (inverse .entry))) left) turned (take len prefix)
+        (rowsIn (groupsIn (now (e .entry)) (now (nested .entry)) (now (extends .entry)) (now (inverse .entry))) row)) ⌝ }
+{
+    let count = e.len() / 8;
+    let mut so_far = tally;
+    let mut seen = visits;
+    let mut i: usize = 0;
+    while i < count {
+        if belongs(e, row, i) {
+            let place = i * 8;
+            let name = number_at(e, place + 2);
+            let to = number_at(nested, i);
+            if to == MISSING {
+                let feature = Feature {
+                    name: name,
+                    kind: number_at(e, place + 3),
+                    direction: turn(turned, number_at(e, place + 4)),
+                    prefix: prefix,
+                    len: len,
+                };
+                so_far = sink::take_feature(
+                    bytes,
+                    n,
+                    kept,
+                    memo,
+                    out,
+                    notes,
+                    purpose,
+                    feature,
+                    so_far,
+                );
+            } else {
+                let mut longer = prefix;
+                longer[len] = name;
+                match visit(
+                    e,
+                    nested,
+                    extends,
+                    inverse,
+                    bytes,
+                    n,
+                    kept,
+                    memo,
+                    out,
+                    notes,
+                    purpose,
+                    to,
+                    turned,
+                    longer,
+                    len + 1,
+                    left,
+                    so_far,
+                    seen,
+                ) {
+                    Walked::Over => {
+                        return Walked::Over;
+                    }
+                    Walked::Done {
+                        tally: then,
+                        visits: s,
+                    } => {
+                        so_far = then;
+                        seen = s;
+                    }
+                }
+            }
+        }
+        i += 1;
+    }
+    Walked::Done {
+        tally: so_far,
+        visits: seen,
+    }
+}

@@ -1,0 +1,212 @@
+//! The library's calls. A slice crosses as two arguments, its pointer and its length.
+
+use crate::tables::Tables;
+
+/// Declares a call that takes the twelve tables first.
+macro_rules! over_tables {
+    ($name:ident($($argument:ident: $kind:ty),*)) => {
+        unsafe extern "C" {
+            fn $name(
+                bytes: *const u8,
+                bytes_length: usize,
+                n: *const u32,
+                n_length: usize,
+                c: *const u32,
+                c_length: usize,
+                f: *const u32,
+                f_length: usize,
+                x: *const u32,
+                x_length: usize,
+                p: *const u32,
+                p_length: usize,
+                i: *const u32,
+                i_length: usize,
+                t: *const u32,
+                t_length: usize,
+                q: *const u32,
+                q_length: usize,
+                u: *const u32,
+                u_length: usize,
+                e: *const u32,
+                e_length: usize,
+                r: *const u32,
+                r_length: usize,
+                $($argument: $kind),*
+            );
+        }
+    };
+}
+
+/// Makes such a call. The caller has seen to it that no slice overlaps another.
+macro_rules! call {
+    ($name:ident, $tables:expr, $($argument:expr),*) => {{
+        let [n, c, f, x, p, i, t, q, u, e, r] = &$tables.letters;
+        let bytes = &$tables.bytes;
+        $name(
+            bytes.as_ptr(),
+            bytes.len(),
+            n.as_ptr(),
+            n.len(),
+            c.as_ptr(),
+            c.len(),
+            f.as_ptr(),
+            f.len(),
+            x.as_ptr(),
+            x.len(),
+            p.as_ptr(),
+            p.len(),
+            i.as_ptr(),
+            i.len(),
+            t.as_ptr(),
+            t.len(),
+            q.as_ptr(),
+            q.len(),
+            u.as_ptr(),
+            u.len(),
+            e.as_ptr(),
+            e.len(),
+            r.as_ptr(),
+            r.len(),
+            $($argument),*
+        )
+    }};
+}
+
+over_tables!(conlist_check_tables(told: *mut u64));
+over_tables!(conlist_expand_feature_group(out: *mut u32, out_length: usize, from: u32, type_name: u32, inverse: bool, told: *mut u64));
+over_tables!(conlist_compute_semantic_connections(rows: *mut u32, rows_length: usize, diagnostics: *mut u32, diagnostics_length: usize, told: *mut u64));
+over_tables!(conlist_expand_feature_group_connections(
+    rows: *mut u32,
+    rows_length: usize,
+    names: *mut u8,
+    names_length: usize,
+    diagnostics: *mut u32,
+    diagnostics_length: usize,
+    told: *mut u64
+));
+over_tables!(conlist_list_connections(
+    rows: *mut u32,
+    rows_length: usize,
+    diagnostics: *mut u32,
+    diagnostics_length: usize,
+    group_rows: *mut u32,
+    group_rows_length: usize,
+    names: *mut u8,
+    names_length: usize,
+    group_diagnostics: *mut u32,
+    group_diagnostics_length: usize,
+    told: *mut u64
+));
+
+/// Zeros, or a refusal's number, place and letter.
+pub fn check_tables(tables: &Tables) -> [u64; 3] {
+    let mut told = [u64::MAX; 3];
+    // SAFETY: every slice crosses as its pointer and length, and none overlaps another.
+    unsafe { call!(conlist_check_tables, tables, told.as_mut_ptr()) };
+    told
+}
+
+/// 0, the features and the visits, or a refusal's number, place and letter.
+pub fn expand_feature_group(
+    tables: &Tables,
+    out: &mut [u32],
+    from: u32,
+    type_name: u32,
+    inverse: bool,
+) -> [u64; 3] {
+    let mut told = [u64::MAX; 3];
+    // SAFETY: as above.
+    unsafe {
+        call!(
+            conlist_expand_feature_group,
+            tables,
+            out.as_mut_ptr(),
+            out.len(),
+            from,
+            type_name,
+            inverse,
+            told.as_mut_ptr()
+        )
+    };
+    told
+}
+
+/// 0, the rows and the diagnostics, or a refusal's number, place and letter.
+pub fn compute_semantic_connections(
+    tables: &Tables,
+    rows: &mut [u32],
+    diagnostics: &mut [u32],
+) -> [u64; 3] {
+    let mut told = [u64::MAX; 3];
+    // SAFETY: as above.
+    unsafe {
+        call!(
+            conlist_compute_semantic_connections,
+            tables,
+            rows.as_mut_ptr(),
+            rows.len(),
+            diagnostics.as_mut_ptr(),
+            diagnostics.len(),
+            told.as_mut_ptr()
+        )
+    };
+    told
+}
+
+/// 0, the rows and the diagnostics, or a refusal's number, place and letter.
+pub fn expand_feature_group_connections(
+    tables: &Tables,
+    rows: &mut [u32],
+    names: &mut [u8],
+    diagnostics: &mut [u32],
+) -> [u64; 3] {
+    let mut told = [u64::MAX; 3];
+    // SAFETY: as above.
+    unsafe {
+        call!(
+            conlist_expand_feature_group_connections,
+            tables,
+            rows.as_mut_ptr(),
+            rows.len(),
+            names.as_mut_ptr(),
+            names.len(),
+            diagnostics.as_mut_ptr(),
+            diagnostics.len(),
+            told.as_mut_ptr()
+        )
+    };
+    told
+}
+
+/// The outputs of both listings.
+pub struct Outputs<'a> {
+    pub rows: &'a mut [u32],
+    pub diagnostics: &'a mut [u32],
+    pub group_rows: &'a mut [u32],
+    pub names: &'a mut [u8],
+    pub group_diagnostics: &'a mut [u32],
+}
+
+/// 0 and the rows and diagnostics of the traced and of the group listing, or a refusal's number, place and letter and zeros.
+pub fn list_connections(tables: &Tables, outputs: Outputs) -> [u64; 5] {
+    let mut told = [u64::MAX; 5];
+    // SAFETY: as above.
+    unsafe {
+        call!(
+            conlist_list_connections,
+            tables,
+            outputs.rows.as_mut_ptr(),
+            outputs.rows.len(),
+            outputs.diagnostics.as_mut_ptr(),
+            outputs.diagnostics.len(),
+            outputs.group_rows.as_mut_ptr(),
+            outputs.group_rows.len(),
+            outputs.names.as_mut_ptr(),
+            outputs.names.len(),
+            outputs.group_diagnostics.as_mut_ptr(),
+            outputs.group_diagnostics.len(),
+            told.as_mut_ptr()
+        )
+    };
+    told
+}
