@@ -1,0 +1,5 @@
+mod Added
+mod Digits
+mod Blocks
+mod Messages
+pub mod Printed
