@@ -147,6 +147,13 @@ module _ (does : Take) where
   -- ---- the answer of a part, and what follows it
 
   module _ (r : Walked) (memo out notes : List ℕ) (s : State) (x : Expansion) (e : stateOf r memo out notes ≡ run does s x) where
+    pub over-is : r ≡ Over → over ≡ run does s x
+    unfolding stateOf
+    over-is q = rw (← e, q)
+
+    pub done-is : (t : Tally) (v : ℕ) → r ≡ Done t v → stateOf (Done t v) memo out notes ≡ run does s x
+    done-is t v q = rw (← e, q)
+
     pub over-then : r ≡ Over → (y : Expansion) → over ≡ run does (run does s x) y
     unfolding run stateOf
     over-then q y = rw (← e, q)
@@ -164,30 +171,38 @@ is-missing : (v : ℕ) → v ≡ missing → present v ≡ false
 is-missing v q = rw (eq-eqb v missing q) refl
 
 module _ (g : Groups) (visit : Visit) (inverse : Bool) (prefix : List ℕ) (to : ℕ) where
-  abbrev pub found : Expansion
+  abbrev found : Expansion
   found = foundBy (ltb to unfound) g visit inverse prefix to
+
+  -- what a group type gives
+  abbrev pub meant : Expansion
+  meant = typeBy (present (getD (g .inverse) to 0)) g visit inverse prefix to
 
   -- what its own features give
   abbrev pub own : Expansion
   own = walk g visit inverse prefix (rowsIn g to)
 
-  pub found-nothing : unfound ≤ to → found ≡ joined []
+  found-nothing : unfound ≤ to → found ≡ joined []
   unfolding foundBy
   found-nothing l = rw (le-ltb to unfound l)
 
-  module _ (l : to < unfound) (back : ℕ) (b : back ≡ getD (g .inverse) to 0) where
-    pub found-inverse : (back ≡ missing → ⊥) → found ≡ visit back (not inverse) prefix
-    unfolding foundBy typeBy
-    found-inverse q = rw (lt-ltb to unfound l, b, is-present (getD (g .inverse) to 0) (λ z. q (b ∙ z)))
+  found-type : to < unfound → found ≡ meant
+  unfolding foundBy
+  found-type l = rw (lt-ltb to unfound l)
+
+  module _ (back : ℕ) (b : back ≡ getD (g .inverse) to 0) where
+    meant-inverse : (back ≡ missing → ⊥) → meant ≡ visit back (not inverse) prefix
+    unfolding typeBy
+    meant-inverse q = rw (b, is-present (getD (g .inverse) to 0) (λ z. q (b ∙ z)))
 
     module _ (q : back ≡ missing) (up : ℕ) (u : up ≡ getD (g .extends) to 0) where
-      pub found-own : up ≡ missing → found ≡ joined (joined [] ∷ own ∷ [])
-      unfolding foundBy typeBy extendedBy
-      found-own p = rw (lt-ltb to unfound l, ← b, is-missing back q, ← u, is-missing up p)
+      meant-own : up ≡ missing → meant ≡ joined (joined [] ∷ own ∷ [])
+      unfolding typeBy extendedBy
+      meant-own p = rw (← b, is-missing back q, ← u, is-missing up p)
 
-      pub found-both : (up ≡ missing → ⊥) → found ≡ joined (visit up inverse prefix ∷ own ∷ [])
-      unfolding foundBy typeBy extendedBy
-      found-both p = rw (lt-ltb to unfound l, ← b, is-missing back q, u, is-present (getD (g .extends) to 0) (λ z. p (u ∙ z)))
+      meant-both : (up ≡ missing → ⊥) → meant ≡ joined (visit up inverse prefix ∷ own ∷ [])
+      unfolding typeBy extendedBy
+      meant-both p = rw (← b, is-missing back q, u, is-present (getD (g .extends) to 0) (λ z. p (u ∙ z)))
 
 -- ---- a visit, as the code makes it
 
@@ -221,19 +236,29 @@ module _ (does : Take) (g : Groups) (to : ℕ) (inverse : Bool) (prefix : List �
     pub visit-nothing : unfound ≤ to → going h (k + 1) ≡ whole
     visit-nothing u = sym (visit-found (joined []) (found-nothing g below inverse prefix to u) ∙ run-nothing does h (k + 1) (omega arith))
 
-    module _ (u : to < unfound) (back : ℕ) (b : back ≡ getD (g .inverse) to 0) where
-      pub visit-inverse : (back ≡ missing → ⊥) → whole ≡ run does (going h (k + 1)) (below back (not inverse) prefix)
-      visit-inverse i = visit-found _ (found-inverse g below inverse prefix to u back b i)
+    pub visit-type : to < unfound → whole ≡ run does (going h (k + 1)) (meant g below inverse prefix to)
+    visit-type u = visit-found (meant g below inverse prefix to) (found-type g below inverse prefix to u)
 
-      module _ (i : back ≡ missing) (up : ℕ) (e : up ≡ getD (g .extends) to 0) where
-        pub visit-own : up ≡ missing → whole ≡ run does (going h (k + 1)) (own g below inverse prefix to)
-        visit-own p =
-            visit-found _ (found-own g below inverse prefix to u back b i up e p)
-            ∙ run-both does (going h (k + 1)) (joined []) (own g below inverse prefix to)
-            ∙ rw (run-nothing does h (k + 1) (omega arith))
+-- ---- what a group type gives, as the code makes it
 
-        pub visit-both : (up ≡ missing → ⊥) → whole ≡ run does (run does (going h (k + 1)) (below up inverse prefix)) (own g below inverse prefix to)
-        visit-both p = visit-found _ (found-both g below inverse prefix to u back b i up e p) ∙ run-both does (going h (k + 1)) (below up inverse prefix) (own g below inverse prefix to)
+module _ (does : Take) (g : Groups) (visit : Visit) (inverse : Bool) (prefix : List ℕ) (to : ℕ) (h : Held) (k : ℕ) (back : ℕ) (b : back ≡ getD (g .inverse) to 0) where
+  abbrev expanded : State
+  expanded = run does (going h k) (meant g visit inverse prefix to)
+
+  pub type-inverse : (back ≡ missing → ⊥) → expanded ≡ run does (going h k) (visit back (not inverse) prefix)
+  type-inverse i = ap (run does (going h k)) (meant-inverse g visit inverse prefix to back b i)
+
+  module _ (i : back ≡ missing) (up : ℕ) (e : up ≡ getD (g .extends) to 0) where
+    pub type-own : k ≤ visitLimit → up ≡ missing → expanded ≡ run does (going h k) (own g visit inverse prefix to)
+    type-own l p =
+        ap (run does (going h k)) (meant-own g visit inverse prefix to back b i up e p)
+        ∙ run-both does (going h k) (joined []) (own g visit inverse prefix to)
+        ∙ rw (run-nothing does h k l)
+
+    pub type-both : (up ≡ missing → ⊥) → expanded ≡ run does (run does (going h k) (visit up inverse prefix)) (own g visit inverse prefix to)
+    type-both p =
+        ap (run does (going h k)) (meant-both g visit inverse prefix to back b i up e p)
+        ∙ run-both does (going h k) (visit up inverse prefix) (own g visit inverse prefix to)
 
 -- ---- the rows of a group type
 

@@ -1,5 +1,7 @@
 // The expansion of a feature group (feature_group.rs, `expand_from_ref`): one routine visits a reference, the other walks the features of the type
-// that it means, and they call each other. What is done with a feature is `sink::take_feature`.
+// that it means, and they call each other. What is done with a feature is `sink::take_feature`. A walk may make 65,536 visits, and most of them
+// change nothing: names that have come, outputs that are full. So a table `calm` has a number for each group type and level: 0, or how many visits
+// a visit there makes that is known to change nothing. Such a visit is passed over, and its visits are counted.
 use as5506::MISSING;
 use as5506::VISITS;
 use lent::number_at;
@@ -11,12 +13,17 @@ ghost use mathlib.Core.Bool.{_&&_};
 ghost use mathlib.Core.Path.{_≡_};
 ghost use Prim.Native.Nat.{ℕ, _+_, _*_, _/_, _<_, _≤_};
 ghost use lib.Dec.{eqb};
-ghost use lib.ListN.{length, take};
-ghost use Rattle.as5506.specs.Tables.{eHolder, eHolderKind};
+ghost use lib.ListN.{length, getD, take};
+ghost use Rattle.as5506.specs.Tables.{eHolder, eHolderKind, present};
 ghost use Rattle.as5506.specs.Groups.{turned};
-ghost use Rattle.links.specs.Walk.{groupsIn, declaredIn, rowsIn, walk, visitLink};
+ghost use Rattle.links.specs.Walk.{groupsIn, declaredIn, rowsIn, walk, typeBy, visitLink};
 ghost use Rattle.sink.specs.Take.{held, taken, Ready};
+ghost use Rattle.sink.specs.Dull.{Dull};
 ghost use Rattle.group_walk.specs.Run.{going, run, stateOf};
+ghost use Rattle.group_walk.specs.Calm.{Passable, CalmAfter};
+
+// How many visits may lie one inside the other.
+pub const LEVELS: usize = 11;
 
 // How a walk ends: with over 65,536 visits, or with what was written and the number of visits.
 pub enum Walked {
@@ -52,7 +59,8 @@ fn belongs(e: &[u32], row: u32, i: usize) -> bool
     number_at(e, place) == 1
 }
 
-// Visits what a link means: a row of U, or nothing. `left`: how many visits may lie one inside the other, this one included.
+// Visits what a link means: a row of U, or nothing. `left`: how many visits may lie one inside the other, this one included. Where the visit is
+// known to change nothing, its visits are counted only.
 pub fn visit(
     e: &[u32],
     nested: &[u32],
@@ -64,6 +72,7 @@ pub fn visit(
     memo: &mut [u32],
     out: &mut [u32],
     notes: &mut [u32],
+    calm: &mut [u32],
     purpose: Purpose,
     to: u32,
     turned: bool,
@@ -74,9 +83,12 @@ pub fn visit(
     visits: u32,
 ) -> Walked
     requires { ⌜ Ready purpose (now bytes) (now n) (now kept) (now memo) × (length prefix ≡ 11) × (len + left ≤ 11) ⌝ }
+    requires { ⌜ Passable (groupsIn (now e) (now nested) (now extends) (now inverse)) (Dull purpose (now bytes) (now n) (now kept)) (held tally (now memo) (now out) (now notes)) (now calm) ⌝ }
     ensures { λ z. ⌜ stateOf z (now (memo .exit)) (now (out .exit)) (now (notes .exit))
         ≡ run (taken purpose (now (bytes .entry)) (now (n .entry)) (now (kept .entry))) (going (held tally (now (memo .entry)) (now (out .entry)) (now (notes .entry))) visits)
         (visitLink (groupsIn (now (e .entry)) (now (nested .entry)) (now (extends .entry)) (now (inverse .entry))) left to turned (take len prefix)) ⌝ }
+    ensures { λ z. ⌜ CalmAfter z (groupsIn (now (e .entry)) (now (nested .entry)) (now (extends .entry)) (now (inverse .entry))) (Dull purpose (now (bytes .entry)) (now (n .entry)) (now (kept .entry)))
+        (now (memo .exit)) (now (out .exit)) (now (notes .exit)) (now (calm .exit)) ⌝ }
 {
     if VISITS <= visits {
         return Walked::Over;
@@ -96,7 +108,92 @@ pub fn visit(
     }
     let below = left - 1;
     let row = to as usize;
-    let back = number_at(inverse, row);
+    let place = row * LEVELS + below;
+    let known = number_at(calm, place);
+    if known != 0 {
+        if VISITS - visits < known {
+            return Walked::Over;
+        }
+        let all = visits + known;
+        return Walked::Done {
+            tally: tally,
+            visits: all,
+        };
+    }
+    match expand_type(
+        e,
+        nested,
+        extends,
+        inverse,
+        bytes,
+        n,
+        kept,
+        memo,
+        out,
+        notes,
+        calm,
+        purpose,
+        to,
+        turned,
+        prefix,
+        len,
+        below,
+        tally,
+        next,
+    ) {
+        Walked::Over => Walked::Over,
+        Walked::Done {
+            tally: then,
+            visits: seen,
+        } => {
+            if then.used == tally.used {
+                if then.noted == tally.noted {
+                    let made = seen - visits;
+                    lent::put_number(calm, place, made);
+                }
+            }
+            Walked::Done {
+                tally: then,
+                visits: seen,
+            }
+        }
+    }
+}
+
+// What group type `row` gives: what it is the inverse of; else what it extends, and its own features. `left`: how many visits may lie one inside
+// the other below it.
+fn expand_type(
+    e: &[u32],
+    nested: &[u32],
+    extends: &[u32],
+    inverse: &[u32],
+    bytes: &[u8],
+    n: &[u32],
+    kept: &[u32],
+    memo: &mut [u32],
+    out: &mut [u32],
+    notes: &mut [u32],
+    calm: &mut [u32],
+    purpose: Purpose,
+    row: u32,
+    turned: bool,
+    prefix: [u32; 11],
+    len: usize,
+    left: usize,
+    tally: Tally,
+    visits: u32,
+) -> Walked
+    requires { ⌜ Ready purpose (now bytes) (now n) (now kept) (now memo) × (length prefix ≡ 11) × (len + left ≤ 10) × (visits ≤ 65536) ⌝ }
+    requires { ⌜ Passable (groupsIn (now e) (now nested) (now extends) (now inverse)) (Dull purpose (now bytes) (now n) (now kept)) (held tally (now memo) (now out) (now notes)) (now calm) ⌝ }
+    ensures { λ z. ⌜ stateOf z (now (memo .exit)) (now (out .exit)) (now (notes .exit))
+        ≡ run (taken purpose (now (bytes .entry)) (now (n .entry)) (now (kept .entry))) (going (held tally (now (memo .entry)) (now (out .entry)) (now (notes .entry))) visits)
+        (typeBy (present (getD (now (inverse .entry)) row 0)) (groupsIn (now (e .entry)) (now (nested .entry)) (now (extends .entry)) (now (inverse .entry)))
+        (visitLink (groupsIn (now (e .entry)) (now (nested .entry)) (now (extends .entry)) (now (inverse .entry))) left) turned (take len prefix) row) ⌝ }
+    ensures { λ z. ⌜ CalmAfter z (groupsIn (now (e .entry)) (now (nested .entry)) (now (extends .entry)) (now (inverse .entry))) (Dull purpose (now (bytes .entry)) (now (n .entry)) (now (kept .entry)))
+        (now (memo .exit)) (now (out .exit)) (now (notes .exit)) (now (calm .exit)) ⌝ }
+{
+    let place = row as usize;
+    let back = number_at(inverse, place);
     if back != MISSING {
         return visit(
             e,
@@ -109,17 +206,18 @@ pub fn visit(
             memo,
             out,
             notes,
+            calm,
             purpose,
             back,
             !turned,
             prefix,
             len,
-            below,
+            left,
             tally,
-            next,
+            visits,
         );
     }
-    let up = number_at(extends, row);
+    let up = number_at(extends, place);
     if up == MISSING {
         return walk_features(
             e,
@@ -132,14 +230,15 @@ pub fn visit(
             memo,
             out,
             notes,
+            calm,
             purpose,
-            to,
+            row,
             turned,
             prefix,
             len,
-            below,
+            left,
             tally,
-            next,
+            visits,
         );
     }
     match visit(
@@ -153,14 +252,15 @@ pub fn visit(
         memo,
         out,
         notes,
+        calm,
         purpose,
         up,
         turned,
         prefix,
         len,
-        below,
+        left,
         tally,
-        next,
+        visits,
     ) {
         Walked::Over => Walked::Over,
         Walked::Done {
@@ -177,12 +277,13 @@ pub fn visit(
             memo,
             out,
             notes,
+            calm,
             purpose,
-            to,
+            row,
             turned,
             prefix,
             len,
-            below,
+            left,
             so_far,
             seen,
         ),
@@ -201,6 +302,7 @@ fn walk_features(
     memo: &mut [u32],
     out: &mut [u32],
     notes: &mut [u32],
+    calm: &mut [u32],
     purpose: Purpose,
     row: u32,
     turned: bool,
@@ -211,11 +313,14 @@ fn walk_features(
     visits: u32,
 ) -> Walked
     requires { ⌜ Ready purpose (now bytes) (now n) (now kept) (now memo) × (length prefix ≡ 11) × (len + left ≤ 10) × (visits ≤ 65536) ⌝ }
+    requires { ⌜ Passable (groupsIn (now e) (now nested) (now extends) (now inverse)) (Dull purpose (now bytes) (now n) (now kept)) (held tally (now memo) (now out) (now notes)) (now calm) ⌝ }
     ensures { λ z. ⌜ stateOf z (now (memo .exit)) (now (out .exit)) (now (notes .exit))
         ≡ run (taken purpose (now (bytes .entry)) (now (n .entry)) (now (kept .entry))) (going (held tally (now (memo .entry)) (now (out .entry)) (now (notes .entry))) visits)
         (walk (groupsIn (now (e .entry)) (now (nested .entry)) (now (extends .entry)) (now (inverse .entry)))
         (visitLink (groupsIn (now (e .entry)) (now (nested .entry)) (now (extends .entry)) (now (inverse .entry))) left) turned (take len prefix)
         (rowsIn (groupsIn (now (e .entry)) (now (nested .entry)) (now (extends .entry)) (now (inverse .entry))) row)) ⌝ }
+    ensures { λ z. ⌜ CalmAfter z (groupsIn (now (e .entry)) (now (nested .entry)) (now (extends .entry)) (now (inverse .entry))) (Dull purpose (now (bytes .entry)) (now (n .entry)) (now (kept .entry)))
+        (now (memo .exit)) (now (out .exit)) (now (notes .exit)) (now (calm .exit)) ⌝ }
 {
     let count = e.len() / 8;
     let mut so_far = tally;
@@ -259,6 +364,7 @@ fn walk_features(
                     memo,
                     out,
                     notes,
+                    calm,
                     purpose,
                     to,
                     turned,

@@ -1,4 +1,5 @@
 pub mod Ready
+pub mod Dull
 mod Blocks
 mod Search
 mod Purposes
