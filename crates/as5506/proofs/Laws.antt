@@ -1,16 +1,19 @@
--- Laws of lists that the proof of the limit asks for: `All` over a list, and `total`, the sum of a weight over a list.
--- Nothing here knows of the model. Assumes nothing.
+-- Laws of lists: `All` over a list, `each`, the first entry, and `total`, the sum of a weight over a list; and of numbers that may be missing.
+-- Assumes nothing.
 use mathlib.Core.Bool.{Bool, true, false, not, _&&_}
 use mathlib.Core.Logic.{inl, inr}
 use mathlib.Core.Path.{_≡_, refl, sym, ap, ap₂, _∙_, subst}
-use mathlib.Core.List.{List, [], _∷_, _++_, map}
+use mathlib.Core.List.{List, [], _∷_, _++_, map, append-assoc}
+use mathlib.Core.Option.{some}
 use Prim.Native.Nat.{ℕ, zero, suc, _+_, _*_, _≤_, _<_}
 use native.Mathlib.Nat.{zero-add, mul-comm, mul-add, add-mul, mul-le-mul-left, mul-le-mul-right, mul-lt-mul-of-pos-right, le-refl, le-trans, zero-mul, mul-zero}
 use native.Mathlib.Decide.{decLe}
 use native.Mathlib.Omega.{arith}
+use borrow.Author.Tests.{eq-eqb, ne-eqb}
 use lib.Dec.{T}
 use Rattle.as5506.specs.Followed.{In}
-use Rattle.as5506.specs.Lists.{span, upTo, putIf, keep, when, isNil, each, total}
+use Rattle.as5506.specs.Lists.{span, upTo, putIf, keep, when, isNil, firstOf, each, total}
+use Rattle.as5506.specs.Tables.{missing, present}
 
 module _ {A : Type 0} where
   abbrev pub All : (A → Type 0) → List A → Type 0
@@ -96,6 +99,10 @@ module _ {A B : Type 0} where
   mapped-all P Q f h [] t = tt
   mapped-all P Q f h (x ∷ xs) t = (h x (t .0), mapped-all P Q f h xs (t .1))
 
+  pub each-append : (f : A → List B) (a b : List A) → each f (a ++ b) ≡ each f a ++ each f b
+  each-append f [] b = refl
+  each-append f (x ∷ a) b = ap (λ (r : List B). f x ++ r) (each-append f a b) ∙ sym (append-assoc (f x) (each f a) (each f b))
+
   pub each-same : (f g : A → List B) (xs : List A) → All (λ x. f x ≡ g x) xs → each f xs ≡ each g xs
   each-same f g [] t = refl
   each-same f g (x ∷ xs) t = ap₂ _++_ (t .0) (each-same f g xs (t .1))
@@ -107,6 +114,20 @@ module _ {A B : Type 0} where
   pub total-map : (w : B → ℕ) (f : A → B) (xs : List A) → total w (map f xs) ≡ total (λ x. w (f x)) xs
   total-map w f [] = refl
   total-map w f (x ∷ xs) = ap (λ (n : ℕ). w (f x) + n) (total-map w f xs)
+
+-- ---- the first of a list
+
+pub all-first : (P : ℕ → Type 0) (xs : List ℕ) → All P xs → (i : ℕ) → some i ≡ firstOf xs → P i
+all-first P [] t i h = let z : _≡_ {A = ℕ} 0 1 = cc in absurd (omega arith)
+all-first P (x ∷ xs) t i h = let e : i ≡ x = cc in rw e (t .0)
+
+-- ---- a number that was read as v and may be missing
+
+pub missing-is : (v w : ℕ) → v ≡ w → v ≡ missing → present w ≡ false
+missing-is v w e f = rw (eq-eqb w missing (sym e ∙ f))
+
+pub present-is : (v w : ℕ) → v ≡ w → (v ≡ missing → ⊥) → present w ≡ true
+present-is v w e f = rw (ne-eqb w missing (λ z. f (e ∙ z)))
 
 -- ---- rows of a table
 

@@ -11,7 +11,8 @@ use Rattle.as5506.specs.Tables.{Tables, letterF, letterE, count, rowsNaming, fN
 use Rattle.as5506.specs.Names.{key}
 use Rattle.as5506.specs.Groups.{featureKindGroup}
 use Rattle.as5506.specs.GroupList.{isGroupFeature, declaredGroup}
-use Rattle.resolver.proofs.Scan.{keep-both, rows-first}
+use Rattle.as5506.proofs.Scans.{keep-both}
+use Rattle.resolver.proofs.Scan.{rows-first}
 use Rattle.endpoint.specs.declared.Found.{Found}
 use Rattle.endpoint.specs.declared.Found.the-variants.{At, Nothing}
 use Rattle.endpoint.specs.Ends.{rowOf, featuresIn, declaredIn, isGroup, isDeclared}

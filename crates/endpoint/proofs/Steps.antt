@@ -21,13 +21,13 @@ use Rattle.resolver.proofs.Answers.{meant, means}
 use Rattle.trace.specs.Steps.{tracingIn}
 use Rattle.trace.proofs.Scan.{found-same}
 use Rattle.endpoint.specs.Ends.{componentOf}
-use Rattle.endpoint.proofs.Tests.{absent, is-present}
+use Rattle.as5506.proofs.Laws.{missing-is, present-is}
 
 -- ---- the component of an end
 
 pub end-owner : (m : Tables) (s : Side) (i p sub : ℕ) → p ≡ xOwner m i → sub ≡ xSub m s i → sub ≡ missing → some p ≡ endComponent m s i
 unfolding endComponent endComponentBy
-end-owner m s i p sub e f h = rw (absent sub (xSub m s i) f h) (ap some e)
+end-owner m s i p sub e f h = rw (missing-is sub (xSub m s i) f h) (ap some e)
 
 -- an answer's child is the first
 first-child : (g : ℕ → List ℕ) (q : Child) → componentOf q ≡ firstOf (afterChild g q)
@@ -40,7 +40,7 @@ pub end-child :
 unfolding endComponent endComponentBy named
 end-child bytes n c x s i p sub q e f h a =
     let m : Tables = tracingIn bytes n c x in
-    rw (is-present sub (xSub m s i) f h)
+    rw (present-is sub (xSub m s i) f h)
     (first-child (foundFrom (componentsIn bytes n c) p (nameIn bytes n sub)) q
     ∙ ap firstOf
     (sym a ∙ found-same bytes n c x p (nameIn bytes n sub) 0 ∙ found-from-start m p (nameIn bytes n sub) ∙ ap₂ (λ (p sub : ℕ). foundChildren m p (nameIn bytes n sub)) e f))
@@ -50,16 +50,16 @@ end-child bytes n c x s i p sub q e f h a =
 module _ (m : Tables) (c e v : ℕ) (a : v ≡ eClassifier m e .type) where
   pub no-classifier : v ≡ missing → none ≡ classifierBy (present (eClassifier m e .type)) m c (eClassifier m e)
   unfolding classifierBy
-  no-classifier h = rw (absent v (eClassifier m e .type) a h)
+  no-classifier h = rw (missing-is v (eClassifier m e .type) a h)
 
   module _ (h : v ≡ missing → ⊥) (w : ℕ) (b : w ≡ eClassifier m e .pkg) where
     pub from-component : (g : ℕ) → w ≡ missing → g ≡ cPackage m c → some (expand m g v) ≡ classifierBy (present (eClassifier m e .type)) m c (eClassifier m e)
     unfolding classifierBy
-    from-component g k d = rw (is-present v (eClassifier m e .type) a h, absent w (eClassifier m e .pkg) b k) (ap some (ap₂ (expand m) d a))
+    from-component g k d = rw (present-is v (eClassifier m e .type) a h, missing-is w (eClassifier m e .pkg) b k) (ap some (ap₂ (expand m) d a))
 
     pub from-classifier : (w ≡ missing → ⊥) → some (expand m w v) ≡ classifierBy (present (eClassifier m e .type)) m c (eClassifier m e)
     unfolding classifierBy
-    from-classifier k = rw (is-present v (eClassifier m e .type) a h, is-present w (eClassifier m e .pkg) b k) (ap some (ap₂ (expand m) b a))
+    from-classifier k = rw (present-is v (eClassifier m e .type) a h, present-is w (eClassifier m e .pkg) b k) (ap some (ap₂ (expand m) b a))
 
 -- ---- the group of feature f of component c
 

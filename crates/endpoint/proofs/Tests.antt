@@ -8,7 +8,7 @@ use lib.Dec.{eqb}
 use lib.ListN.{getD}
 use borrow.Author.Tests.{eq-eqb, ne-eqb}
 use Rattle.as5506.specs.Lists.{sameBytes}
-use Rattle.as5506.specs.Tables.{Tables, missing, present, nameOf}
+use Rattle.as5506.specs.Tables.{Tables, nameOf}
 use Rattle.as5506.specs.Names.{key, sameFolded}
 use Rattle.name.proofs.Compare.{keys-folded}
 
@@ -28,12 +28,6 @@ module _ (v w : ℕ) (e : v ≡ w) where
 
   pub other : (k : ℕ) → (v ≡ k → ⊥) → eqb w k ≡ false
   other k h = ne-eqb w k (λ z. h (e ∙ z))
-
-  pub absent : v ≡ missing → present w ≡ false
-  absent h = rw (equal missing h)
-
-  pub is-present : (v ≡ missing → ⊥) → present w ≡ true
-  is-present h = rw (other missing h)
 
 -- the first field of a row
 pub first-field : (t : List ℕ) (place v : ℕ) → v ≡ getD t place 0 → v ≡ getD t (place + 0) 0

@@ -17,7 +17,8 @@ use Rattle.lent.proofs.Sets.{sets-append, sets-behind}
 use Rattle.lent.proofs.Append.{all-length, all-bound, all-append, all-fit, all-full}
 use Rattle.group_names.specs.Compose.{connectionsIn, Pair, pairBlock, pairRows, rowsOfPairs, AllShort, Holds, ShortNames, Composed}
 use Rattle.group_names.specs.Pieces.{dotPieces, joinedPieces, featureNames, ownPieces, sourcePieces, partnerPieces, pairPieces, featureBack, pairBack, blockWith}
-use Rattle.group_names.proofs.Names.{each-append, joined-short, pair-block, pairs-names}
+use Rattle.as5506.proofs.Laws.{each-append}
+use Rattle.group_names.proofs.Names.{joined-short, pair-block, pairs-names}
 use Rattle.group_names.proofs.Blocks.{pair-length, pair-back, prefix-short, block-length}
 
 -- ---- pieces that are all written

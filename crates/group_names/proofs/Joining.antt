@@ -11,7 +11,7 @@ use Rattle.as5506.specs.Tables.{nameIn}
 use Rattle.lent.specs.Append.{Filled, append, appendAll}
 use Rattle.lent.proofs.Append.{all-append}
 use Rattle.group_names.specs.Pieces.{dotPieces, joinedPieces}
-use Rattle.group_names.proofs.Names.{each-append}
+use Rattle.as5506.proofs.Laws.{each-append}
 
 module _ (bytes n ks : List ℕ) where
   -- of the names ks, behind `start`, those from place k on are still to be put behind o

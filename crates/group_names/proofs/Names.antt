@@ -10,19 +10,11 @@ use Rattle.as5506.specs.Tables.{Tables, source, destination, nameIn, nameOf, xN
 use Rattle.as5506.specs.GroupList.{dotted, fullName, matchRow}
 use Rattle.as5506.specs.Listing.{rowNames}
 use Rattle.as5506.specs.Layout.{groupBlock}
+use Rattle.as5506.proofs.Laws.{each-append}
 use Rattle.lent.specs.Append.{together}
+use Rattle.lent.proofs.Append.{together-append}
 use Rattle.group_names.specs.Compose.{Pair, pairRows, rowsOfPairs, ShortNames}
 use Rattle.group_names.specs.Pieces.{joinedPieces, featureNames, ownPieces, sourcePieces, partnerPieces, pairPieces, blockWith}
-
--- ---- lists
-
-module _ {A B : Type 0} where
-  pub each-append : (f : A → List B) (a b : List A) → each f (a ++ b) ≡ each f a ++ each f b
-  each-append f [] b = refl
-  each-append f (x ∷ a) b = ap (λ (r : List B). f x ++ r) (each-append f a b) ∙ sym (append-assoc (f x) (each f a) (each f b))
-
-pub together-append : (ps qs : List (List ℕ)) → together (ps ++ qs) ≡ together ps ++ together qs
-together-append ps qs = each-append (λ (p : List ℕ). p) ps qs
 
 -- ---- joined names
 

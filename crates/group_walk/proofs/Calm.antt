@@ -6,17 +6,15 @@ use mathlib.Core.Path.{_≡_, refl, sym, ap, ap₂, _∙_, subst}
 use mathlib.Core.List.{List, [], _∷_, _++_, map, map-append}
 use Prim.Native.Nat.{ℕ, zero, suc, _+_, _*_, _-_, _≤_, _<_}
 use native.Mathlib.Omega.{arith}
-use native.Mathlib.Decide.{decLe}
-use borrow.Author.Tests.{le-leb, lt-leb, eqb-true, eqb-false}
-use lib.Dec.{eqb, ltb}
-use lib.ListN.{length, getD, set}
-use lib.Seq.{set-out, getD-set-same, getD-set-other}
+use borrow.Author.Tests.{le-leb, lt-leb}
+use lib.Dec.{ltb}
+use lib.ListN.{getD, set}
 use Rattle.as5506.specs.Lists.{zeros}
 use Rattle.as5506.specs.Followed.{In}
 use Rattle.as5506.specs.Tables.{present}
 use Rattle.as5506.specs.Groups.{Feature, Expansion, joined, oneVisit}
 use Rattle.as5506.proofs.Laws.{All, all-in, in-all, all-mapped, mapped-all}
-use Rattle.lent.proofs.Sets.{getD-zeros}
+use Rattle.lent.proofs.Sets.{getD-zeros, placed}
 use Rattle.links.specs.Links.{unfound}
 use Rattle.links.specs.Walk.{Groups, Visit, rowBy, walk, rowsIn, extendedBy, typeBy, foundBy, visitLink}
 use Rattle.sink.specs.declared.Purpose.{Purpose}
@@ -98,16 +96,6 @@ dull-alike dull h x y a d =
     let Q : ℕ → Type 0 = λ k. dull k h in
     let named : All Q (names x) = all-mapped P Q (λ f. f .name) (λ f z. z) (x .features) (in-all P (x .features) d) in
     all-in P (y .features) (mapped-all P Q (λ f. f .name) (λ f z. z) (y .features) (subst (All Q) (a .named) named))
-
--- ---- a list of numbers with one of them written
-
-placed : (l : List ℕ) (i v k : ℕ) (P : ℕ → Type 0) → P (getD l k 0) → (i ≡ k → P v) → P (getD (set l i v) k 0)
-placed l i v k P p q = go (eqb k i) refl (decLe (length l) i)
-  where
-    go : (b : Bool) → eqb k i ≡ b → Dec (length l ≤ i) → P (getD (set l i v) k 0)
-    go false e d = subst P (sym (getD-set-other l i k v 0 (eqb-false k i e))) p
-    go true e (yes d) = subst (λ (m : List ℕ). P (getD m k 0)) (sym (set-out l i v d)) p
-    go true e (no d) = rw (eqb-true k i e) (subst P (sym (getD-set-same l i v 0 (omega (arith, d)))) (q (sym (eqb-true k i e))))
 
 -- ---- features that change nothing
 

@@ -13,7 +13,8 @@ use lib.Seq.{take-suc-set}
 use Rattle.as5506.specs.Lists.{span, keep}
 use Rattle.as5506.specs.Tables.{missing, present, eHolder, eHolderKind, eName, eKind, eDirection, rowsNaming}
 use Rattle.as5506.specs.Groups.{Feature, Expansion, joined, oneVisit, oneFeature, turned}
-use Rattle.as5506.proofs.Scans.{keep-hit, keep-miss, keep-done, keep-put}
+use Rattle.as5506.proofs.Laws.{missing-is, present-is}
+use Rattle.as5506.proofs.Scans.{keep-hit, keep-miss, keep-done, keep-both}
 use Rattle.links.specs.Links.{unfound}
 use Rattle.links.specs.Walk.{Groups, declaredIn, Visit, featureAt, rowBy, walk, rowsIn, extendedBy, typeBy, foundBy, visitLink}
 use Rattle.sink.specs.declared.Tally.{Tally}
@@ -164,12 +165,6 @@ module _ (does : Take) where
 
 -- ---- what a link leads to
 
-is-present : (v : ℕ) → (v ≡ missing → ⊥) → present v ≡ true
-is-present v q = rw (ne-eqb v missing q) refl
-
-is-missing : (v : ℕ) → v ≡ missing → present v ≡ false
-is-missing v q = rw (eq-eqb v missing q) refl
-
 module _ (g : Groups) (visit : Visit) (inverse : Bool) (prefix : List ℕ) (to : ℕ) where
   abbrev found : Expansion
   found = foundBy (ltb to unfound) g visit inverse prefix to
@@ -193,16 +188,16 @@ module _ (g : Groups) (visit : Visit) (inverse : Bool) (prefix : List ℕ) (to :
   module _ (back : ℕ) (b : back ≡ getD (g .inverse) to 0) where
     meant-inverse : (back ≡ missing → ⊥) → meant ≡ visit back (not inverse) prefix
     unfolding typeBy
-    meant-inverse q = rw (b, is-present (getD (g .inverse) to 0) (λ z. q (b ∙ z)))
+    meant-inverse q = rw (b, present-is (getD (g .inverse) to 0) (getD (g .inverse) to 0) refl (λ z. q (b ∙ z)))
 
     module _ (q : back ≡ missing) (up : ℕ) (u : up ≡ getD (g .extends) to 0) where
       meant-own : up ≡ missing → meant ≡ joined (joined [] ∷ own ∷ [])
       unfolding typeBy extendedBy
-      meant-own p = rw (← b, is-missing back q, ← u, is-missing up p)
+      meant-own p = rw (← b, missing-is back back refl q, ← u, missing-is up up refl p)
 
       meant-both : (up ≡ missing → ⊥) → meant ≡ joined (visit up inverse prefix ∷ own ∷ [])
       unfolding typeBy extendedBy
-      meant-both p = rw (← b, is-missing back q, u, is-present (getD (g .extends) to 0) (λ z. p (u ∙ z)))
+      meant-both p = rw (← b, missing-is back back refl q, u, present-is (getD (g .extends) to 0) (getD (g .extends) to 0) refl (λ z. p (u ∙ z)))
 
 -- ---- a visit, as the code makes it
 
@@ -277,10 +272,6 @@ unfoldable pub rowsFrom : List ℕ → ℕ → ℕ → List ℕ
 rowsFrom e u i = keep (ofGroup e u) (span i (length e / 8 - i))
 
 -- the one test after the other
-keep-both : (p q : ℕ → Bool) (xs : List ℕ) → keep p (keep q xs) ≡ keep (λ i. q i && p i) xs
-keep-both p q [] = refl
-keep-both p q (x ∷ xs) = keep-put p (q x) x (keep q xs) ∙ rw (keep-both p q xs)
-
 pub rows-start : (g : Groups) (u : ℕ) → rowsFrom (g .e) u 0 ≡ rowsIn g u
 unfolding rowsFrom rowsNaming
 rows-start g u = rw sub-zero (sym (keep-both (λ i. eqb (eHolderKind (declaredIn (g .e)) i) 1) (λ i. eqb (eHolder (declaredIn (g .e)) i) u) (span 0 (length (g .e) / 8))))
@@ -323,13 +314,13 @@ module _ (does : Take) (g : Groups) (visit : Visit) (inverse : Bool) (prefix : L
 
         pub row-listed : to ≡ missing → k ≤ visitLimit → (a : Held) → a ≡ does (featureAt (g .e) inverse prefix i) h → onFrom (going a k) (i + 1) ≡ here
         unfolding rowBy
-        row-listed m l a d = sym (row-taken ∙ rw (is-missing to m, run-feature does (featureAt (g .e) inverse prefix i) h k l, ← d))
+        row-listed m l a d = sym (row-taken ∙ rw (missing-is to to refl m, run-feature does (featureAt (g .e) inverse prefix i) h k l, ← d))
 
         module _ (m : to ≡ missing → ⊥) (longer : List ℕ) (more : longer ≡ prefix ++ eName (declaredIn (g .e)) i ∷ [])
             (r : Walked) (memo out notes : List ℕ) (e : stateOf r memo out notes ≡ run does (going h k) (visit to inverse longer)) where
           row-nested : here ≡ onFrom (run does (going h k) (visit to inverse longer)) (i + 1)
           unfolding rowBy
-          row-nested = row-taken ∙ rw (is-present to m, more, n)
+          row-nested = row-taken ∙ rw (present-is to to refl m, more, n)
 
           pub row-over : r ≡ Over → over ≡ here
           row-over z = over-then does r memo out notes (going h k) (visit to inverse longer) e z _ ∙ sym row-nested

@@ -10,6 +10,7 @@ use borrow.Author.Tests.{le-leb, lt-leb}
 use lib.Dec.{leb}
 use lib.ListN.{length, length-append}
 use lib.Seq.{sets, length-sets}
+use Rattle.as5506.proofs.Laws.{each-append}
 use Rattle.lent.specs.Append.{Filled, filled, appendBy, append, appendAll, together}
 use Rattle.lent.proofs.Sets.{sets-append}
 
@@ -48,6 +49,9 @@ past p o n b = go (decLe (o .used + length p) (length (o .holds)))
     go (no h) = rw (append-full p o (omega (arith, h))) (omega arith)
 
 -- ---- pieces, one behind the other
+
+pub together-append : (ps qs : List (List ℕ)) → together (ps ++ qs) ≡ together ps ++ together qs
+together-append ps qs = each-append (λ (p : List ℕ). p) ps qs
 
 pub all-length : (ps : List (List ℕ)) (o : Filled) → length (appendAll ps o .holds) ≡ length (o .holds)
 unfolding appendAll

@@ -87,3 +87,13 @@ pub drop-zeros : (m n : ℕ) → drop m (zeros n) ≡ zeros (n - m)
 drop-zeros zero n = rw (sub-zero n)
 drop-zeros (suc m) zero = rw (zero-sub (suc m))
 drop-zeros (suc m) (suc n) = rw (suc-sub-suc n m) (drop-zeros m n)
+
+-- ---- one place
+
+-- what holds of the number at a place holds after a write, if it holds of what is written there
+pub placed : (l : List ℕ) (i v k : ℕ) (P : ℕ → Type 0) → P (getD l k 0) → (i ≡ k → P v) → P (getD (set l i v) k 0)
+placed [] i v k P p q = p
+placed (x ∷ l) zero v zero P p q = q refl
+placed (x ∷ l) zero v (suc k) P p q = p
+placed (x ∷ l) (suc i) v zero P p q = p
+placed (x ∷ l) (suc i) v (suc k) P p q = placed l i v k P p (λ e. q (ap suc e))

@@ -13,7 +13,7 @@ use Rattle.as5506.specs.Resolve.{packageNamed, typeNamed, implNamed, groupNamed
 use Rattle.resolver.specs.declared.Key.{Key}
 use Rattle.resolver.specs.declared.Part.the-variants.{Number, Name, Any}
 use Rattle.resolver.specs.Keys.{hasPart, hasKey, rowHasKey, rowsWithKey}
-use Rattle.resolver.proofs.Scan.{keep-both}
+use Rattle.as5506.proofs.Scans.{keep-both}
 use Rattle.as5506.proofs.Scans.{keep-same}
 
 -- ---- a key, tested part by part

@@ -9,9 +9,8 @@ use Rattle.as5506.specs.Lists.{upTo, keep, firstOf, sameBytes}
 use Rattle.as5506.specs.Tables.{Tables, present, Letter, letterP, letterT, letterQ, letterU, letterR, count, at, rowsNaming, Ref, pName, tPackage, tName, qPackage, qType, qImpl, uPackage, uName, rPackage, rWhat, rAlias, renamesOf}
 use Rattle.as5506.specs.Names.{key}
 use Rattle.as5506.specs.Resolve.{packageNamed, typeNamed, implNamed, groupNamed, renamesNamed, renamesFor}
-use Rattle.as5506.proofs.Laws.{All, all-keep, all-append, upTo-below}
+use Rattle.as5506.proofs.Laws.{All, all-keep, all-append, upTo-below, all-first}
 use Rattle.resolver.specs.Found.{found}
-use Rattle.resolver.proofs.Scan.{all-first}
 
 kept : (P : ℕ → Type 0) (p : ℕ → Bool) (xs : List ℕ) → All P xs → All P (keep p xs)
 kept P p xs t = all-keep P P p (λ x u h. h) xs t

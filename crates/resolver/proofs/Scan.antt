@@ -1,5 +1,5 @@
 -- Laws of scans: the rows of a table that pass a test, from a row on. Assumes nothing.
-use mathlib.Core.Bool.{Bool, true, false, _&&_}
+use mathlib.Core.Bool.{Bool, true, false}
 use mathlib.Core.Path.{_≡_, refl, _∙_}
 use mathlib.Core.List.{List, [], _∷_, _++_}
 use mathlib.Core.Option.{none, some}
@@ -8,8 +8,6 @@ use native.Mathlib.Nat.{div-mul-le-self, mul-le-mul-right, suc-mul}
 use native.Mathlib.Numerals.{add-one}
 use native.Mathlib.Omega.{arith}
 use Rattle.as5506.specs.Lists.{span, putIf, keep, firstOf}
-use Rattle.as5506.proofs.Laws.{All}
-use Rattle.as5506.proofs.Scans.{keep-put}
 
 -- a row of a table of whole rows lies within the table
 pub row-within : (len width i : ℕ) → i < len / width → i * width + width ≤ len
@@ -43,12 +41,6 @@ module _ (p : ℕ → Bool) where
       let e : i + (n - i) - suc j ≡ n - (j + 1) = omega (arith, h .0, h .1) in
       (h .0, omega (arith, h .0, h .1), h .2 ∙ rw (e, add-one))
 
--- ---- tests
-
-pub keep-both : (p q : ℕ → Bool) (xs : List ℕ) → keep p (keep q xs) ≡ keep (λ i. q i && p i) xs
-keep-both p q [] = refl
-keep-both p q (x ∷ xs) = keep-put p (q x) x (keep q xs) ∙ rw (keep-both p q xs)
-
 -- ---- the first of a list
 
 pub first-append : (xs ys : List ℕ) (j : ℕ) → some j ≡ firstOf xs → some j ≡ firstOf (xs ++ ys)
@@ -58,7 +50,3 @@ first-append (x ∷ xs) ys j h = h
 pub first-append-none : (xs ys : List ℕ) → none ≡ firstOf xs → firstOf (xs ++ ys) ≡ firstOf ys
 first-append-none [] ys h = refl
 first-append-none (x ∷ xs) ys h = let z : _≡_ {A = ℕ} 0 1 = cc in absurd (omega arith)
-
-pub all-first : (P : ℕ → Type 0) (xs : List ℕ) → All P xs → (i : ℕ) → some i ≡ firstOf xs → P i
-all-first P [] t i h = let z : _≡_ {A = ℕ} 0 1 = cc in absurd (omega arith)
-all-first P (x ∷ xs) t i h = let e : i ≡ x = cc in rw e (t .0)

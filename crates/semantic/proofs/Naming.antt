@@ -1,12 +1,11 @@
 -- What an X row names: its shape, its children. Assumes nothing.
-use mathlib.Core.Bool.{Bool, true, false, _&&_}
+use mathlib.Core.Bool.{Bool, _&&_}
 use mathlib.Core.Path.{_≡_, refl, sym, ap, ap₂, _∙_}
 use mathlib.Core.List.{List, []}
 use Prim.Native.Nat.{ℕ}
 use lib.ListN.{length}
-use borrow.Author.Tests.{eq-eqb, ne-eqb}
 use Rattle.as5506.specs.Lists.{}
-use Rattle.as5506.specs.Tables.{Tables, missing, present, Side, source, destination, nameOf, nameIn, xOwner, xSub, xFeat}
+use Rattle.as5506.specs.Tables.{Tables, present, Side, source, destination, nameOf, nameIn, xOwner, xSub, xFeat}
 use Rattle.as5506.specs.Tracing.{foundChildren, shapeBy, shape, named, oneToOne}
 use Rattle.children.specs.declared.Child.{Child}
 use Rattle.children.specs.Found.{componentsIn, foundFrom, afterChild}
@@ -15,14 +14,6 @@ use Rattle.trace.specs.Steps.{tracingIn}
 use Rattle.trace.proofs.Scan.{found-same, after-same}
 use Rattle.semantic.specs.declared.Shape.{Shape}
 use Rattle.semantic.specs.Rows.{shapeOf, namedFrom}
-
--- ---- numbers that were read
-
-pub missing-is : (v w : ℕ) → v ≡ w → v ≡ missing → present w ≡ false
-missing-is v w e f = rw (eq-eqb w missing (sym e ∙ f))
-
-pub present-is : (v w : ℕ) → v ≡ w → (v ≡ missing → ⊥) → present w ≡ true
-present-is v w e f = rw (ne-eqb w missing (λ z. f (e ∙ z)))
 
 -- ---- the shape
 

@@ -11,7 +11,7 @@ use Rattle.as5506.specs.Tables.{Side as TheSide}
 use Rattle.as5506.specs.Tracing.{Chain, faulty, across, neither, chainsBy, chains, reach, rowOf, pairRows, rowsAt, traced, stepLimit, shape, named, oneToOne, allAs, pairAcross, pairUp, pairDown, pairsBy, pairs}
 use Rattle.as5506.specs.Tracing.{Shape as TheShape}
 use Rattle.as5506.specs.Layout.{tracedBlock}
-use Rattle.as5506.proofs.Laws.{all-of, each-same}
+use Rattle.as5506.proofs.Laws.{all-of, each-same, each-append}
 use Rattle.as5506.proofs.Scans.{span-next, span-done}
 use Rattle.trace.specs.declared.Side.{Side}
 use Rattle.trace.specs.declared.Side.the-variants.{Source, Destination}
@@ -20,7 +20,7 @@ use Rattle.trace.specs.declared.Wrote.the-variants.{Count, Full}
 use Rattle.trace.specs.Steps.{sideOf}
 use Rattle.trace.specs.Ends.{rowAlong, rowsAtEnd, rowsBehind}
 use Rattle.trace.specs.Writing.{Written}
-use Rattle.trace.proofs.Writing.{each-append, Remains, remains-turn, remains-full, remains-end}
+use Rattle.trace.proofs.Writing.{Remains, remains-turn, remains-full, remains-end}
 use Rattle.semantic.specs.declared.Start.{Start}
 use Rattle.semantic.specs.declared.Start.the-variants.{Element, Owner}
 use Rattle.semantic.specs.Rows.{edgeOf, startOn, componentOf, limitOf, pairOn, namedFrom, rowsBeside, rowsAll, rowsZip, rowsFrom}

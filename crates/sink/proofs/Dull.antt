@@ -9,7 +9,7 @@ use native.Mathlib.Omega.{arith}
 use native.Mathlib.Decide.{decLe}
 use borrow.Author.Tests.{eqb-true, eqb-false}
 use lib.Dec.{eqb}
-use lib.ListN.{length, getD, take, drop, set, length-set}
+use lib.ListN.{length, getD, set, length-set}
 use lib.Seq.{set-out, set-set, set-comm, getD-set-same}
 use Rattle.as5506.specs.Groups.{Feature}
 use Rattle.as5506.specs.Rows.{diag}

@@ -1,21 +1,14 @@
 -- WHAT CALLERS GET: what a walk relies on holds after each feature too. Assumes nothing.
-use mathlib.Core.Path.{_≡_, refl, ap, subst}
-use mathlib.Core.List.{List, [], _∷_}
+use mathlib.Core.Path.{_≡_, refl, subst}
+use mathlib.Core.List.{List}
 use mathlib.Core.Option.{Option, none, some}
 use Prim.Native.Nat.{ℕ, zero, suc}
-use lib.ListN.{getD, set}
+use lib.ListN.{set}
 use Rattle.as5506.specs.Groups.{Feature as Meant}
+use Rattle.lent.proofs.Sets.{placed}
 use Rattle.sink.specs.declared.Purpose.{Purpose}
 use Rattle.sink.specs.declared.Purpose.the-variants.{Count, All, First, Match}
 use Rattle.sink.specs.Take.{Held, partnerOf, codeOf, matchBy, taken, Remembered, Memory, Ready}
-
--- a property of each place of a list holds when one place is written, if it holds of what is written there
-placed : (l : List ℕ) (i v k : ℕ) (P : ℕ → Type 0) → P (getD l k 0) → (i ≡ k → P v) → P (getD (set l i v) k 0)
-placed [] i v k P p q = p
-placed (x ∷ l) zero v zero P p q = q refl
-placed (x ∷ l) zero v (suc k) P p q = p
-placed (x ∷ l) (suc i) v zero P p q = p
-placed (x ∷ l) (suc i) v (suc k) P p q = placed l i v k P p (λ e. q (ap suc e))
 
 coded : (v : ℕ) (a : Option ℕ) → v ≡ codeOf a → Remembered v a
 coded zero a e = tt

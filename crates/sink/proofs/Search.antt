@@ -1,7 +1,7 @@
 -- Laws of the search for a partner: its loop, that its answer is a kept feature, and its memory. Assumes nothing.
 use mathlib.Core.Bool.{Bool, true, false}
 use mathlib.Core.Path.{_≡_, refl, sym, ap, _∙_}
-use mathlib.Core.List.{List, [], _∷_}
+use mathlib.Core.List.{List}
 use mathlib.Core.Option.{Option, none, some}
 use Prim.Native.Nat.{ℕ, zero, suc, _+_, _-_, _≤_, _<_}
 use native.Mathlib.Nat.{sub-zero}
@@ -11,7 +11,7 @@ use lib.Seq.{set-getD}
 use Rattle.as5506.specs.Lists.{span, upTo, keep, firstOf, sameBytes}
 use Rattle.as5506.specs.Tables.{nameIn}
 use Rattle.as5506.specs.Names.{key, sameFolded}
-use Rattle.as5506.proofs.Laws.{All, all-keep, upTo-below}
+use Rattle.as5506.proofs.Laws.{all-keep, all-first, upTo-below}
 use Rattle.as5506.proofs.Scans.{keep-hit, keep-miss, keep-done}
 use Rattle.name.proofs.Compare.{keys-folded}
 use Rattle.sink.specs.declared.Place.{Place}
@@ -51,11 +51,8 @@ module _ (bytes n kept : List ℕ) (count name : ℕ) where
   -- the partner is one of the features that were kept
   pub partner-below : (i : ℕ) → some i ≡ partnerOf bytes n kept count name → i < count
   unfolding partnerOf
-  partner-below i e = go (keep test (upTo count)) (all-keep (λ j. j < count) (λ j. j < count) test (λ j t h. h) (upTo count) (upTo-below count)) e
-    where
-      go : (l : List ℕ) → All (λ j. j < count) l → some i ≡ firstOf l → i < count
-      go [] t q = let z : _≡_ {A = ℕ} 0 1 = cc in absurd (omega arith)
-      go (j ∷ l) t q = let d : i ≡ j = cc in rw d (t .0)
+  partner-below i e =
+      all-first (λ j. j < count) (keep test (upTo count)) (all-keep (λ j. j < count) (λ j. j < count) test (λ j t h. h) (upTo count) (upTo-below count)) i e
 
 -- ---- the memory
 

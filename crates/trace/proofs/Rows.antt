@@ -20,7 +20,8 @@ use Rattle.trace.specs.declared.Wrote.the-variants.{Count, Full}
 use Rattle.trace.specs.Steps.{tracingIn, sideOf, stepsFrom, step}
 use Rattle.trace.specs.Ends.{behind, rowAlong, rowsAtEnd, rowsBehind, Fit}
 use Rattle.trace.specs.Writing.{Written}
-use Rattle.trace.proofs.Writing.{each-append, Remains, remains-start, remains-turn, remains-full, remains-end}
+use Rattle.as5506.proofs.Laws.{each-append}
+use Rattle.trace.proofs.Writing.{Remains, remains-start, remains-turn, remains-full, remains-end}
 use Rattle.trace.proofs.Chains.{via, chains-on}
 
 -- ---- one row

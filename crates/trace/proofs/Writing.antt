@@ -1,21 +1,17 @@
 -- What is left to write, and how a call that writes some of it brings it on. Nothing here knows what a block holds. Assumes nothing.
 use mathlib.Core.Path.{_≡_, refl, sym, ap, ap₂, _∙_, subst}
-use mathlib.Core.List.{List, [], _∷_, _++_, append-assoc}
+use mathlib.Core.List.{List, [], _++_}
 use Prim.Native.Nat.{ℕ, _+_, _*_, _/_, _≤_}
 use native.Mathlib.Nat.{add-mul, add-zero, zero-mul}
 use native.Mathlib.Omega.{arith}
 use lib.ListN.{length, length-append}
 use lib.Seq.{sets, length-sets}
 use Rattle.as5506.specs.Lists.{each}
+use Rattle.as5506.proofs.Laws.{each-append}
 use Rattle.lent.proofs.Sets.{sets-append}
 use Rattle.trace.specs.declared.Wrote.{Wrote}
 use Rattle.trace.specs.declared.Wrote.the-variants.{Count, Full}
 use Rattle.trace.specs.Writing.{Written}
-
-module _ {A B : Type 0} where
-  pub each-append : (f : A → List B) (a b : List A) → each f (a ++ b) ≡ each f a ++ each f b
-  each-append f [] b = refl
-  each-append f (x ∷ a) b = ap (λ (r : List B). f x ++ r) (each-append f a b) ∙ sym (append-assoc (f x) (each f a) (each f b))
 
 -- Of the entries `all`, to be written behind `count` blocks of out₀, the entries `left` are still to be written behind `done` blocks of out.
 pub record Remains {A : Type 0} (w : ℕ) (f : A → List ℕ) (all : List A) (out₀ : List ℕ) (count : ℕ) (out : List ℕ) (done : ℕ) (left : List A) : Type 0 where

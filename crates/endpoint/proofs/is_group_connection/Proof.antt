@@ -3,7 +3,8 @@ use mathlib.Core.Path.{ap}
 use borrow.Author.Needs.{needs}
 use Rattle.as5506.specs.Tables.{present}
 use Rattle.as5506.specs.GroupList.{isGroupConnection}
-use Rattle.endpoint.proofs.Tests.{fails, holds, equal, other, absent, is-present}
+use Rattle.endpoint.proofs.Tests.{fails, holds, equal, other}
+use Rattle.as5506.proofs.Laws.{missing-is, present-is}
 use Rattle.endpoint.proofs.is_group_connection.Statement.{statement}
 use Rattle.endpoint.proofs.is_group_connection.Tie as tie
 
@@ -27,7 +28,7 @@ returns-2 : tie.Need-returns-2
 unfolding isGroupConnection
 returns-2 c =
     holds _ _ _ (equal _ _ (c .before .before .before .number-at .ensures) 2 (c .before .before .if1 .left))
-    (fails _ _ (absent _ _ (c .before .feature-of .ensures) (c .if2 .taken)))
+    (fails _ _ (missing-is _ _ (c .before .feature-of .ensures) (c .if2 .taken)))
 
 feature-of-requires-2 : tie.Need-feature-of-requires-2
 feature-of-requires-2 c κs = search needs
@@ -36,7 +37,7 @@ returns-3 : tie.Need-returns-3
 unfolding isGroupConnection
 returns-3 c =
     holds _ _ _ (equal _ _ (c .before .before .before .before .number-at .ensures) 2 (c .before .before .before .if1 .left))
-    (holds _ _ _ (is-present _ _ (c .before .before .feature-of .ensures) (c .before .if2 .left)) (ap present (c .feature-of2 .ensures)))
+    (holds _ _ _ (present-is _ _ (c .before .before .feature-of .ensures) (c .before .if2 .left)) (ap present (c .feature-of2 .ensures)))
 
 pub is-group-connection-spec : {M : Type 1} → statement M
 is-group-connection-spec =

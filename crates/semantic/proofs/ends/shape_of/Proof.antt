@@ -1,4 +1,5 @@
-use Rattle.semantic.proofs.Naming.{missing-is, present-is, shape-is}
+use Rattle.as5506.proofs.Laws.{missing-is, present-is}
+use Rattle.semantic.proofs.Naming.{shape-is}
 use mathlib.Core.Bool.{true, false}
 use mathlib.Core.Path.{refl}
 use borrow.Author.Needs.{needs}
