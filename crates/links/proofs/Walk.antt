@@ -30,9 +30,13 @@ module _ (m : Tables) (few : count m letterU ≤ 4096) where
   row-present (groupType i) h = ap not (ne-eqb i missing (λ e. omega (arith, h .0)))
   row-present unresolved h = refl
 
-  link-present : (b : Bool) (u : ℕ) (r : Ref) → present (linkIn b m u r) ≡ b
+  -- a link that is asked for is not missing
+  pub link-there : (from : ℕ) (r : Ref) → present (linkOf m from r) ≡ true
   unfolding linkOf
-  link-present true u r = row-present (resolve m (pName m (uPackage m u)) r) (resolved-in m (pName m (uPackage m u)) r)
+  link-there from r = row-present (resolve m from r) (resolved-in m from r)
+
+  link-present : (b : Bool) (u : ℕ) (r : Ref) → present (linkIn b m u r) ≡ b
+  link-present true u r = link-there (pName m (uPackage m u)) r
   link-present false u r = refl
 
   module _ (nested extends inverse : List ℕ) (k : Linked m nested extends inverse) where

@@ -1,0 +1,6 @@
+mod Range
+mod Firsts
+mod Partners
+mod Groups
+mod Connections
+mod Loop

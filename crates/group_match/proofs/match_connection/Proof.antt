@@ -1,0 +1,163 @@
+use mathlib.Core.Path.{_∙_}
+use native.Mathlib.Omega.{arith}
+use Rattle.as5506.specs.Tables.{Tables, tablesOf, source, destination}
+use Rattle.children.specs.declared.Child.the-variants.{At, Nothing}
+use Rattle.group_match.specs.Matching.{listsOf}
+use Rattle.group_match.proofs.Connections.{end-means, end-below, row-below, few-types, row-other, row-sourceless, row-destinationless, row-matched}
+use borrow.Author.Needs.{needs}
+use Rattle.group_match.proofs.match_connection.Statement.{statement}
+use Rattle.group_match.proofs.match_connection.Tie as tie
+use Rattle.group_match.proofs.match_connection.Reads as reads
+use Rattle.group_match.proofs.match_connection.Lts as lts
+use Rattle.endpoint.proofs.end_component.Reads as end-component-reads
+use Rattle.endpoint.proofs.is_group_connection.Reads as is-group-connection-reads
+use Rattle.group_match.proofs.group_link.Reads as group-link-reads
+use Rattle.group_match.proofs.match_groups.Reads as match-groups-reads
+use Rattle.trace.proofs.feature_of.Reads as feature-of-reads
+
+abbrev CL : lts.Claims
+CL = (
+  is-group-connection-reads.Asked,
+  is-group-connection-reads.Learnt,
+  end-component-reads.Asked,
+  end-component-reads.Learnt,
+  feature-of-reads.Asked,
+  feature-of-reads.Learnt,
+  group-link-reads.Asked,
+  group-link-reads.Learnt,
+  match-groups-reads.Asked,
+  match-groups-reads.Learnt,
+)
+
+-- the tables that are lent
+abbrev model : lts.Start CL reads.Pre reads.Post → Tables
+model s =
+    tablesOf (s .args .bytes .now) (s .args .n .now) (s .args .c .now) (s .args .f .now) (s .args .x .now) (s .args .p .now) (s .args .i .now) (s .args .t .now)
+    (s .args .q .now) (s .args .u .now) (s .args .e .now) (s .args .r .now)
+
+is-group-connection-requires : tie.Need-is-group-connection-requires
+is-group-connection-requires c κs = c .before .before .before .before .before .before .before .before .before .before .before .before .before .before .before .before .before .before .before .before .pre .1 .1 .1
+
+returns : tie.Need-returns
+unfolding listsOf
+returns c = let r = c .before .is-group-connection in row-other _ _ _ (r .result) (r .ensures) (c .if1 .taken)
+
+end-component-requires : tie.Need-end-component-requires
+end-component-requires c κs = c .before .before .before .before .before .before .before .before .before .before .before .before .before .before .before .before .before .before .before .before .before .before .pre .1 .1 .1
+
+enum-known-a : tie.Need-enum-known-a
+enum-known-a c = search needs
+
+enum-told : tie.Need-enum-told
+enum-told c = search needs
+
+returns-2 : tie.Need-returns-2
+unfolding listsOf
+returns-2 c = let a = c .before .before .end-component in row-sourceless _ _ _ (end-means _ source _ (a .result) Nothing (a .ensures) (c .enum-told .given .1))
+
+end-component-requires-2 : tie.Need-end-component-requires-2
+end-component-requires-2 c κs = c .before .before .before .before .before .before .before .before .before .before .before .before .before .before .before .before .before .before .before .before .before .before .before .before .before .before .pre .1 .1 .1
+
+enum-known-b : tie.Need-enum-known-b
+enum-known-b c = search needs
+
+enum-told-2 : tie.Need-enum-told-2
+enum-told-2 c = search needs
+
+returns-3 : tie.Need-returns-3
+unfolding listsOf
+returns-3 c = let b = c .before .before .end-component2 in row-destinationless _ _ _ (end-means _ destination _ (b .result) Nothing (b .ensures) (c .enum-told2 .given .1))
+
+cast-source : tie.Need-cast-source
+cast-source c =
+    let s = c .before .before .before .before .before .before .before .before .before .before .before .before .before .before .before .before .before .before .before .before .before .before .before .before .before .before .before .before .before .before in
+    let a = c .before .before .before .before .before .before .before .end-component in
+    let i = c .before .before .before .before .before .a .given in
+    omega (arith, end-below (model s) (s .pre .0) source (s .args .row) (i .0 .0) (s .pre .1 .1 .1) (end-means (model s) source (s .args .row) (a .result) (At (i .0 .0)) (a .ensures) (i .1)))
+
+cast-destination : tie.Need-cast-destination
+cast-destination c =
+    let s = c .before .before .before .before .before .before .before .before .before .before .before .before .before .before .before .before .before .before .before .before .before .before .before .before .before .before .before .before .before .before in
+    let b = c .before .before .before .end-component2 in
+    let j = c .before .b .given in
+    omega (arith, end-below (model s) (s .pre .0) destination (s .args .row) (j .0 .0) (s .pre .1 .1 .1) (end-means (model s) destination (s .args .row) (b .result) (At (j .0 .0)) (b .ensures) (j .1)))
+
+feature-of-requires : tie.Need-feature-of-requires
+feature-of-requires c κs = c .before .before .before .before .before .before .before .before .before .before .before .before .before .before .before .before .before .before .before .before .before .before .before .before .before .before .before .before .before .before .pre .1 .1 .1
+
+group-link-requires : tie.Need-group-link-requires
+group-link-requires c κs = let s = c .before .before .before .before .before .before .before .before .before .before .before .before .before .before .before .before .before .before .before .before .before .before .before .before .before .before .before .before .before .before .before in few-types (model s) (s .pre .0)
+
+feature-of-requires-2 : tie.Need-feature-of-requires-2
+feature-of-requires-2 c κs = c .before .before .before .before .before .before .before .before .before .before .before .before .before .before .before .before .before .before .before .before .before .before .before .before .before .before .before .before .before .before .before .before .pre .1 .1 .1
+
+group-link-requires-2 : tie.Need-group-link-requires-2
+group-link-requires-2 c κs = let s = c .before .before .before .before .before .before .before .before .before .before .before .before .before .before .before .before .before .before .before .before .before .before .before .before .before .before .before .before .before .before .before .before .before in few-types (model s) (s .pre .0)
+
+cast-match-groups : tie.Need-cast-match-groups
+cast-match-groups c = let s = c .before .before .before .before .before .before .before .before .before .before .before .before .before .before .before .before .before .before .before .before .before .before .before .before .before .before .before .before .before .before .before .before .before .before .before .before .before .before .before in omega (arith, row-below (model s) (s .pre .0) (s .args .row) (s .pre .1 .1 .1))
+
+match-groups-requires : tie.Need-match-groups-requires
+match-groups-requires c κs = let s = c .before .before .before .before .before .before .before .before .before .before .before .before .before .before .before .before .before .before .before .before .before .before .before .before .before .before .before .before .before .before .before .before .before .before .before .before .before .before .before in (s .pre .1 .1 .0, s .pre .1 .1 .2, s .pre .1 .1 .3)
+
+same-length : tie.Need-same-length
+same-length c = c .before .before .before .before .before .before .before .before .before .before .match-groups .kept .1 .1 .1 .1 .1 .1 .0
+
+same-length-2 : tie.Need-same-length-2
+same-length-2 c = c .before .before .before .before .before .before .before .before .before .before .match-groups .kept .1 .1 .1 .1 .1 .1 .1 .0
+
+same-length-3 : tie.Need-same-length-3
+same-length-3 c = c .before .before .before .before .before .before .before .before .before .before .match-groups .kept .1 .1 .1 .1 .1 .1 .1 .1 .0
+
+same-length-4 : tie.Need-same-length-4
+same-length-4 c = c .before .before .before .before .before .before .before .before .before .before .match-groups .kept .1 .1 .1 .1 .1 .1 .1 .1 .1 .0
+
+same-length-5 : tie.Need-same-length-5
+same-length-5 c = c .before .before .before .before .before .before .before .before .before .before .match-groups .kept .1 .1 .1 .1 .1 .1 .1 .1 .1 .1 .0
+
+returns-4 : tie.Need-returns-4
+returns-4 c =
+    let s = c .before .before .before .before .before .before .before .before .before .before .before .before .before .before .before .before .before .before .before .before .before .before .before .before .before .before .before .before .before .before .before .before .before .before .before .before .before .before .before .before .before .before .before .before .before .before .before .before .before .before in
+    let r = c .before .before .before .before .before .before .before .before .before .before .before .before .before .before .before .before .before .before .before .before .before .before .before .before .before .before .before .before .before .is-group-connection in
+    let a = c .before .before .before .before .before .before .before .before .before .before .before .before .before .before .before .before .before .before .before .before .before .before .before .before .before .before .before .end-component in
+    let i = c .before .before .before .before .before .before .before .before .before .before .before .before .before .before .before .before .before .before .before .before .before .before .before .before .before .a .given in
+    let b = c .before .before .before .before .before .before .before .before .before .before .before .before .before .before .before .before .before .before .before .before .before .before .before .end-component2 in
+    let j = c .before .before .before .before .before .before .before .before .before .before .before .before .before .before .before .before .before .before .before .before .before .b .given in
+    let f = c .before .before .before .before .before .before .before .before .before .before .before .before .before .before .before .before .before .before .before .feature-of in
+    let g = c .before .before .before .before .before .before .before .before .before .before .before .before .before .before .before .before .before .feature-of2 in
+    c .before .before .before .before .before .before .before .before .before .before .match-groups .ensures
+    ∙ row-matched (model s) (s .args .row) _ (r .result) (r .ensures) (c .before .before .before .before .before .before .before .before .before .before .before .before .before .before .before .before .before .before .before .before .before .before .before .before .before .before .before .before .if1 .left) (i .0 .0) (j .0 .0)
+    (end-means (model s) source (s .args .row) (a .result) (At (i .0 .0)) (a .ensures) (i .1))
+    (end-means (model s) destination (s .args .row) (b .result) (At (j .0 .0)) (b .ensures) (j .1))
+    (f .result) (g .result) (f .ensures) (g .ensures) _ _
+    (c .before .before .before .before .before .before .before .before .before .before .before .before .before .before .before .before .before .before .group-link .ensures (s .args .x .now) (s .args .nested .now) (s .args .extends .now) (s .args .inverse .now) (s .pre .1 .0))
+    (c .before .before .before .before .before .before .before .before .before .before .before .before .before .before .before .before .group-link2 .ensures (s .args .x .now) (s .args .nested .now) (s .args .extends .now) (s .args .inverse .now) (s .pre .1 .0))
+
+pub match-connection-spec : {M : Type 1} → statement M
+match-connection-spec =
+    tie.close
+    (tie.spec
+    is-group-connection-requires
+    returns
+    end-component-requires
+    enum-known-a
+    enum-told
+    returns-2
+    end-component-requires-2
+    enum-known-b
+    enum-told-2
+    returns-3
+    cast-source
+    cast-destination
+    feature-of-requires
+    group-link-requires
+    feature-of-requires-2
+    group-link-requires-2
+    cast-match-groups
+    match-groups-requires
+    same-length
+    same-length-2
+    same-length-3
+    same-length-4
+    same-length-5
+    returns-4)

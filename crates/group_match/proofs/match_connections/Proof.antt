@@ -1,0 +1,124 @@
+use mathlib.Core.Path.{_≡_, refl, _∙_}
+use Prim.Native.Nat.{_-_}
+use native.Mathlib.Omega.{arith}
+use lib.ListN.{length}
+use Rattle.as5506.specs.Tables.{tablesOf}
+use Rattle.group_match.specs.Matching.{listsOf}
+use Rattle.group_match.proofs.Loop.{Goes, goes-start, goes-end, goes-over, goes-turn, workplace}
+use borrow.Author.Needs.{needs}
+use Rattle.group_match.proofs.match_connections.Statement.{statement}
+use Rattle.group_match.proofs.match_connections.Tie as tie
+use Rattle.group_match.proofs.match_connections.Reads as reads
+use Rattle.group_match.proofs.match_connections.Lts as lts
+use Rattle.group_match.proofs.match_connection.Reads as match-connection-reads
+
+abbrev Inv-loop : tie.InvT-loop
+Inv-loop bytes n c f x p i t q u e r nested extends inverse kept₀ memo₀ calm₀ rows₀ notes₀ count tally₀ row₀ kept memo calm rows notes tally row =
+    (length kept ≡ length kept₀) × (length memo ≡ length memo₀) × (length calm ≡ length calm₀) × Goes (tablesOf bytes n c f x p i t q u e r) rows₀ notes₀ rows notes tally row
+
+abbrev μ-loop : tie.MeasureT-loop
+μ-loop bytes n c f x p i t q u e r nested extends inverse kept₀ memo₀ calm₀ rows₀ notes₀ count tally₀ row₀ kept memo calm rows notes tally row = count - row
+
+loop-holds : tie.Need-loop-holds Inv-loop μ-loop
+loop-holds c = (refl, refl, refl, goes-start _ _ _)
+
+match-connection-requires : tie.Need-match-connection-requires Inv-loop μ-loop
+match-connection-requires c κs =
+    let s = c .before .before .before .before .before .before .before .before .before .before .before .before .before .before .before .before .before .before .before .before .before .before .before .before .before .before .before in
+    let g = c .before .before .before .before .before .before .loop in
+    let sizes = s .pre .1 .1 in (
+      s .pre .0,
+      (
+        s .pre .1 .0,
+        (workplace _ (s .pre .0) (s .args .memo .now) (s .args .kept .now) _ _ (sizes .0) (sizes .1) (sizes .2) (g .inv .1) (g .inv .0), c .before .before .before .before .before .loop-test .taken, g .inv .3 .rows-bound, g .inv .3 .notes-bound),
+      ),
+    )
+
+enum-told : tie.Need-enum-told Inv-loop μ-loop
+enum-told c = search needs
+
+same-length : tie.Need-same-length Inv-loop μ-loop
+same-length c = c .before .before .before .before .before .before .before .before .before .before .before .before .match-connection .kept .1 .1 .1 .1 .1 .1 .1 .1 .1 .1 .1 .1 .1 .1 .1 .0 ∙ c .before .before .before .before .before .before .before .before .before .before .before .before .before .before .before .before .before .before .before .loop .inv .0
+
+same-length-2 : tie.Need-same-length-2 Inv-loop μ-loop
+same-length-2 c = c .before .before .before .before .before .before .before .before .before .before .before .before .match-connection .kept .1 .1 .1 .1 .1 .1 .1 .1 .1 .1 .1 .1 .1 .1 .1 .1 .0 ∙ c .before .before .before .before .before .before .before .before .before .before .before .before .before .before .before .before .before .before .before .loop .inv .1
+
+same-length-3 : tie.Need-same-length-3 Inv-loop μ-loop
+same-length-3 c = c .before .before .before .before .before .before .before .before .before .before .before .before .match-connection .kept .1 .1 .1 .1 .1 .1 .1 .1 .1 .1 .1 .1 .1 .1 .1 .1 .1 .0 ∙ c .before .before .before .before .before .before .before .before .before .before .before .before .before .before .before .before .before .before .before .loop .inv .2
+
+same-length-4 : tie.Need-same-length-4 Inv-loop μ-loop
+same-length-4 c = c .before .before .before .before .before .before .before .before .before .before .before .before .match-connection .kept .1 .1 .1 .1 .1 .1 .1 .1 .1 .1 .1 .1 .1 .1 .1 .1 .1 .1 .0 ∙ c .before .before .before .before .before .before .before .before .before .before .before .before .before .before .before .before .before .before .before .loop .inv .3 .rows-size
+
+same-length-5 : tie.Need-same-length-5 Inv-loop μ-loop
+same-length-5 c = c .before .before .before .before .before .before .before .before .before .before .before .before .match-connection .kept .1 .1 .1 .1 .1 .1 .1 .1 .1 .1 .1 .1 .1 .1 .1 .1 .1 .1 .1 .0 ∙ c .before .before .before .before .before .before .before .before .before .before .before .before .before .before .before .before .before .before .before .loop .inv .3 .notes-size
+
+returns : tie.Need-returns Inv-loop μ-loop
+unfolding listsOf
+returns c =
+    let r = c .before .before .before .before .before .before .before .before .before .before .before .before .match-connection in
+    goes-over _ _ _ _ _ _ _ (c .before .before .before .before .before .before .before .before .before .before .before .before .before .before .before .before .before .before .before .loop .inv .3) (c .before .before .before .before .before .before .before .before .before .before .before .before .before .before .before .before .before .before .loop-test .taken) (r .result) _ _ (r .ensures) (c .enum-told .given .1)
+
+enum-known-then : tie.Need-enum-known-then Inv-loop μ-loop
+enum-known-then c = search needs
+
+add-row : tie.Need-add-row Inv-loop μ-loop
+add-row c = omega (arith, c .before .before .before .before .before .before .before .before .before .before .before .before .before .before .before .before .before .before .before .loop-test .taken, c .before .before .before .before .before .before .before .before .before .before .before .before .before .before .before .before .before .before .before .before .before .before .before .before .before .before .before .before .before .before .before .before .before .before .before .before .before .before .before .before .before .good)
+
+loop-less : tie.Need-loop-less Inv-loop μ-loop
+loop-less c = omega (arith, c .before .before .before .before .before .before .before .before .before .before .before .before .before .before .before .before .before .before .before .loop-test .taken)
+
+loop-again : tie.Need-loop-again Inv-loop μ-loop
+loop-again c =
+    let g = c .before .before .before .before .before .before .before .before .before .before .before .before .before .before .before .before .before .before .before .before .loop in
+    let r = c .before .before .before .before .before .before .before .before .before .before .before .before .before .match-connection in
+    let t = c .before .then .given in (
+      r .kept .1 .1 .1 .1 .1 .1 .1 .1 .1 .1 .1 .1 .1 .1 .1 .0 ∙ g .inv .0,
+      r .kept .1 .1 .1 .1 .1 .1 .1 .1 .1 .1 .1 .1 .1 .1 .1 .1 .0 ∙ g .inv .1,
+      r .kept .1 .1 .1 .1 .1 .1 .1 .1 .1 .1 .1 .1 .1 .1 .1 .1 .1 .0 ∙ g .inv .2,
+      goes-turn _ _ _ _ _ _ _ (g .inv .3) (c .before .before .before .before .before .before .before .before .before .before .before .before .before .before .before .before .before .before .before .loop-test .taken) (r .result) _ _ (r .ensures) (t .0 .0) (t .1) (r .kept .1 .1 .1 .1 .1 .1 .1 .1 .1 .1 .1 .1 .1 .1 .1 .1 .1 .1 .0) (r .kept .1 .1 .1 .1 .1 .1 .1 .1 .1 .1 .1 .1 .1 .1 .1 .1 .1 .1 .1 .0),
+    )
+
+same-length-6 : tie.Need-same-length-6 Inv-loop μ-loop
+same-length-6 c = c .before .loop .inv .0
+
+same-length-7 : tie.Need-same-length-7 Inv-loop μ-loop
+same-length-7 c = c .before .loop .inv .1
+
+same-length-8 : tie.Need-same-length-8 Inv-loop μ-loop
+same-length-8 c = c .before .loop .inv .2
+
+same-length-9 : tie.Need-same-length-9 Inv-loop μ-loop
+same-length-9 c = c .before .loop .inv .3 .rows-size
+
+same-length-10 : tie.Need-same-length-10 Inv-loop μ-loop
+same-length-10 c = c .before .loop .inv .3 .notes-size
+
+returns-2 : tie.Need-returns-2 Inv-loop μ-loop
+unfolding listsOf
+returns-2 c = goes-end _ _ _ _ _ _ _ (c .before .loop .inv .3) (c .loop-test .left)
+
+pub match-connections-spec : {M : Type 1} → statement M
+match-connections-spec =
+    tie.close
+    (tie.spec
+    Inv-loop
+    μ-loop
+    loop-holds
+    match-connection-requires
+    enum-told
+    same-length
+    same-length-2
+    same-length-3
+    same-length-4
+    same-length-5
+    returns
+    enum-known-then
+    add-row
+    loop-less
+    loop-again
+    same-length-6
+    same-length-7
+    same-length-8
+    same-length-9
+    same-length-10
+    returns-2)

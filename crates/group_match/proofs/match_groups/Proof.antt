@@ -1,0 +1,142 @@
+use mathlib.Core.Path.{_∙_}
+use lib.ListN.{length}
+use Rattle.group_match.specs.Matching.{listsOf}
+use Rattle.group_match.proofs.Groups.{matched-over, prepared-ready, matched-none, matched-far, matched-done}
+use borrow.Author.Needs.{needs}
+use Rattle.group_match.proofs.match_groups.Statement.{statement}
+use Rattle.group_match.proofs.match_groups.Tie as tie
+use Rattle.group_match.proofs.match_groups.Reads as reads
+use Rattle.group_match.proofs.match_groups.Lts as lts
+use Rattle.group_match.proofs.prepare.Reads as prepare-reads
+use Rattle.group_match.proofs.walk.Reads as walk-reads
+
+prepare-requires : tie.Need-prepare-requires
+prepare-requires c κs = c .before .before .before .before .before .before .before .before .before .before .before .before .before .before .pre .0
+
+enum-known-purpose : tie.Need-enum-known-purpose
+enum-known-purpose c = search needs
+
+enum-told : tie.Need-enum-told
+enum-told c = search needs
+
+same-length : tie.Need-same-length
+same-length c = c .before .before .before .before .before .before .before .before .prepare .kept .1 .1 .1 .1 .1 .1 .0
+
+same-length-2 : tie.Need-same-length-2
+same-length-2 c = c .before .before .before .before .before .before .before .before .prepare .kept .1 .1 .1 .1 .1 .1 .1 .0
+
+same-length-3 : tie.Need-same-length-3
+same-length-3 c = c .before .before .before .before .before .before .before .before .prepare .kept .1 .1 .1 .1 .1 .1 .1 .1 .0
+
+returns : tie.Need-returns
+unfolding listsOf
+returns c =
+    let a = c .before .before .before .before .before .before .before .before .prepare in
+    matched-over _ _ _ _ _ _ _ _ _ _ _ _ _ (a .result) (a .ensures) (c .enum-told .given .1)
+
+same-length-4 : tie.Need-same-length-4
+same-length-4 c = c .before .before .before .before .before .before .before .before .before .before .prepare .kept .1 .1 .1 .1 .1 .1 .0
+
+same-length-5 : tie.Need-same-length-5
+same-length-5 c = c .before .before .before .before .before .before .before .before .before .before .prepare .kept .1 .1 .1 .1 .1 .1 .1 .0
+
+same-length-6 : tie.Need-same-length-6
+same-length-6 c = c .before .before .before .before .before .before .before .before .before .before .prepare .kept .1 .1 .1 .1 .1 .1 .1 .1 .0
+
+returns-2 : tie.Need-returns-2
+unfolding listsOf
+returns-2 c =
+    let a = c .before .before .before .before .before .before .before .before .before .before .prepare in
+    let p = c .before .before .purpose .given in
+    matched-none _ _ _ _ _ _ _ _ _ _ _ _ _ (a .result) (a .ensures) (p .0 .0) (p .1) (c .if1 .taken)
+
+walk-requires : tie.Need-walk-requires
+walk-requires c κs =
+    let s = c .before .before .before .before .before .before .before .before .before .before .before .before .before .before .before .before .before .before .before .before .before .before .before .before .before .before .before .before .before .before in
+    let a = c .before .before .before .before .before .before .before .before .before .before .before .before .before .before .before .prepare in
+    let p = c .before .before .before .before .before .before .before .purpose .given in
+    (prepared-ready _ _ _ _ _ _ _ _ (a .result) (a .ensures) (p .0 .0) (p .1) _ (a .kept .1 .1 .1 .1 .1 .1 .1 .0), s .pre .1, s .pre .2)
+
+enum-told-2 : tie.Need-enum-told-2
+enum-told-2 c = search needs
+
+enum-known-then : tie.Need-enum-known-then
+enum-known-then c = search needs
+
+same-length-7 : tie.Need-same-length-7
+same-length-7 c = c .before .before .before .before .before .before .before .before .before .before .before .before .before .before .before .before .before .before .before .before .before .before .before .before .before .before .prepare .kept .1 .1 .1 .1 .1 .1 .0
+
+same-length-8 : tie.Need-same-length-8
+same-length-8 c = c .before .before .before .before .before .before .before .before .before .before .walk .kept .1 .1 .1 .1 .1 .1 .1 .0 ∙ c .before .before .before .before .before .before .before .before .before .before .before .before .before .before .before .before .before .before .before .before .before .before .before .before .before .before .prepare .kept .1 .1 .1 .1 .1 .1 .1 .0
+
+same-length-9 : tie.Need-same-length-9
+same-length-9 c = c .before .before .before .before .before .before .before .before .before .before .walk .kept .1 .1 .1 .1 .1 .1 .1 .1 .1 .1 .0 ∙ c .before .before .before .before .before .before .before .before .before .before .before .before .before .before .before .before .before .before .before .before .before .before .before .before .before .before .prepare .kept .1 .1 .1 .1 .1 .1 .1 .1 .0
+
+same-length-10 : tie.Need-same-length-10
+same-length-10 c = c .before .before .before .before .before .before .before .before .before .before .walk .kept .1 .1 .1 .1 .1 .1 .1 .1 .0
+
+same-length-11 : tie.Need-same-length-11
+same-length-11 c = c .before .before .before .before .before .before .before .before .before .before .walk .kept .1 .1 .1 .1 .1 .1 .1 .1 .1 .0
+
+returns-3 : tie.Need-returns-3
+unfolding listsOf
+returns-3 c =
+    let a = c .before .before .before .before .before .before .before .before .before .before .before .before .before .before .before .before .before .before .before .before .before .before .before .before .before .before .prepare in
+    let p = c .before .before .before .before .before .before .before .before .before .before .before .before .before .before .before .before .before .before .purpose .given in
+    let w = c .before .before .before .before .before .before .before .before .before .before .walk in
+    matched-far _ _ _ _ _ _ _ _ _ _ _ _ _ (a .result) (a .ensures) (p .0 .0) (p .1) (c .before .before .before .before .before .before .before .before .before .before .before .before .before .before .before .before .if1 .left) (length (a .last .1 .1 .1 .1 .1 .1 .1 .0)) _ _ _ (w .result) (w .ensures) (c .enum-told2 .given .1)
+
+same-length-12 : tie.Need-same-length-12
+same-length-12 c = c .before .before .before .before .before .before .before .before .before .before .before .before .before .before .before .before .before .before .before .before .before .before .before .before .before .before .before .prepare .kept .1 .1 .1 .1 .1 .1 .0
+
+same-length-13 : tie.Need-same-length-13
+same-length-13 c = c .before .before .before .before .before .before .before .before .before .before .before .walk .kept .1 .1 .1 .1 .1 .1 .1 .0 ∙ c .before .before .before .before .before .before .before .before .before .before .before .before .before .before .before .before .before .before .before .before .before .before .before .before .before .before .before .prepare .kept .1 .1 .1 .1 .1 .1 .1 .0
+
+same-length-14 : tie.Need-same-length-14
+same-length-14 c = c .before .before .before .before .before .before .before .before .before .before .before .walk .kept .1 .1 .1 .1 .1 .1 .1 .1 .1 .1 .0 ∙ c .before .before .before .before .before .before .before .before .before .before .before .before .before .before .before .before .before .before .before .before .before .before .before .before .before .before .before .prepare .kept .1 .1 .1 .1 .1 .1 .1 .1 .0
+
+same-length-15 : tie.Need-same-length-15
+same-length-15 c = c .before .before .before .before .before .before .before .before .before .before .before .walk .kept .1 .1 .1 .1 .1 .1 .1 .1 .0
+
+same-length-16 : tie.Need-same-length-16
+same-length-16 c = c .before .before .before .before .before .before .before .before .before .before .before .walk .kept .1 .1 .1 .1 .1 .1 .1 .1 .1 .0
+
+returns-4 : tie.Need-returns-4
+unfolding listsOf
+returns-4 c =
+    let a = c .before .before .before .before .before .before .before .before .before .before .before .before .before .before .before .before .before .before .before .before .before .before .before .before .before .before .before .prepare in
+    let p = c .before .before .before .before .before .before .before .before .before .before .before .before .before .before .before .before .before .before .before .purpose .given in
+    let w = c .before .before .before .before .before .before .before .before .before .before .before .walk in
+    let t = c .before .then .given in
+    matched-done _ _ _ _ _ _ _ _ _ _ _ _ _ (a .result) (a .ensures) (p .0 .0) (p .1) (c .before .before .before .before .before .before .before .before .before .before .before .before .before .before .before .before .before .if1 .left) (length (a .last .1 .1 .1 .1 .1 .1 .1 .0)) _ _ _ (w .result) (w .ensures) (t .0 .0) (t .0 .1 .0) (t .1)
+
+pub match-groups-spec : {M : Type 1} → statement M
+match-groups-spec =
+    tie.close
+    (tie.spec
+    prepare-requires
+    enum-known-purpose
+    enum-told
+    same-length
+    same-length-2
+    same-length-3
+    returns
+    same-length-4
+    same-length-5
+    same-length-6
+    returns-2
+    walk-requires
+    enum-told-2
+    enum-known-then
+    same-length-7
+    same-length-8
+    same-length-9
+    same-length-10
+    same-length-11
+    returns-3
+    same-length-12
+    same-length-13
+    same-length-14
+    same-length-15
+    same-length-16
+    returns-4)

@@ -1,0 +1,76 @@
+use mathlib.Core.Path.{refl}
+use native.Mathlib.Omega.{arith}
+use Rattle.group_match.proofs.Groups.{ready-first, prepares-none, prepares-over, prepares-done}
+use borrow.Author.Needs.{needs}
+use Rattle.group_match.proofs.prepare.Statement.{statement}
+use Rattle.group_match.proofs.prepare.Tie as tie
+use Rattle.group_match.proofs.prepare.Reads as reads
+use Rattle.group_match.proofs.prepare.Lts as lts
+use Rattle.group_match.proofs.walk.Reads as walk-reads
+
+returns : tie.Need-returns
+returns c = prepares-none _ _ _ _ _ _ _ _ _ (c .if1 .taken)
+
+slice-aggregate-walk : tie.Need-slice-aggregate-walk
+slice-aggregate-walk c = search needs
+
+slice-aggregate-walk-2 : tie.Need-slice-aggregate-walk-2
+slice-aggregate-walk-2 c = search needs
+
+walk-requires : tie.Need-walk-requires
+walk-requires c κs = (ready-first _ _ _ _, omega arith, omega arith)
+
+enum-told : tie.Need-enum-told
+enum-told c = search needs
+
+enum-known-firsts : tie.Need-enum-known-firsts
+enum-known-firsts c = search needs
+
+same-length : tie.Need-same-length
+same-length c = c .before .before .before .before .before .before .before .before .before .walk .kept .1 .1 .1 .1 .1 .1 .1 .1 .0
+
+same-length-2 : tie.Need-same-length-2
+same-length-2 c = c .before .before .before .before .before .before .before .before .before .walk .kept .1 .1 .1 .1 .1 .1 .1 .0
+
+same-length-3 : tie.Need-same-length-3
+same-length-3 c = c .before .before .before .before .before .before .before .before .before .walk .kept .1 .1 .1 .1 .1 .1 .1 .1 .1 .1 .0
+
+returns-2 : tie.Need-returns-2
+returns-2 c =
+    let w = c .before .before .before .before .before .before .before .before .before .walk in
+    prepares-over _ _ _ _ _ _ _ _ (c .before .before .before .before .before .before .before .before .before .before .before .before .before .before .before .if1 .left) _ _ _ _ _ _ (w .result) (w .ensures) (c .enum-told .given .1)
+
+same-length-4 : tie.Need-same-length-4
+same-length-4 c = c .before .before .before .before .before .before .before .before .before .before .before .walk .kept .1 .1 .1 .1 .1 .1 .1 .1 .0
+
+same-length-5 : tie.Need-same-length-5
+same-length-5 c = c .before .before .before .before .before .before .before .before .before .before .before .walk .kept .1 .1 .1 .1 .1 .1 .1 .0
+
+same-length-6 : tie.Need-same-length-6
+same-length-6 c = c .before .before .before .before .before .before .before .before .before .before .before .walk .kept .1 .1 .1 .1 .1 .1 .1 .1 .1 .1 .0
+
+returns-3 : tie.Need-returns-3
+returns-3 c =
+    let s = c .before .before .before .before .before .before .before .before .before .before .before .before .before .before .before .before .before .before .before .before .before .before .before .before .before .before .before in
+    let w = c .before .before .before .before .before .before .before .before .before .before .before .walk in
+    let f = c .before .before .firsts .given in
+    prepares-done _ _ _ _ _ _ _ _ (c .before .before .before .before .before .before .before .before .before .before .before .before .before .before .before .before .before .if1 .left) _ _ _ _ _ _ (w .result) (w .ensures) (f .0 .0) (f .0 .1 .0) (f .1) (s .args .memo .now) refl (s .pre) (w .kept .1 .1 .1 .1 .1 .1 .1 .1 .0)
+
+pub prepare-spec : {M : Type 1} → statement M
+prepare-spec =
+    tie.close
+    (tie.spec
+    returns
+    slice-aggregate-walk
+    slice-aggregate-walk-2
+    walk-requires
+    enum-told
+    enum-known-firsts
+    same-length
+    same-length-2
+    same-length-3
+    returns-2
+    same-length-4
+    same-length-5
+    same-length-6
+    returns-3)

@@ -1,0 +1,52 @@
+use mathlib.Core.Path.{refl, _∙_}
+use native.Mathlib.Omega.{arith}
+use lib.ListN.{length}
+use Rattle.group_walk.proofs.Calm.{passable-zeros}
+use Rattle.group_match.proofs.Groups.{cleared-ready, cleared-passable, cleared-run}
+use Rattle.group_match.proofs.walk.Statement.{statement}
+use Rattle.group_match.proofs.walk.Tie as tie
+use Rattle.group_match.proofs.walk.Reads as reads
+use Rattle.group_match.proofs.walk.Lts as lts
+use Rattle.group_walk.proofs.visit.Reads as visit-reads
+use Rattle.lent.proofs.clear_numbers.Reads as clear-numbers-reads
+
+clear-numbers-requires : tie.Need-clear-numbers-requires
+clear-numbers-requires c κs = tt
+
+clear-numbers-requires-2 : tie.Need-clear-numbers-requires-2
+clear-numbers-requires-2 c κs = tt
+
+visit-requires : tie.Need-visit-requires
+visit-requires c κs =
+    let s = c .before .before .before .before .before .before .before .before .before .before .before .before .before .before .before .before .before .before .before .before .before .before .before in (
+      (cleared-ready _ _ _ _ _ _ (c .before .before .before .before .before .before .before .before .before .before .clear-numbers .ensures) (s .pre .0), refl, omega arith),
+      cleared-passable _ _ _ _ _ (c .before .before .before .before .before .before .clear-numbers2 .ensures) (passable-zeros _ _ _ (length (s .args .calm .now)) (s .pre .1, s .pre .2)),
+    )
+
+same-length : tie.Need-same-length
+same-length c = c .before .before .before .before .before .before .before .before .visit .kept .1 .1 .1 .1 .1 .1 .1 .0 ∙ c .before .before .before .before .before .before .before .before .before .before .before .before .before .before .before .before .before .before .before .clear-numbers .kept .0
+
+same-length-2 : tie.Need-same-length-2
+same-length-2 c = c .before .before .before .before .before .before .before .before .visit .kept .1 .1 .1 .1 .1 .1 .1 .1 .0
+
+same-length-3 : tie.Need-same-length-3
+same-length-3 c = c .before .before .before .before .before .before .before .before .visit .kept .1 .1 .1 .1 .1 .1 .1 .1 .1 .0
+
+same-length-4 : tie.Need-same-length-4
+same-length-4 c = c .before .before .before .before .before .before .before .before .visit .kept .1 .1 .1 .1 .1 .1 .1 .1 .1 .1 .0 ∙ c .before .before .before .before .before .before .before .before .before .before .before .before .before .before .before .clear-numbers2 .kept .0
+
+returns : tie.Need-returns
+returns c = c .before .before .before .before .before .before .before .before .visit .ensures .0 ∙ cleared-run _ _ _ _ _ _ _ (c .before .before .before .before .before .before .before .before .before .before .before .before .before .before .before .before .before .before .before .clear-numbers .ensures)
+
+pub walk-spec : {M : Type 1} → statement M
+walk-spec =
+    tie.close
+    (tie.spec
+    clear-numbers-requires
+    clear-numbers-requires-2
+    visit-requires
+    same-length
+    same-length-2
+    same-length-3
+    same-length-4
+    returns)
