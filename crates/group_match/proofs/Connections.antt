@@ -17,6 +17,7 @@ use Rattle.as5506.specs.GroupList.{isGroupConnection, endComponentBy, endCompon
 use Rattle.tables.proofs.Facts.{facts}
 use Rattle.sink.specs.Take.{namesIn}
 use Rattle.trace.specs.Steps.{tracingIn}
+use Rattle.trace.proofs.Seen.{seen as seenBy, found-seen}
 use Rattle.children.specs.declared.Child.{Child}
 use Rattle.endpoint.specs.Ends.{componentOf}
 use Rattle.endpoint.proofs.Answers.{end-row}
@@ -26,21 +27,11 @@ module _ (m : Tables) where
   -- ---- the component of an end, in the tables that its search sees
 
   abbrev seen : Tables
-  seen = tracingIn (m .bytes) (m .n) (m .c) (m .x)
-
-  or-seen : (b : Bool) (p : ℕ) (w l : List ℕ) → orElements b seen p w l ≡ orElements b m p w l
-  unfolding orElements isElement rowsNaming
-  or-seen b p w (i ∷ l) = refl
-  or-seen true p w [] = refl
-  or-seen false p w [] = refl
-
-  found-seen : (p : ℕ) (w : List ℕ) → foundChildren seen p w ≡ foundChildren m p w
-  unfolding foundChildren isNamed rowsNaming
-  found-seen p w = or-seen (has bracket w) p w (keep (isNamed m w) (childrenOf m p))
+  seen = seenBy m
 
   end-by-seen : (b : Bool) (s : Side) (x : ℕ) → endComponentBy b seen s x ≡ endComponentBy b m s x
   unfolding endComponentBy named
-  end-by-seen true s x = ap firstOf (found-seen (xOwner m x) (nameOf m (xSub m s x)))
+  end-by-seen true s x = ap firstOf (found-seen m (xOwner m x) (nameOf m (xSub m s x)))
   end-by-seen false s x = refl
 
   pub end-seen : (s : Side) (x : ℕ) → endComponent seen s x ≡ endComponent m s x

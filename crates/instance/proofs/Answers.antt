@@ -32,7 +32,8 @@ use Rattle.trace.specs.Writing.{Written}
 use Rattle.instance.specs.declared.Listed.{Listed}
 use Rattle.instance.specs.declared.Listed.the-variants.{Rows, Refused}
 use Rattle.instance.specs.Answer.{listed, refusedFor, Wrote, ListedInto}
-use Rattle.instance.proofs.Seen.{seen, traced-seen, diags-seen}
+use Rattle.trace.proofs.Seen.{seen}
+use Rattle.instance.proofs.Seen.{traced-seen, diags-seen}
 
 -- ---- cases of an answer
 

@@ -10,31 +10,21 @@ use Rattle.as5506.specs.Rows.{Diag}
 use Rattle.as5506.specs.Tracing.{isNamed, isElement, orElements, foundChildren, Step, Chain, leads, stepTo, stepsOver, steps, chainsBy, chains, Shape, faulty, across, upward, downward, neither, shape, named, oneToOne, Start, child, owner, Pair, pairAcross, pairUp, pairDown, pairsAcross, pairsEdge, pairsBy, pairs, Traced, rowOf, reach, pairRows, rowsAt, traced, diagsBy, diagsAt, tracedDiags}
 use Rattle.as5506.proofs.Laws.{all-of, each-same}
 use Rattle.trace.specs.Steps.{tracingIn}
+use Rattle.trace.proofs.Seen.{seen as seenBy, found-seen}
 
 module _ (m : Tables) where
-  -- what tracing sees of the tables
-  abbrev pub seen : Tables
-  seen = tracingIn (m .bytes) (m .n) (m .c) (m .x)
-
-  or-seen : (b : Bool) (p : ℕ) (w l : List ℕ) → orElements b seen p w l ≡ orElements b m p w l
-  unfolding orElements isElement rowsNaming
-  or-seen b p w (i ∷ l) = refl
-  or-seen true p w [] = refl
-  or-seen false p w [] = refl
-
-  found-seen : (p : ℕ) (w : List ℕ) → foundChildren seen p w ≡ foundChildren m p w
-  unfolding foundChildren isNamed rowsNaming
-  found-seen p w = or-seen (has bracket w) p w (keep (isNamed m w) (childrenOf m p))
+  abbrev seen : Tables
+  seen = seenBy m
 
   named-seen : (s : Side) (x : ℕ) → named seen s x ≡ named m s x
   unfolding named
-  named-seen s x = found-seen (xOwner m x) (nameOf m (xSub m s x))
+  named-seen s x = found-seen m (xOwner m x) (nameOf m (xSub m s x))
 
   steps-seen : (s : Side) (c f : ℕ) → steps seen s c f ≡ steps m s c f
   unfolding steps stepsOver leads rowsNaming
   steps-seen s c f =
       each-same (λ x. map (stepTo m s x) (foundChildren seen c (nameOf m (xSub m s x)))) (stepsOver m s c) (keep (leads m s (nameOf m f)) (connectionsOf m c))
-      (all-of _ (λ x. ap (map (stepTo m s x)) (found-seen c (nameOf m (xSub m s x)))) (keep (leads m s (nameOf m f)) (connectionsOf m c)))
+      (all-of _ (λ x. ap (map (stepTo m s x)) (found-seen m c (nameOf m (xSub m s x)))) (keep (leads m s (nameOf m f)) (connectionsOf m c)))
 
   chains-seen : (s : Side) (k c f : ℕ) → chains seen s k c f ≡ chains m s k c f
   unfolding chains

@@ -3,3 +3,4 @@ pub mod Scan
 pub mod Chains
 mod Joining
 pub mod Rows
+pub mod Seen

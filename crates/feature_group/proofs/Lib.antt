@@ -1,0 +1,4 @@
+mod Range
+mod Used
+mod Blocks
+mod Answers

@@ -1,0 +1,91 @@
+-- `feature_group::expand` meets its contract: tables that are refused, or the walk over the links of those that are accepted. Assumes nothing.
+use Rattle.feature_group.proofs.Answers.{accepted-is, few-types, few-features, tables-refused, expands}
+use Rattle.as5506.specs.Tables.{tablesOf}
+use borrow.Author.Needs.{needs}
+use Rattle.feature_group.proofs.expand.Statement.{statement}
+use Rattle.feature_group.proofs.expand.Tie as tie
+use Rattle.feature_group.proofs.expand.Reads as reads
+use Rattle.feature_group.proofs.expand.Lts as lts
+use Rattle.feature_group.proofs.write_features.Reads as write-features-reads
+use Rattle.links.proofs.link.Reads as link-reads
+use Rattle.links.proofs.link_groups.Reads as link-groups-reads
+use Rattle.tables.proofs.check_tables.Reads as check-tables-reads
+
+check-tables-requires : tie.Need-check-tables-requires
+check-tables-requires c κs = search needs
+
+enum-known-reason : tie.Need-enum-known-reason
+enum-known-reason c = search needs
+
+returns : tie.Need-returns
+returns c =
+    let a = c .before .before .before .before .before .before .before .before .before .before .before .before .before .before .before .before .before .args in
+    let m = tablesOf (a .bytes .now) (a .n .now) (a .c .now) (a .f .now) (a .x .now) (a .p .now) (a .i .now) (a .t .now) (a .q .now) (a .u .now) (a .e .now) (a .r .now) in
+    tables-refused m (a .from) (a .type-name) (a .turned) (a .out .now) _ _ (c .before .before .before .check-tables .ensures) (c .before .reason .given .1) _
+
+enum-told : tie.Need-enum-told
+enum-told c = search needs
+
+slice-aggregate-link-groups : tie.Need-slice-aggregate-link-groups
+slice-aggregate-link-groups c = search needs
+
+slice-aggregate-link-groups-2 : tie.Need-slice-aggregate-link-groups-2
+slice-aggregate-link-groups-2 c = search needs
+
+slice-aggregate-link-groups-3 : tie.Need-slice-aggregate-link-groups-3
+slice-aggregate-link-groups-3 c = search needs
+
+link-groups-requires : tie.Need-link-groups-requires
+link-groups-requires c κs =
+    let a = c .before .before .before .before .before .before .before .before .before .before .before .before .before .before .before .before .before .before .before .args in
+    let m = tablesOf (a .bytes .now) (a .n .now) (a .c .now) (a .f .now) (a .x .now) (a .p .now) (a .i .now) (a .t .now) (a .q .now) (a .u .now) (a .e .now) (a .r .now) in
+    let ok = accepted-is m _ (c .before .before .before .before .before .check-tables .ensures) (c .before .before .before .enum-told .given .1) in
+    (few-types m ok, few-features m ok, few-types m ok, few-types m ok)
+
+link-requires : tie.Need-link-requires
+link-requires c κs =
+    let a = c .before .before .before .before .before .before .before .before .before .before .before .before .before .before .before .before .before .before .before .before .before .before .before .args in
+    let m = tablesOf (a .bytes .now) (a .n .now) (a .c .now) (a .f .now) (a .x .now) (a .p .now) (a .i .now) (a .t .now) (a .q .now) (a .u .now) (a .e .now) (a .r .now) in
+    few-types m (accepted-is m _ (c .before .before .before .before .before .before .before .before .before .check-tables .ensures) (c .before .before .before .before .before .before .before .enum-told .given .1))
+
+slice-aggregate-write-features : tie.Need-slice-aggregate-write-features
+slice-aggregate-write-features c = search needs
+
+slice-aggregate-write-features-2 : tie.Need-slice-aggregate-write-features-2
+slice-aggregate-write-features-2 c = search needs
+
+slice-aggregate-write-features-3 : tie.Need-slice-aggregate-write-features-3
+slice-aggregate-write-features-3 c = search needs
+
+write-features-requires : tie.Need-write-features-requires
+write-features-requires c κs = search needs
+
+same-length : tie.Need-same-length
+same-length c = search needs
+
+returns-2 : tie.Need-returns-2
+returns-2 c =
+    let a = c .before .before .before .before .before .before .before .before .before .before .before .before .before .before .before .before .before .before .before .before .before .before .before .before .before .before .before .before .before .before .before .args in
+    let m = tablesOf (a .bytes .now) (a .n .now) (a .c .now) (a .f .now) (a .x .now) (a .p .now) (a .i .now) (a .t .now) (a .q .now) (a .u .now) (a .e .now) (a .r .now) in
+    let ok = accepted-is m _ (c .before .before .before .before .before .before .before .before .before .before .before .before .before .before .before .before .before .check-tables .ensures) (c .before .before .before .before .before .before .before .before .before .before .before .before .before .before .before .enum-told .given .1) in
+    expands m (a .from) (a .type-name) (a .turned) (a .out .now) ok _ _ _ (c .before .before .before .before .before .before .before .before .before .before .before .link-groups .ensures (a .c .now) (a .f .now) (a .x .now)) _ (c .before .before .before .before .before .before .before .link .ensures (a .c .now) (a .f .now) (a .x .now) (a .e .now)) _ _ (c .before .before .write-features .ensures)
+
+pub expand-spec : {M : Type 1} → statement M
+expand-spec =
+    tie.close
+    (tie.spec
+    check-tables-requires
+    enum-known-reason
+    returns
+    enum-told
+    slice-aggregate-link-groups
+    slice-aggregate-link-groups-2
+    slice-aggregate-link-groups-3
+    link-groups-requires
+    link-requires
+    slice-aggregate-write-features
+    slice-aggregate-write-features-2
+    slice-aggregate-write-features-3
+    write-features-requires
+    same-length
+    returns-2)

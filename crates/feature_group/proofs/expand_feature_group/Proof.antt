@@ -1,0 +1,58 @@
+-- `feature_group::expand_feature_group` meets its contract: an answer keeps what was written into zeros, a refusal clears it. Assumes nothing.
+use Rattle.feature_group.proofs.Answers.{given-call, refused-call}
+use Rattle.as5506.specs.Tables.{tablesOf}
+use borrow.Author.Needs.{needs}
+use Rattle.feature_group.proofs.expand_feature_group.Statement.{statement}
+use Rattle.feature_group.proofs.expand_feature_group.Tie as tie
+use Rattle.feature_group.proofs.expand_feature_group.Reads as reads
+use Rattle.feature_group.proofs.expand_feature_group.Lts as lts
+use Rattle.feature_group.proofs.expand.Reads as expand-reads
+use Rattle.lent.proofs.clear_numbers.Reads as clear-numbers-reads
+
+clear-numbers-requires : tie.Need-clear-numbers-requires
+clear-numbers-requires c κs = search needs
+
+expand-requires : tie.Need-expand-requires
+expand-requires c κs = search needs
+
+enum-told : tie.Need-enum-told
+enum-told c = search needs
+
+enum-told-2 : tie.Need-enum-told-2
+enum-told-2 c = search needs
+
+clear-numbers-requires-2 : tie.Need-clear-numbers-requires-2
+clear-numbers-requires-2 c κs = search needs
+
+same-length : tie.Need-same-length
+same-length c = search needs
+
+returns : tie.Need-returns
+returns c =
+    let a = c .before .before .before .before .before .before .before .before .before .before .before .before .before .before .before .before .before .before .before .before .before .before .before .args in
+    let m = tablesOf (a .bytes .now) (a .n .now) (a .c .now) (a .f .now) (a .x .now) (a .p .now) (a .i .now) (a .t .now) (a .q .now) (a .u .now) (a .e .now) (a .r .now) in
+    given-call m (a .out .now) (a .from) (a .type-name) (a .turned) _ _ _ (c .before .before .before .before .before .before .before .before .clear-numbers .ensures) (c .before .before .before .before .expand .ensures) _ _ (c .enum-told .given .1)
+
+same-length-2 : tie.Need-same-length-2
+same-length-2 c = search needs
+
+returns-2 : tie.Need-returns-2
+returns-2 c =
+    let a = c .before .before .before .before .before .before .before .before .before .before .before .before .before .before .before .before .before .before .before .before .before .before .before .before .before .before .before .args in
+    let m = tablesOf (a .bytes .now) (a .n .now) (a .c .now) (a .f .now) (a .x .now) (a .p .now) (a .i .now) (a .t .now) (a .q .now) (a .u .now) (a .e .now) (a .r .now) in
+    let x = c .before .before .before .before .before .before .before .before .expand in
+    refused-call m (a .out .now) (a .from) (a .type-name) (a .turned) _ (x .last .1 .1 .1 .1 .1 .1 .1 .1 .1 .1 .1 .1 .0) _ (c .before .before .before .before .before .before .before .before .before .before .before .before .clear-numbers .ensures) (x .ensures) _ (c .before .before .before .before .enum-told2 .given .1) (x .kept .1 .1 .1 .1 .1 .1 .1 .1 .1 .1 .1 .1 .0) _ (c .before .before .clear-numbers2 .ensures)
+
+pub expand-feature-group-spec : {M : Type 1} → statement M
+expand-feature-group-spec =
+    tie.close
+    (tie.spec
+    clear-numbers-requires
+    expand-requires
+    enum-told
+    enum-told-2
+    clear-numbers-requires-2
+    same-length
+    returns
+    same-length-2
+    returns-2)

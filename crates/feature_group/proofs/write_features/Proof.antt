@@ -1,0 +1,89 @@
+-- `feature_group::write_features` meets its contract: too many visits, too many features, or all of them written. Assumes nothing.
+use Rattle.feature_group.proofs.Answers.{ready-all, writes-13, writes-11, writes-all}
+use Rattle.group_walk.proofs.Calm.{passable-zeros}
+use Rattle.links.specs.Walk.{groupsIn}
+use mathlib.Core.Path.{refl}
+use native.Mathlib.Omega.{arith}
+use borrow.Author.Needs.{needs}
+use Rattle.feature_group.proofs.write_features.Statement.{statement}
+use Rattle.feature_group.proofs.write_features.Tie as tie
+use Rattle.feature_group.proofs.write_features.Reads as reads
+use Rattle.feature_group.proofs.write_features.Lts as lts
+use Rattle.feature_group.proofs.refused.Reads as refused-reads
+use Rattle.group_walk.proofs.visit.Reads as visit-reads
+
+slice-aggregate-visit : tie.Need-slice-aggregate-visit
+slice-aggregate-visit c = search needs
+
+slice-aggregate-visit-2 : tie.Need-slice-aggregate-visit-2
+slice-aggregate-visit-2 c = search needs
+
+slice-aggregate-visit-3 : tie.Need-slice-aggregate-visit-3
+slice-aggregate-visit-3 c = search needs
+
+slice-aggregate-visit-4 : tie.Need-slice-aggregate-visit-4
+slice-aggregate-visit-4 c = search needs
+
+visit-requires : tie.Need-visit-requires
+visit-requires c κs = ((ready-all _ _ _ _, refl, omega arith), passable-zeros _ _ _ 45056 (omega arith, omega arith))
+
+enum-told : tie.Need-enum-told
+enum-told c = search needs
+
+refused-requires : tie.Need-refused-requires
+refused-requires c κs = search needs
+
+enum-known-tally : tie.Need-enum-known-tally
+enum-known-tally c = search needs
+
+refused-requires-2 : tie.Need-refused-requires-2
+refused-requires-2 c κs = search needs
+
+same-length : tie.Need-same-length
+same-length c = search needs
+
+returns : tie.Need-returns
+returns c =
+    let a = c .before .before .before .before .before .before .before .before .before .before .before .before .before .before .before .before .before .before .before .before .before .before .before .before .args in
+    let w = c .before .before .before .before .before .before .before .before .before .before .before .visit in
+    let d = c .before .before .before .before .tally .given in
+    writes-11 (groupsIn (a .e .now) (a .nested .now) (a .extends .now) (a .inverse .now)) (a .to) (a .turned) _ _ _ _ (a .out .now) _ _ _ _ (w .result) _ (w .ensures .0) refl (d .0 .0) (d .0 .1 .0) (d .1) (c .before .if1 .taken) _ (c .refused2 .ensures) _
+
+same-length-2 : tie.Need-same-length-2
+same-length-2 c = search needs
+
+returns-2 : tie.Need-returns-2
+returns-2 c =
+    let a = c .before .before .before .before .before .before .before .before .before .before .before .before .before .before .before .before .before .before .before .before .before .args in
+    let w = c .before .before .before .before .before .before .before .before .visit in
+    writes-13 (groupsIn (a .e .now) (a .nested .now) (a .extends .now) (a .inverse .now)) (a .to) (a .turned) _ _ _ _ (a .out .now) _ _ _ _ (w .result) _ (w .ensures .0) refl (c .before .enum-told .given .1) _ (c .refused .ensures) _
+
+same-length-3 : tie.Need-same-length-3
+same-length-3 c = search needs
+
+returns-3 : tie.Need-returns-3
+returns-3 c =
+    let a = c .before .before .before .before .before .before .before .before .before .before .before .before .before .before .before .before .before .before .before .before .before .before .before .before .args in
+    let w = c .before .before .before .before .before .before .before .before .before .before .before .visit in
+    let d = c .before .before .before .before .tally .given in
+    writes-all (groupsIn (a .e .now) (a .nested .now) (a .extends .now) (a .inverse .now)) (a .to) (a .turned) _ _ _ _ (a .out .now) _ _ _ _ (w .result) _ (w .ensures .0) refl (d .0 .0) (d .0 .1 .0) (d .1) (c .before .if1 .left)
+
+pub write-features-spec : {M : Type 1} → statement M
+write-features-spec =
+    tie.close
+    (tie.spec
+    slice-aggregate-visit
+    slice-aggregate-visit-2
+    slice-aggregate-visit-3
+    slice-aggregate-visit-4
+    visit-requires
+    enum-told
+    refused-requires
+    enum-known-tally
+    refused-requires-2
+    same-length
+    returns
+    same-length-2
+    returns-2
+    same-length-3
+    returns-3)
