@@ -34,7 +34,7 @@ use Rattle.group_walk.proofs.Laws.{run-done, run-over}
 use Rattle.feature_group.specs.declared.Expanded.{Expanded}
 use Rattle.feature_group.specs.declared.Expanded.the-variants.{Features, Refused}
 use Rattle.feature_group.specs.Answer.{expanded, answerFor, ExpandedInto, refusedFor, Wrote}
-use Rattle.feature_group.proofs.Range.{expansion-short}
+use Rattle.links.proofs.Range.{expansion-short}
 use Rattle.feature_group.proofs.Used.{Used}
 use Rattle.feature_group.proofs.Blocks.{blocks-length, features-used}
 

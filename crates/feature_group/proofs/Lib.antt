@@ -1,4 +1,3 @@
-mod Range
 mod Used
 mod Blocks
 mod Answers

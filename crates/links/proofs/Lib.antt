@@ -1,2 +1,3 @@
 mod Rows
 pub mod Walk
+pub mod Range
