@@ -7,6 +7,8 @@ use Rattle.sheet.specs.declared.SheetRead.{SheetRead}
 use Rattle.sheet.specs.declared.SheetRead.the-variants.{Read, Refused as ReadRefused}
 use Rattle.tables.specs.declared.Checked.{Checked}
 use Rattle.tables.specs.declared.Checked.the-variants.{Accepted, Refused as CheckRefused}
+use Rattle.feature_group.specs.declared.Expanded.{Expanded}
+use Rattle.feature_group.specs.declared.Expanded.the-variants.{Features, Refused as ExpandRefused}
 use Rattle.instance.specs.declared.Listed.{Listed}
 use Rattle.instance.specs.declared.Listed.the-variants.{Rows as TracedRows, Refused as TracedRefused}
 
@@ -23,6 +25,11 @@ readNumbers (ReadRefused r) = refusalNumbers r ++ zeros 10
 abbrev pub checkedNumbers : Checked → List ℕ
 checkedNumbers Accepted = zeros 3
 checkedNumbers (CheckRefused r) = refusalNumbers r
+
+-- 0, how many features there are, and how many visits were made
+abbrev pub expandedNumbers : Expanded → List ℕ
+expandedNumbers (Features k visits) = 0 ∷ k ∷ visits ∷ []
+expandedNumbers (ExpandRefused r) = refusalNumbers r
 
 -- 0 and how many rows and diagnostics there are
 abbrev pub tracedNumbers : Listed → List ℕ

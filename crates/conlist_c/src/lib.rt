@@ -1,4 +1,5 @@
 // The library for Rust and C. Each slice crosses as two arguments, a pointer and a count; an answer is told in numbers.
 mod check;
+mod expand;
 mod read;
 mod traced;

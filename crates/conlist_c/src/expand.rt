@@ -1,0 +1,63 @@
+// The expansion of a feature group.
+ghost use mathlib.Core.Path.{_≡_};
+ghost use Rattle.as5506.specs.Tables.{tablesOf};
+ghost use Rattle.feature_group.specs.Answer.{expanded, answerFor, ExpandedInto};
+ghost use Rattle.conlist_c.specs.Numbers.{expandedNumbers};
+use feature_group::Expanded;
+
+// Expands as `expand_feature_group` does. `told` then holds 0, the features that were written and the visits that were made, or a refusal's number,
+// place and letter.
+#[no_mangle]
+pub extern "C" fn conlist_expand_feature_group(
+    bytes: &[u8],
+    n: &[u32],
+    c: &[u32],
+    f: &[u32],
+    x: &[u32],
+    p: &[u32],
+    i: &[u32],
+    t: &[u32],
+    q: &[u32],
+    u: &[u32],
+    e: &[u32],
+    r: &[u32],
+    out: &mut [u32],
+    from: u32,
+    type_name: u32,
+    inverse: bool,
+    told: &mut [u64; 3],
+)
+    ensures { λ _. ⌜ now (told .exit) ≡ expandedNumbers (expanded (answerFor (tablesOf (now (bytes .entry)) (now (n .entry)) (now (c .entry)) (now (f .entry)) (now (x .entry)) (now (p .entry)) (now (i .entry)) (now (t .entry)) (now (q .entry)) (now (u .entry)) (now (e .entry)) (now (r .entry))) (now (out .entry)) from «type_name» inverse)) ⌝ }
+    ensures { λ _. ⌜ ExpandedInto (tablesOf (now (bytes .entry)) (now (n .entry)) (now (c .entry)) (now (f .entry)) (now (x .entry)) (now (p .entry)) (now (i .entry)) (now (t .entry)) (now (q .entry)) (now (u .entry)) (now (e .entry)) (now (r .entry))) (now (out .entry)) from «type_name» inverse (expanded (answerFor (tablesOf (now (bytes .entry)) (now (n .entry)) (now (c .entry)) (now (f .entry)) (now (x .entry)) (now (p .entry)) (now (i .entry)) (now (t .entry)) (now (q .entry)) (now (u .entry)) (now (e .entry)) (now (r .entry))) (now (out .entry)) from «type_name» inverse)) (now (out .exit)) ⌝ }
+{
+    let answer = feature_group::expand_feature_group(
+        bytes,
+        n,
+        c,
+        f,
+        x,
+        p,
+        i,
+        t,
+        q,
+        u,
+        e,
+        r,
+        out,
+        from,
+        type_name,
+        inverse,
+    );
+    match answer {
+        Expanded::Features(k, visits) => {
+            *told = [0, k as u64, visits as u64];
+        }
+        Expanded::Refused(reason) => {
+            *told = [
+                reason.number as u64,
+                reason.place as u64,
+                reason.letter as u64,
+            ];
+        }
+    }
+}
