@@ -1,0 +1,3 @@
+mod Matches
+mod Short
+pub mod Answers

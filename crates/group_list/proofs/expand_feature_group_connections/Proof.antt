@@ -1,0 +1,104 @@
+-- `group_list::expand_feature_group_connections` meets its contract. Each way out is a law of proofs/Answers.antt. Assumes nothing.
+use mathlib.Core.Path.{_∙_}
+use Rattle.group_list.proofs.Answers.{accepted-is, tables-refused, given-call, refused-call}
+use Rattle.as5506.specs.Tables.{tablesOf}
+use borrow.Author.Needs.{needs}
+use Rattle.group_list.proofs.expand_feature_group_connections.Statement.{statement}
+use Rattle.group_list.proofs.expand_feature_group_connections.Tie as tie
+
+clear-requires : tie.Need-clear-requires
+clear-requires c κs = search needs
+
+check-tables-requires : tie.Need-check-tables-requires
+check-tables-requires c κs = search needs
+
+enum-known-reason : tie.Need-enum-known-reason
+enum-known-reason c = search needs
+
+same-length : tie.Need-same-length
+same-length c = search needs
+
+same-length-2 : tie.Need-same-length-2
+same-length-2 c = search needs
+
+same-length-3 : tie.Need-same-length-3
+same-length-3 c = search needs
+
+returns : tie.Need-returns
+returns c =
+    let a = c .before .before .before .before .before .before .before .before .before .before .before .before .before .before .before .before .before .before .before .before .before .before .before .before .before .before .before .before .before .args in
+    let m = tablesOf (a .bytes .now) (a .n .now) (a .c .now) (a .f .now) (a .x .now) (a .p .now) (a .i .now) (a .t .now) (a .q .now) (a .u .now) (a .e .now) (a .r .now) in
+    tables-refused m (a .rows .now) (a .names .now) (a .diagnostics .now) _ _ _ (c .before .before .before .before .before .before .before .before .before .before .clear .ensures .0) (c .before .before .before .before .before .before .before .before .before .before .clear .ensures .1 .0) (c .before .before .before .before .before .before .before .before .before .before .clear .ensures .1 .1) _ _ (c .before .before .before .check-tables .ensures) (c .before .reason .given .1)
+
+enum-told : tie.Need-enum-told
+enum-told c = search needs
+
+list-accepted-requires : tie.Need-list-accepted-requires
+list-accepted-requires c κs =
+    let a = c .before .before .before .before .before .before .before .before .before .before .before .before .before .before .before .before .before .before .before .before .before .before .before .before .before .before .before .before .before .before .before .args in
+    let m = tablesOf (a .bytes .now) (a .n .now) (a .c .now) (a .f .now) (a .x .now) (a .p .now) (a .i .now) (a .t .now) (a .q .now) (a .u .now) (a .e .now) (a .r .now) in
+    (accepted-is m _ (c .before .before .before .before .before .check-tables .ensures) (c .before .before .before .enum-told .given .1))
+
+enum-told-2 : tie.Need-enum-told-2
+enum-told-2 c = search needs
+
+enum-told-3 : tie.Need-enum-told-3
+enum-told-3 c = search needs
+
+clear-requires-2 : tie.Need-clear-requires-2
+clear-requires-2 c κs = search needs
+
+same-length-4 : tie.Need-same-length-4
+same-length-4 c = search needs
+
+same-length-5 : tie.Need-same-length-5
+same-length-5 c = search needs
+
+same-length-6 : tie.Need-same-length-6
+same-length-6 c = search needs
+
+returns-2 : tie.Need-returns-2
+returns-2 c =
+    let a = c .before .before .before .before .before .before .before .before .before .before .before .before .before .before .before .before .before .before .before .before .before .before .before .before .before .before .before .before .before .before .before .before .before .before .before .before .before .before .before .before .args in
+    let m = tablesOf (a .bytes .now) (a .n .now) (a .c .now) (a .f .now) (a .x .now) (a .p .now) (a .i .now) (a .t .now) (a .q .now) (a .u .now) (a .e .now) (a .r .now) in
+    given-call m (a .rows .now) (a .names .now) (a .diagnostics .now) _ _ _ (c .before .before .before .before .before .before .before .before .before .before .before .before .before .before .before .before .before .before .before .before .before .clear .ensures .0) (c .before .before .before .before .before .before .before .before .before .before .before .before .before .before .before .before .before .before .before .before .before .clear .ensures .1 .0) (c .before .before .before .before .before .before .before .before .before .before .before .before .before .before .before .before .before .before .before .before .before .clear .ensures .1 .1) (accepted-is m _ (c .before .before .before .before .before .before .before .before .before .before .before .before .before .before .check-tables .ensures) (c .before .before .before .before .before .before .before .before .before .before .before .before .enum-told .given .1)) _ (c .before .before .before .before .before .before .before .before .list-accepted .ensures .0) _ _ _ _ _ (c .enum-told2 .given .1) (c .before .before .before .before .before .before .before .before .list-accepted .ensures .1)
+
+same-length-7 : tie.Need-same-length-7
+same-length-7 c = c .before .before .before .before .before .before .clear2 .kept .0 ∙ c .before .before .before .before .before .before .before .before .before .before .before .before .before .before .before .before .before .before .list-accepted .kept .1 .1 .1 .1 .1 .1 .1 .1 .1 .1 .1 .1 .0 ∙ c .before .before .before .before .before .before .before .before .before .before .before .before .before .before .before .before .before .before .before .before .before .before .before .before .before .before .before .before .before .before .before .clear .kept .0
+
+same-length-8 : tie.Need-same-length-8
+same-length-8 c = search needs
+
+same-length-9 : tie.Need-same-length-9
+same-length-9 c = search needs
+
+returns-3 : tie.Need-returns-3
+returns-3 c =
+    let a = c .before .before .before .before .before .before .before .before .before .before .before .before .before .before .before .before .before .before .before .before .before .before .before .before .before .before .before .before .before .before .before .before .before .before .before .before .before .before .before .before .before .before .before .before .before .before .before .before .before .before .args in
+    let m = tablesOf (a .bytes .now) (a .n .now) (a .c .now) (a .f .now) (a .x .now) (a .p .now) (a .i .now) (a .t .now) (a .q .now) (a .u .now) (a .e .now) (a .r .now) in
+    refused-call m (a .rows .now) (a .names .now) (a .diagnostics .now) _ _ _ (c .before .before .before .before .before .before .before .before .before .before .before .before .before .before .before .before .before .before .before .before .before .before .before .before .before .before .before .before .before .before .before .clear .ensures .0) (c .before .before .before .before .before .before .before .before .before .before .before .before .before .before .before .before .before .before .before .before .before .before .before .before .before .before .before .before .before .before .before .clear .ensures .1 .0) (c .before .before .before .before .before .before .before .before .before .before .before .before .before .before .before .before .before .before .before .before .before .before .before .before .before .before .before .before .before .before .before .clear .ensures .1 .1) (accepted-is m _ (c .before .before .before .before .before .before .before .before .before .before .before .before .before .before .before .before .before .before .before .before .before .before .before .before .check-tables .ensures) (c .before .before .before .before .before .before .before .before .before .before .before .before .before .before .before .before .before .before .before .before .before .before .enum-told .given .1)) _ (c .before .before .before .before .before .before .before .before .before .before .before .before .before .before .before .before .before .before .list-accepted .ensures .0) (c .before .before .before .before .before .before .before .before .before .before .before .before .before .before .before .before .before .before .list-accepted .last .1 .1 .1 .1 .1 .1 .1 .1 .1 .1 .1 .1 .0) (c .before .before .before .before .before .before .before .before .before .before .before .before .before .before .before .before .before .before .list-accepted .last .1 .1 .1 .1 .1 .1 .1 .1 .1 .1 .1 .1 .1 .0) (c .before .before .before .before .before .before .before .before .before .before .before .before .before .before .before .before .before .before .list-accepted .last .1 .1 .1 .1 .1 .1 .1 .1 .1 .1 .1 .1 .1 .1 .0) _ (c .before .before .before .before .before .before .before .before .before .before .enum-told3 .given .1) (c .before .before .before .before .before .before .before .before .before .before .before .before .before .before .before .before .before .before .list-accepted .kept .1 .1 .1 .1 .1 .1 .1 .1 .1 .1 .1 .1 .0) (c .before .before .before .before .before .before .before .before .before .before .before .before .before .before .before .before .before .before .list-accepted .kept .1 .1 .1 .1 .1 .1 .1 .1 .1 .1 .1 .1 .1 .0) (c .before .before .before .before .before .before .before .before .before .before .before .before .before .before .before .before .before .before .list-accepted .kept .1 .1 .1 .1 .1 .1 .1 .1 .1 .1 .1 .1 .1 .1 .0) _ _ _ (c .before .before .before .before .before .before .clear2 .ensures .0) (c .before .before .before .before .before .before .clear2 .ensures .1 .0) (c .before .before .before .before .before .before .clear2 .ensures .1 .1)
+
+pub expand-feature-group-connections-spec : {M : Type 1} → statement M
+expand-feature-group-connections-spec =
+    tie.close
+    (tie.spec
+    clear-requires
+    check-tables-requires
+    enum-known-reason
+    same-length
+    same-length-2
+    same-length-3
+    returns
+    enum-told
+    list-accepted-requires
+    enum-told-2
+    enum-told-3
+    clear-requires-2
+    same-length-4
+    same-length-5
+    same-length-6
+    returns-2
+    same-length-7
+    same-length-8
+    same-length-9
+    returns-3)

@@ -1,0 +1,5 @@
+mod Back
+mod Given
+mod Listed
+mod Fits
+mod Tables

@@ -1,0 +1,287 @@
+-- `sheet_list::list_sheet` meets its contract: of each slice as much is handed on as was read, and that is the definition's model. Assumes nothing.
+use mathlib.Core.Path.{_≡_, sym, ap, _∙_}
+use Prim.Native.Nat.{ℕ, _*_, _≤_}
+use native.Mathlib.Omega.{arith}
+use borrow.Author.Needs.{needs}
+use lib.Seq.{length-take-le}
+use lib.ListN.{length, length-replicate}
+use Rattle.as5506.specs.Sheet.{readSheet}
+use Rattle.as5506.specs.Listing.{bothAnswer}
+use Rattle.as5506.specs.Program.{lent, room, namesLent, printedOrRefusal, ofReading}
+use Rattle.as5506.specs.Tables.{Tables, tablesOf, Letter, letterN, letterC, letterF, letterX, letterP, letterI, letterT, letterQ, letterU, letterE, letterR, table, width}
+use Rattle.as5506.specs.Lists.{zeros}
+use Rattle.sheet_list.proofs.Tables.{taken, LentHere, counted, rows-within, rows-small, bytes-within, text-read, text-refused, text-into}
+use Rattle.sheet_list.proofs.list_sheet.Statement.{statement}
+use Rattle.sheet_list.proofs.list_sheet.Tie as tie
+
+-- the slices after the reader
+abbrev after : tie.After-k → Tables
+after c =
+    let l = c .before .before .before .before .before .before .before .before .before .before .before .before .before .before .read-sheet .last in
+    tablesOf (l .1 .0) (l .1 .1 .0) (l .1 .1 .1 .0) (l .1 .1 .1 .1 .0) (l .1 .1 .1 .1 .1 .0) (l .1 .1 .1 .1 .1 .1 .0) (l .1 .1 .1 .1 .1 .1 .1 .0) (l .1 .1 .1 .1 .1 .1 .1 .1 .0) (l .1 .1 .1 .1 .1 .1 .1 .1 .1 .0) (l .1 .1 .1 .1 .1 .1 .1 .1 .1 .1 .0) (l .1 .1 .1 .1 .1 .1 .1 .1 .1 .1 .1 .0) (l .1 .1 .1 .1 .1 .1 .1 .1 .1 .1 .1 .1 .0)
+
+after-lent : (c : tie.After-k) → LentHere (after c)
+after-lent c =
+    let k = c .before .before .before .before .before .before .before .before .before .before .before .before .before .before .read-sheet .kept in
+    record {
+      bytes = k .1 .0 ∙ length-replicate {A = ℕ} 16384 0;
+      n = k .1 .1 .0 ∙ length-replicate {A = ℕ} 512 0;
+      c = k .1 .1 .1 .0 ∙ length-replicate {A = ℕ} 576 0;
+      f = k .1 .1 .1 .1 .0 ∙ length-replicate {A = ℕ} 288 0;
+      x = k .1 .1 .1 .1 .1 .0 ∙ length-replicate {A = ℕ} 672 0;
+      p = k .1 .1 .1 .1 .1 .1 .0 ∙ length-replicate {A = ℕ} 96 0;
+      i = k .1 .1 .1 .1 .1 .1 .1 .0 ∙ length-replicate {A = ℕ} 192 0;
+      t = k .1 .1 .1 .1 .1 .1 .1 .1 .0 ∙ length-replicate {A = ℕ} 288 0;
+      q = k .1 .1 .1 .1 .1 .1 .1 .1 .1 .0 ∙ length-replicate {A = ℕ} 384 0;
+      u = k .1 .1 .1 .1 .1 .1 .1 .1 .1 .1 .0 ∙ length-replicate {A = ℕ} 864 0;
+      e = k .1 .1 .1 .1 .1 .1 .1 .1 .1 .1 .1 .0 ∙ length-replicate {A = ℕ} 768 0;
+      r = k .1 .1 .1 .1 .1 .1 .1 .1 .1 .1 .1 .1 .0 ∙ length-replicate {A = ℕ} 480 0;
+    }
+
+-- what is handed on lies within them
+in-bytes : (c : tie.After-k) → c .k .given .0 .0 .bytes ≤ length (after c .bytes)
+in-bytes c = let r = c .before .before .before .before .before .before .before .before .before .before .before .before .before .before .read-sheet in bytes-within _ (r .result) (after c) (r .ensures) _ (c .k .given .1)
+
+within : (c : tie.After-k) (l : Letter) → counted (c .k .given .0 .0) l * width l ≤ length (table (after c) l)
+within c l = let r = c .before .before .before .before .before .before .before .before .before .before .before .before .before .before .read-sheet in rows-within _ (r .result) (after c) (r .ensures) _ (c .k .given .1) l
+
+small : (c : tie.After-k) (l : Letter) → counted (c .k .given .0 .0) l * width l ≤ 864
+small c l = let r = c .before .before .before .before .before .before .before .before .before .before .before .before .before .before .read-sheet in rows-small _ (r .result) (after c) (r .ensures) _ (c .k .given .1) (after-lent c) l
+
+-- the text of it is the definition's
+text-of : (c : tie.After-k) (n : ℕ) → printedOrRefusal n (taken (c .k .given .0 .0) (after c)) (bothAnswer room room namesLent (taken (c .k .given .0 .0) (after c))) ≡ ofReading n (readSheet lent (c .before .before .before .before .before .before .before .before .before .before .before .before .before .before .before .before .before .before .before .before .before .before .before .before .before .before .before .before .before .before .before .before .before .args .sheet .now))
+text-of c n = let r = c .before .before .before .before .before .before .before .before .before .before .before .before .before .before .read-sheet in text-read _ (r .result) (after c) (r .ensures) _ (c .k .given .1) n
+
+clear-bytes-requires : tie.Need-clear-bytes-requires
+clear-bytes-requires c κs = search needs
+
+slice-aggregate-read-sheet : tie.Need-slice-aggregate-read-sheet
+slice-aggregate-read-sheet c = search needs
+
+slice-aggregate-read-sheet-2 : tie.Need-slice-aggregate-read-sheet-2
+slice-aggregate-read-sheet-2 c = search needs
+
+slice-aggregate-read-sheet-3 : tie.Need-slice-aggregate-read-sheet-3
+slice-aggregate-read-sheet-3 c = search needs
+
+slice-aggregate-read-sheet-4 : tie.Need-slice-aggregate-read-sheet-4
+slice-aggregate-read-sheet-4 c = search needs
+
+slice-aggregate-read-sheet-5 : tie.Need-slice-aggregate-read-sheet-5
+slice-aggregate-read-sheet-5 c = search needs
+
+slice-aggregate-read-sheet-6 : tie.Need-slice-aggregate-read-sheet-6
+slice-aggregate-read-sheet-6 c = search needs
+
+slice-aggregate-read-sheet-7 : tie.Need-slice-aggregate-read-sheet-7
+slice-aggregate-read-sheet-7 c = search needs
+
+slice-aggregate-read-sheet-8 : tie.Need-slice-aggregate-read-sheet-8
+slice-aggregate-read-sheet-8 c = search needs
+
+slice-aggregate-read-sheet-9 : tie.Need-slice-aggregate-read-sheet-9
+slice-aggregate-read-sheet-9 c = search needs
+
+slice-aggregate-read-sheet-10 : tie.Need-slice-aggregate-read-sheet-10
+slice-aggregate-read-sheet-10 c = search needs
+
+slice-aggregate-read-sheet-11 : tie.Need-slice-aggregate-read-sheet-11
+slice-aggregate-read-sheet-11 c = search needs
+
+slice-aggregate-read-sheet-12 : tie.Need-slice-aggregate-read-sheet-12
+slice-aggregate-read-sheet-12 c = search needs
+
+read-sheet-requires : tie.Need-read-sheet-requires
+read-sheet-requires c κs = search needs
+
+enum-known-reason : tie.Need-enum-known-reason
+enum-known-reason c = search needs
+
+tell-requires : tie.Need-tell-requires
+tell-requires c κs = let d = c .before .before .before .before .before .before .before .before .before .before .before .before .before .before .before .before .before .before .before .before .before .before .before .before .before .before .before .before .before .before .before .clear-bytes in d .ensures ∙ ap zeros (sym (d .kept .0))
+
+enum-known-k : tie.Need-enum-known-k
+enum-known-k c = search needs
+
+array-share-prefix-bytes : tie.Need-array-share-prefix-bytes
+array-share-prefix-bytes c = in-bytes (c .before)
+
+slice-aggregate-list-tables : tie.Need-slice-aggregate-list-tables
+slice-aggregate-list-tables c = sym (length-take-le _ _ (in-bytes (c .before .before)))
+
+mul-n : tie.Need-mul-n
+mul-n c = omega (arith, small (c .before .before .before) letterN)
+
+array-share-prefix-n : tie.Need-array-share-prefix-n
+array-share-prefix-n c = within (c .before .before .before) letterN
+
+slice-aggregate-list-tables-2 : tie.Need-slice-aggregate-list-tables-2
+slice-aggregate-list-tables-2 c = sym (length-take-le _ _ (within (c .before .before .before .before) letterN))
+
+mul-c : tie.Need-mul-c
+mul-c c = omega (arith, small (c .before .before .before .before .before) letterC)
+
+array-share-prefix-c : tie.Need-array-share-prefix-c
+array-share-prefix-c c = within (c .before .before .before .before .before) letterC
+
+slice-aggregate-list-tables-3 : tie.Need-slice-aggregate-list-tables-3
+slice-aggregate-list-tables-3 c = sym (length-take-le _ _ (within (c .before .before .before .before .before .before) letterC))
+
+mul-f : tie.Need-mul-f
+mul-f c = omega (arith, small (c .before .before .before .before .before .before .before) letterF)
+
+array-share-prefix-f : tie.Need-array-share-prefix-f
+array-share-prefix-f c = within (c .before .before .before .before .before .before .before) letterF
+
+slice-aggregate-list-tables-4 : tie.Need-slice-aggregate-list-tables-4
+slice-aggregate-list-tables-4 c = sym (length-take-le _ _ (within (c .before .before .before .before .before .before .before .before) letterF))
+
+mul-x : tie.Need-mul-x
+mul-x c = omega (arith, small (c .before .before .before .before .before .before .before .before .before) letterX)
+
+array-share-prefix-x : tie.Need-array-share-prefix-x
+array-share-prefix-x c = within (c .before .before .before .before .before .before .before .before .before) letterX
+
+slice-aggregate-list-tables-5 : tie.Need-slice-aggregate-list-tables-5
+slice-aggregate-list-tables-5 c = sym (length-take-le _ _ (within (c .before .before .before .before .before .before .before .before .before .before) letterX))
+
+array-share-prefix-p : tie.Need-array-share-prefix-p
+array-share-prefix-p c = omega (arith, within (c .before .before .before .before .before .before .before .before .before .before) letterP)
+
+slice-aggregate-list-tables-6 : tie.Need-slice-aggregate-list-tables-6
+slice-aggregate-list-tables-6 c = sym (length-take-le _ _ (array-share-prefix-p (c .before)))
+
+mul-i : tie.Need-mul-i
+mul-i c = omega (arith, small (c .before .before .before .before .before .before .before .before .before .before .before .before) letterI)
+
+array-share-prefix-i : tie.Need-array-share-prefix-i
+array-share-prefix-i c = within (c .before .before .before .before .before .before .before .before .before .before .before .before) letterI
+
+slice-aggregate-list-tables-7 : tie.Need-slice-aggregate-list-tables-7
+slice-aggregate-list-tables-7 c = sym (length-take-le _ _ (within (c .before .before .before .before .before .before .before .before .before .before .before .before .before) letterI))
+
+mul-t : tie.Need-mul-t
+mul-t c = omega (arith, small (c .before .before .before .before .before .before .before .before .before .before .before .before .before .before) letterT)
+
+array-share-prefix-t : tie.Need-array-share-prefix-t
+array-share-prefix-t c = within (c .before .before .before .before .before .before .before .before .before .before .before .before .before .before) letterT
+
+slice-aggregate-list-tables-8 : tie.Need-slice-aggregate-list-tables-8
+slice-aggregate-list-tables-8 c = sym (length-take-le _ _ (within (c .before .before .before .before .before .before .before .before .before .before .before .before .before .before .before) letterT))
+
+mul-q : tie.Need-mul-q
+mul-q c = omega (arith, small (c .before .before .before .before .before .before .before .before .before .before .before .before .before .before .before .before) letterQ)
+
+array-share-prefix-q : tie.Need-array-share-prefix-q
+array-share-prefix-q c = within (c .before .before .before .before .before .before .before .before .before .before .before .before .before .before .before .before) letterQ
+
+slice-aggregate-list-tables-9 : tie.Need-slice-aggregate-list-tables-9
+slice-aggregate-list-tables-9 c = sym (length-take-le _ _ (within (c .before .before .before .before .before .before .before .before .before .before .before .before .before .before .before .before .before) letterQ))
+
+mul-u : tie.Need-mul-u
+mul-u c = omega (arith, small (c .before .before .before .before .before .before .before .before .before .before .before .before .before .before .before .before .before .before) letterU)
+
+array-share-prefix-u : tie.Need-array-share-prefix-u
+array-share-prefix-u c = within (c .before .before .before .before .before .before .before .before .before .before .before .before .before .before .before .before .before .before) letterU
+
+slice-aggregate-list-tables-10 : tie.Need-slice-aggregate-list-tables-10
+slice-aggregate-list-tables-10 c = sym (length-take-le _ _ (within (c .before .before .before .before .before .before .before .before .before .before .before .before .before .before .before .before .before .before .before) letterU))
+
+mul-e : tie.Need-mul-e
+mul-e c = omega (arith, small (c .before .before .before .before .before .before .before .before .before .before .before .before .before .before .before .before .before .before .before .before) letterE)
+
+array-share-prefix-e : tie.Need-array-share-prefix-e
+array-share-prefix-e c = within (c .before .before .before .before .before .before .before .before .before .before .before .before .before .before .before .before .before .before .before .before) letterE
+
+slice-aggregate-list-tables-11 : tie.Need-slice-aggregate-list-tables-11
+slice-aggregate-list-tables-11 c = sym (length-take-le _ _ (within (c .before .before .before .before .before .before .before .before .before .before .before .before .before .before .before .before .before .before .before .before .before) letterE))
+
+mul-r : tie.Need-mul-r
+mul-r c = omega (arith, small (c .before .before .before .before .before .before .before .before .before .before .before .before .before .before .before .before .before .before .before .before .before .before) letterR)
+
+array-share-prefix-r : tie.Need-array-share-prefix-r
+array-share-prefix-r c = within (c .before .before .before .before .before .before .before .before .before .before .before .before .before .before .before .before .before .before .before .before .before .before) letterR
+
+slice-aggregate-list-tables-12 : tie.Need-slice-aggregate-list-tables-12
+slice-aggregate-list-tables-12 c = sym (length-take-le _ _ (within (c .before .before .before .before .before .before .before .before .before .before .before .before .before .before .before .before .before .before .before .before .before .before .before) letterR))
+
+list-tables-requires : tie.Need-list-tables-requires
+list-tables-requires c κs = let d = c .before .before .before .before .before .before .before .before .before .before .before .before .before .before .before .before .before .before .before .before .before .before .before .before .before .before .before .before .before .before .before .before .before .before .before .before .before .before .before .before .before .before .before .before .before .before .before .before .before .before .before .before .before .clear-bytes in d .ensures ∙ ap zeros (sym (d .kept .0))
+
+same-length : tie.Need-same-length
+same-length c = c .before .before .tell .kept .1 .0 ∙ c .before .before .before .before .before .before .before .before .before .before .before .before .before .before .before .before .before .before .before .before .before .before .before .before .before .before .before .before .before .before .before .before .before .before .clear-bytes .kept .0
+
+returns : tie.Need-returns
+returns c =
+    let r = c .before .before .before .before .before .before .before .before .before .before .before .before .before .before .before .before .before .before .before .read-sheet in
+    let t = c .before .before .tell in
+    text-into _ _ _ _ (t .result) (t .last .1 .0) (c .before .before .before .before .before .before .before .before .before .before .before .before .before .before .before .before .before .before .before .before .before .before .before .before .before .before .before .before .before .before .before .before .before .before .clear-bytes .kept .0) (text-refused _ (r .result) _ (r .ensures) _ _ (c .before .before .before .before .before .reason .given .1)) (t .ensures)
+
+same-length-2 : tie.Need-same-length-2
+same-length-2 c = c .before .before .list-tables .kept .1 .1 .1 .1 .1 .1 .1 .1 .1 .1 .1 .1 .0 ∙ c .before .before .before .before .before .before .before .before .before .before .before .before .before .before .before .before .before .before .before .before .before .before .before .before .before .before .before .before .before .before .before .before .before .before .before .before .before .before .before .before .before .before .before .before .before .before .before .before .before .before .before .before .before .before .before .before .clear-bytes .kept .0
+
+returns-2 : tie.Need-returns-2
+returns-2 c =
+    let t = c .before .before .list-tables in
+    text-into _ _ _ _ (t .result) (t .last .1 .1 .1 .1 .1 .1 .1 .1 .1 .1 .1 .1 .0) (c .before .before .before .before .before .before .before .before .before .before .before .before .before .before .before .before .before .before .before .before .before .before .before .before .before .before .before .before .before .before .before .before .before .before .before .before .before .before .before .before .before .before .before .before .before .before .before .before .before .before .before .before .before .before .before .before .clear-bytes .kept .0) (text-of (c .before .before .before .before .before .before .before .before .before .before .before .before .before .before .before .before .before .before .before .before .before .before .before .before .before .before .before) _) (t .ensures)
+
+pub list-sheet-spec : {M : Type 1} → statement M
+list-sheet-spec =
+    tie.close
+    (tie.spec
+    clear-bytes-requires
+    slice-aggregate-read-sheet
+    slice-aggregate-read-sheet-2
+    slice-aggregate-read-sheet-3
+    slice-aggregate-read-sheet-4
+    slice-aggregate-read-sheet-5
+    slice-aggregate-read-sheet-6
+    slice-aggregate-read-sheet-7
+    slice-aggregate-read-sheet-8
+    slice-aggregate-read-sheet-9
+    slice-aggregate-read-sheet-10
+    slice-aggregate-read-sheet-11
+    slice-aggregate-read-sheet-12
+    read-sheet-requires
+    enum-known-reason
+    tell-requires
+    enum-known-k
+    array-share-prefix-bytes
+    slice-aggregate-list-tables
+    mul-n
+    array-share-prefix-n
+    slice-aggregate-list-tables-2
+    mul-c
+    array-share-prefix-c
+    slice-aggregate-list-tables-3
+    mul-f
+    array-share-prefix-f
+    slice-aggregate-list-tables-4
+    mul-x
+    array-share-prefix-x
+    slice-aggregate-list-tables-5
+    array-share-prefix-p
+    slice-aggregate-list-tables-6
+    mul-i
+    array-share-prefix-i
+    slice-aggregate-list-tables-7
+    mul-t
+    array-share-prefix-t
+    slice-aggregate-list-tables-8
+    mul-q
+    array-share-prefix-q
+    slice-aggregate-list-tables-9
+    mul-u
+    array-share-prefix-u
+    slice-aggregate-list-tables-10
+    mul-e
+    array-share-prefix-e
+    slice-aggregate-list-tables-11
+    mul-r
+    array-share-prefix-r
+    slice-aggregate-list-tables-12
+    list-tables-requires
+    same-length
+    returns
+    same-length-2
+    returns-2)
