@@ -11,6 +11,10 @@ use Rattle.feature_group.specs.declared.Expanded.{Expanded}
 use Rattle.feature_group.specs.declared.Expanded.the-variants.{Features, Refused as ExpandRefused}
 use Rattle.instance.specs.declared.Listed.{Listed}
 use Rattle.instance.specs.declared.Listed.the-variants.{Rows as TracedRows, Refused as TracedRefused}
+use Rattle.group_list.specs.declared.GroupListed.{GroupListed}
+use Rattle.group_list.specs.declared.GroupListed.the-variants.{Rows as GroupRows, Refused as GroupRefused}
+use Rattle.listing.specs.declared.Both.{Both}
+use Rattle.listing.specs.declared.Both.the-variants.{Rows as BothRows, Refused as BothRefused}
 
 -- a refusal: its number, which is never 0, its place, and its letter
 abbrev pub refusalNumbers : Refusal → List ℕ
@@ -35,3 +39,12 @@ expandedNumbers (ExpandRefused r) = refusalNumbers r
 abbrev pub tracedNumbers : Listed → List ℕ
 tracedNumbers (TracedRows k d) = 0 ∷ k ∷ d ∷ []
 tracedNumbers (TracedRefused r) = refusalNumbers r
+
+abbrev pub groupNumbers : GroupListed → List ℕ
+groupNumbers (GroupRows k d) = 0 ∷ k ∷ d ∷ []
+groupNumbers (GroupRefused r) = refusalNumbers r
+
+-- the same of both listings
+abbrev pub bothNumbers : Both → List ℕ
+bothNumbers (BothRows k d l g) = 0 ∷ k ∷ d ∷ l ∷ g ∷ []
+bothNumbers (BothRefused r) = refusalNumbers r ++ zeros 2

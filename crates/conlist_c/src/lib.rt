@@ -1,5 +1,8 @@
 // The library for Rust and C. Each slice crosses as two arguments, a pointer and a count; an answer is told in numbers.
+mod both;
 mod check;
 mod expand;
+mod group;
 mod read;
+mod text;
 mod traced;

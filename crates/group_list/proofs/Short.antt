@@ -15,9 +15,9 @@ use Rattle.as5506.specs.Resolve.{Resolved, componentType, componentImpl, groupT
 use Rattle.as5506.specs.Groups.{Feature, Expansion, depthLimit, expandFeatureGroup, expand}
 use Rattle.as5506.specs.GroupList.{isGroupFeature, typeOf, declaredGroup, askingPackage, classifierBy, declaredBy, typedBy, endpointBy, endpoint, isGroupConnection, endComponent, GroupConnection, groupConnection, groupConnections, partner, Match, matchesBy, matches}
 use Rattle.as5506.specs.Refusals.{accepted}
-use Rattle.as5506.proofs.Laws.{All, all-of, all-map, all-each, all-keep, all-mapped, and-left, and-right}
+use Rattle.as5506.proofs.Laws.{All, all-of, all-each, all-keep, all-mapped, and-left, and-right}
 use Rattle.links.specs.Links.{Linked, linkOf}
-use Rattle.links.specs.Walk.{groupsIn, visitLink}
+use Rattle.links.specs.Walk.{groupsIn}
 use Rattle.links.proofs.Range.{expansion-short}
 use Rattle.links.proofs.Walk.{linked}
 use Rattle.tables.proofs.Facts.{facts}

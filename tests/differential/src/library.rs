@@ -210,3 +210,91 @@ pub fn list_connections(tables: &Tables, outputs: Outputs) -> [u64; 5] {
     };
     told
 }
+
+unsafe extern "C" {
+    fn conlist_list_sheet(
+        sheet: *const u8,
+        sheet_length: usize,
+        text: *mut u8,
+        text_length: usize,
+    ) -> usize;
+}
+
+/// How many bytes of text there are.
+pub fn list_sheet(sheet: &[u8], text: &mut [u8]) -> usize {
+    // SAFETY: as above.
+    unsafe { conlist_list_sheet(sheet.as_ptr(), sheet.len(), text.as_mut_ptr(), text.len()) }
+}
+
+unsafe extern "C" {
+    fn conlist_read_sheet(
+        sheet: *const u8,
+        sheet_length: usize,
+        bytes: *mut u8,
+        bytes_length: usize,
+        n: *mut u32,
+        n_length: usize,
+        c: *mut u32,
+        c_length: usize,
+        f: *mut u32,
+        f_length: usize,
+        x: *mut u32,
+        x_length: usize,
+        p: *mut u32,
+        p_length: usize,
+        i: *mut u32,
+        i_length: usize,
+        t: *mut u32,
+        t_length: usize,
+        q: *mut u32,
+        q_length: usize,
+        u: *mut u32,
+        u_length: usize,
+        e: *mut u32,
+        e_length: usize,
+        r: *mut u32,
+        r_length: usize,
+        told: *mut u64,
+    );
+}
+
+/// 0, the bytes of names and the rows of each letter, or a refusal's number, place and letter and zeros. `letters` has a table
+/// for each letter in the order of the letters.
+pub fn read_sheet(sheet: &[u8], bytes: &mut [u8], letters: Vec<&mut [u32]>) -> [u64; 13] {
+    let mut told = [u64::MAX; 13];
+    let [n, c, f, x, p, i, t, q, u, e, r]: [&mut [u32]; 11] =
+        letters.try_into().expect("a table for each letter");
+    // SAFETY: as above.
+    unsafe {
+        conlist_read_sheet(
+            sheet.as_ptr(),
+            sheet.len(),
+            bytes.as_mut_ptr(),
+            bytes.len(),
+            n.as_mut_ptr(),
+            n.len(),
+            c.as_mut_ptr(),
+            c.len(),
+            f.as_mut_ptr(),
+            f.len(),
+            x.as_mut_ptr(),
+            x.len(),
+            p.as_mut_ptr(),
+            p.len(),
+            i.as_mut_ptr(),
+            i.len(),
+            t.as_mut_ptr(),
+            t.len(),
+            q.as_mut_ptr(),
+            q.len(),
+            u.as_mut_ptr(),
+            u.len(),
+            e.as_mut_ptr(),
+            e.len(),
+            r.as_mut_ptr(),
+            r.len(),
+            told.as_mut_ptr(),
+        );
+    }
+    told
+}

@@ -1,19 +1,26 @@
 //! `differential [COUNT] [FIRST]`: compares the proved library with the original on the stored vectors and on COUNT generated
-//! models.
+//! models, and holds it to refusals on tables that are spoilt.
+//! `differential --stream`: holds it to the texts of a stream of cases on standard input.
 //!
-//! Each model is handed over as tables, with outputs that are exactly full, one number too short, a little too long and far too
-//! long, full of rubbish before the call and with guards around them.
+//! Each model is handed over as a sheet and as tables, with outputs that are exactly full, one number too short, a little too long
+//! and far too long, full of rubbish before the call and with guards around them.
 
+mod damaged;
 mod expansion;
+mod group;
 mod lent;
 mod library;
 mod tables;
+mod text;
 mod traced;
+mod unaccepted;
 
+use std::io::Read;
 use std::path::Path;
 use std::process::ExitCode;
 
 use generate::{Sort, case};
+use oracle::Options;
 use oracle::model::Renames;
 use oracle::sheet::Sheet;
 use oracle::stream::{self, Case};
@@ -51,6 +58,9 @@ struct Met {
     differing: usize,
     traced: traced::Met,
     expansion: expansion::Met,
+    group: group::Met,
+    text: text::Met,
+    unaccepted: unaccepted::Met,
 }
 
 impl Met {
@@ -62,7 +72,18 @@ impl Met {
         };
         self.models += 1;
         let found = traced::compare(&sheet, &mut self.traced)
-            .and_then(|()| expansion::compare(&sheet, renames, &mut self.expansion));
+            .and_then(|()| expansion::compare(&sheet, renames, &mut self.expansion))
+            .and_then(|()| group::compare(&sheet, renames, &mut self.group))
+            .and_then(|()| {
+                let options = Options {
+                    renames,
+                    unlimited: false,
+                };
+                let expected =
+                    oracle::conlist(&case.sheet, options).map_err(|why| format!("{why:?}"))?;
+                text::compare(&case.sheet, expected.as_bytes(), &mut self.text)
+            })
+            .and_then(|()| unaccepted::compare(&sheet, self.models, &mut self.unaccepted));
         if let Err(what) = found {
             println!("DIFFERS {}: {what}", case.label);
             self.differing += 1;
@@ -71,6 +92,7 @@ impl Met {
 
     fn print(&self) {
         let (traced, expansion) = (&self.traced, &self.expansion);
+        let (group, text) = (&self.group, &self.text);
         println!("{} models, {} differ", self.models, self.differing);
         println!(
             "traced listing: {} rows, {} diagnostics; {} calls, {} refused 11, {} refused 12, {} models without end for the original",
@@ -89,6 +111,18 @@ impl Met {
             expansion.refused_11,
             expansion.refused_13,
         );
+        println!(
+            "group listing: {} rows, {} diagnostics; {} calls, refused 11, 12, 13, 14: {:?}; {} models that the original is too long at",
+            group.rows, group.diagnostics, group.calls, group.refused, group.slow,
+        );
+        println!(
+            "conlist: {} sheets, {} of them refused, {} bytes of text; {} calls",
+            text.sheets, text.refused, text.bytes, text.calls,
+        );
+        println!(
+            "tables not accepted: {}, refused 10: {}; {} calls",
+            self.unaccepted.tables, self.unaccepted.refused[4], self.unaccepted.calls,
+        );
     }
 
     /// Nothing differs, and nothing was left out.
@@ -100,10 +134,40 @@ impl Met {
             && traced.endless > 0
             && expansion.features > 0
             && expansion.refused_13 > 0
+            && self.group.rows > 0
+            && self.group.refused.iter().all(|&calls| calls > 0)
+            && self.text.refused > 0
+    }
+}
+
+/// The cases on standard input.
+fn known_texts() -> ExitCode {
+    let mut bytes = Vec::new();
+    std::io::stdin().read_to_end(&mut bytes).expect("a stream");
+    let mut met = damaged::Met::default();
+    let (mut cases, mut differing) = (0, 0);
+    for case in stream::read(&bytes).expect("a stream") {
+        cases += 1;
+        if let Err(what) = damaged::compare(&case, &mut met) {
+            println!("DIFFERS {}: {what}", case.label);
+            differing += 1;
+        }
+    }
+    println!(
+        "{cases} sheets with known texts, {differing} differ; refused 1 to 5: {:?}, refused 6 to 10: {:?}, {} read and accepted; {} calls for text, {} on tables",
+        met.refused, met.unaccepted.refused, met.read, met.text.calls, met.unaccepted.calls,
+    );
+    if differing == 0 && cases > 0 {
+        ExitCode::SUCCESS
+    } else {
+        ExitCode::FAILURE
     }
 }
 
 fn main() -> ExitCode {
+    if std::env::args().skip(1).eq(["--stream"]) {
+        return known_texts();
+    }
     let numbers: Option<Vec<u64>> = std::env::args()
         .skip(1)
         .map(|word| word.parse().ok())
@@ -113,7 +177,7 @@ fn main() -> ExitCode {
         Some([count]) => (*count, 1),
         Some([count, first]) => (*count, *first),
         _ => {
-            eprintln!("usage: differential [COUNT] [FIRST]");
+            eprintln!("usage: differential [COUNT] [FIRST], or differential --stream < CASES");
             return ExitCode::from(2);
         }
     };

@@ -1,0 +1,67 @@
+// Both listings.
+ghost use mathlib.Core.Path.{_≡_};
+ghost use Rattle.as5506.specs.Tables.{tablesOf};
+ghost use Rattle.listing.specs.Answer.{listed, outputs, answerFor, ListedInto};
+ghost use Rattle.conlist_c.specs.Numbers.{bothNumbers};
+use listing::Both;
+
+// Lists as `list_connections` does. `told` then holds 0, the traced rows and diagnostics and the group rows and diagnostics that were written, or a
+// refusal's number, place and letter and two zeros.
+#[no_mangle]
+pub extern "C" fn conlist_list_connections(
+    bytes: &[u8],
+    n: &[u32],
+    c: &[u32],
+    f: &[u32],
+    x: &[u32],
+    p: &[u32],
+    i: &[u32],
+    t: &[u32],
+    q: &[u32],
+    u: &[u32],
+    e: &[u32],
+    r: &[u32],
+    rows: &mut [u32],
+    diagnostics: &mut [u32],
+    group_rows: &mut [u32],
+    names: &mut [u8],
+    group_diagnostics: &mut [u32],
+    told: &mut [u64; 5],
+)
+    ensures { λ _. ⌜ now (told .exit) ≡ bothNumbers (listed (answerFor (tablesOf (now (bytes .entry)) (now (n .entry)) (now (c .entry)) (now (f .entry)) (now (x .entry)) (now (p .entry)) (now (i .entry)) (now (t .entry)) (now (q .entry)) (now (u .entry)) (now (e .entry)) (now (r .entry))) (outputs (now (rows .entry)) (now (diagnostics .entry)) (now («group_rows» .entry)) (now (names .entry)) (now («group_diagnostics» .entry))))) ⌝ }
+    ensures { λ _. ⌜ ListedInto (tablesOf (now (bytes .entry)) (now (n .entry)) (now (c .entry)) (now (f .entry)) (now (x .entry)) (now (p .entry)) (now (i .entry)) (now (t .entry)) (now (q .entry)) (now (u .entry)) (now (e .entry)) (now (r .entry))) (outputs (now (rows .entry)) (now (diagnostics .entry)) (now («group_rows» .entry)) (now (names .entry)) (now («group_diagnostics» .entry))) (listed (answerFor (tablesOf (now (bytes .entry)) (now (n .entry)) (now (c .entry)) (now (f .entry)) (now (x .entry)) (now (p .entry)) (now (i .entry)) (now (t .entry)) (now (q .entry)) (now (u .entry)) (now (e .entry)) (now (r .entry))) (outputs (now (rows .entry)) (now (diagnostics .entry)) (now («group_rows» .entry)) (now (names .entry)) (now («group_diagnostics» .entry))))) (outputs (now (rows .exit)) (now (diagnostics .exit)) (now («group_rows» .exit)) (now (names .exit)) (now («group_diagnostics» .exit))) ⌝ }
+{
+    let answer = listing::list_connections(
+        bytes,
+        n,
+        c,
+        f,
+        x,
+        p,
+        i,
+        t,
+        q,
+        u,
+        e,
+        r,
+        rows,
+        diagnostics,
+        group_rows,
+        names,
+        group_diagnostics,
+    );
+    match answer {
+        Both::Rows(k, d, l, g) => {
+            *told = [0, k as u64, d as u64, l as u64, g as u64];
+        }
+        Both::Refused(reason) => {
+            *told = [
+                reason.number as u64,
+                reason.place as u64,
+                reason.letter as u64,
+                0,
+                0,
+            ];
+        }
+    }
+}

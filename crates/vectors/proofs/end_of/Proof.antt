@@ -1,0 +1,18 @@
+-- `vectors::end_of`: a length that is no longer than the slice. Assumes nothing.
+use mathlib.Core.Path.{sym}
+use native.Mathlib.Omega.{arith}
+use borrow.Author.Needs.{needs}
+use lib.Seq.{length-take-le}
+use Rattle.vectors.proofs.end_of.Statement.{statement}
+use Rattle.vectors.proofs.end_of.Tie as tie
+
+returns : tie.Need-returns
+returns c =
+    let a = c .before .args in
+    (search needs, sym (length-take-le (a .n) (a .t .now) (omega arith)))
+
+returns-2 : tie.Need-returns-2
+returns-2 c = (search needs, sym (length-take-le _ (c .before .args .t .now) (search needs)))
+
+pub end-of-spec : {M : Type 1} → statement M
+end-of-spec = tie.close (tie.spec returns returns-2)

@@ -1,0 +1,150 @@
+//! Tables that are not accepted: the checks and every listing give the same refusal, leave zeros in their outputs and their
+//! inputs as they were.
+
+use oracle::sheet::{LETTERS, Sheet};
+
+use crate::lent::Lent;
+use crate::library::{self, Outputs};
+use crate::tables::Tables;
+use crate::{DIAGNOSTIC_NUMBERS, ROW_NUMBERS};
+
+const WIDTHS: [usize; 11] = [2, 6, 3, 7, 1, 2, 3, 4, 9, 8, 5];
+const ROWS: usize = 4096;
+
+/// How often what was met, over all sheets.
+#[derive(Default)]
+pub struct Met {
+    pub tables: usize,
+    pub calls: usize,
+    /// Tables by their refusal, 6 to 10.
+    pub refused: [usize; 5],
+}
+
+/// A refusal's number, place and letter.
+pub type Refusal = [u64; 3];
+
+/// Tables of a model that are spoilt at one place or two, by `seed`, with the refusal that they earn: 10 in its three ways.
+pub fn compare(sheet: &Sheet, seed: usize, met: &mut Met) -> Result<(), String> {
+    let tables = Tables::of(sheet);
+    let rank = seed % 11;
+    let later = (rank + seed % 3).min(10);
+
+    // a table of no whole number of rows, and perhaps a later one as well
+    let mut broken = tables.clone();
+    spoil(&mut broken.letters[later], WIDTHS[later]);
+    spoil(&mut broken.letters[rank], WIDTHS[rank]);
+    if let Some(first) = (0..11).find(|&k| broken.letters[k].len() % WIDTHS[k] != 0) {
+        refused(&broken, [10, 0, LETTERS[first].into()], met)?;
+    }
+
+    // too many rows, of P names at every other letter too; a broken row elsewhere comes first
+    let mut long = tables.clone();
+    long.letters[rank].resize((ROWS + 1 + seed % 5) * WIDTHS[rank], 0);
+    refused(&long, [10, ROWS as u64, LETTERS[rank].into()], met)?;
+    if rank > 0 {
+        long.letters[0].push(0);
+        refused(&long, [10, 0, LETTERS[0].into()], met)?;
+    }
+
+    // a name past the byte table, of no byte, of more than 63, or of a byte that no name has
+    let names = tables.letters[0].len() / 2;
+    if names > 0 {
+        let row = seed % names;
+        let mut named = tables.clone();
+        let (offset, length) = (named.letters[0][row * 2], named.letters[0][row * 2 + 1]);
+        match seed % 5 {
+            0 => named.letters[0][row * 2] = named.bytes.len() as u32 - length + 1,
+            1 => named.letters[0][row * 2 + 1] = 0,
+            2 => named.letters[0][row * 2] = u32::MAX,
+            3 => named.letters[0][row * 2 + 1] = u32::MAX,
+            _ => named.bytes[offset as usize] = 0x7F,
+        }
+        refused(&named, [10, row as u64, b'N'.into()], met)?;
+    }
+    Ok(())
+}
+
+fn spoil(table: &mut Vec<u32>, width: usize) {
+    if width > 1 {
+        table.push(0);
+    }
+}
+
+/// Holds the checks and every call to a refusal.
+pub fn refused(tables: &Tables, refusal: Refusal, met: &mut Met) -> Result<(), String> {
+    met.tables += 1;
+    met.refused[refusal[0] as usize - 6] += 1;
+    met.calls += 5;
+    let before = tables.clone();
+    expect("check_tables", library::check_tables(tables), refusal)?;
+
+    let mut out = Lent::of_length(64 * 14);
+    let told = library::expand_feature_group(tables, out.lend(), 0, 1, false);
+    expect("expand_feature_group", told, refusal)?;
+    out.used(0)?;
+
+    let (mut rows, mut diagnostics) = outputs();
+    let told = library::compute_semantic_connections(tables, rows.lend(), diagnostics.lend());
+    expect("compute_semantic_connections", told, refusal)?;
+    rows.used(0)?;
+    diagnostics.used(0)?;
+
+    let (mut group_rows, mut group_diagnostics) = outputs();
+    let mut names = Lent::<u8>::of_length(4096);
+    let told = library::expand_feature_group_connections(
+        tables,
+        group_rows.lend(),
+        names.lend(),
+        group_diagnostics.lend(),
+    );
+    expect("expand_feature_group_connections", told, refusal)?;
+    group_rows.used(0)?;
+    names.used(0)?;
+    group_diagnostics.used(0)?;
+
+    both(tables, refusal)?;
+    if *tables == before {
+        Ok(())
+    } else {
+        Err("it changed an input".to_string())
+    }
+}
+
+fn outputs() -> (Lent<u32>, Lent<u32>) {
+    (
+        Lent::of_length(64 * ROW_NUMBERS),
+        Lent::of_length(64 * DIAGNOSTIC_NUMBERS),
+    )
+}
+
+fn both(tables: &Tables, refusal: Refusal) -> Result<(), String> {
+    let (mut rows, mut diagnostics) = outputs();
+    let (mut group_rows, mut group_diagnostics) = outputs();
+    let mut names = Lent::<u8>::of_length(4096);
+    let [number, place, letter, left, over] = library::list_connections(
+        tables,
+        Outputs {
+            rows: rows.lend(),
+            diagnostics: diagnostics.lend(),
+            group_rows: group_rows.lend(),
+            names: names.lend(),
+            group_diagnostics: group_diagnostics.lend(),
+        },
+    );
+    expect("list_connections", [number, place, letter], refusal)?;
+    if [left, over] != [0, 0] {
+        return Err("list_connections told more than a refusal".to_string());
+    }
+    for output in [rows, diagnostics, group_rows, group_diagnostics] {
+        output.used(0)?;
+    }
+    names.used(0).map(|_| ())
+}
+
+fn expect(call: &str, told: Refusal, refusal: Refusal) -> Result<(), String> {
+    if told == refusal {
+        Ok(())
+    } else {
+        Err(format!("{call} told {told:?} where {refusal:?} is due"))
+    }
+}
