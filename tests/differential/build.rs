@@ -2,7 +2,7 @@
 
 use std::path::Path;
 
-const ARCHIVES: &[&str] = &["conlist_c"];
+const ARCHIVES: &[&str] = &["conlist_c", "diagnostics"];
 
 fn main() {
     let folder = Path::new(env!("CARGO_MANIFEST_DIR")).join("../../target/staticlib");

@@ -6,7 +6,7 @@ use oracle::sheet::Sheet;
 use oracle::{MOST_VISITS, endpoint, group, traced};
 
 use crate::lent::Lent;
-use crate::library;
+use crate::library::{self, Diagnostic};
 use crate::tables::Tables;
 use crate::{DIAGNOSTIC_NUMBERS, ROW_NUMBERS};
 
@@ -196,7 +196,26 @@ fn listed(
     if called.diagnostics.used(numbers.len())? != numbers {
         return Err("the diagnostics differ".to_string());
     }
+    records(called.diagnostics.contents()?, expected)?;
     Ok(())
+}
+
+/// The diagnostics of an output as records: two more than there are, so that records of zeros stand behind.
+fn records(numbers: &[u32], expected: &Listing) -> Result<(), String> {
+    let record = |[code, connection, first, second]: [u32; 4]| Diagnostic {
+        code,
+        connection,
+        first,
+        second,
+    };
+    let mut out = vec![record([7; 4]); expected.diagnostics.len() + 2];
+    library::fill_diagnostics(&mut out, numbers);
+    let own = expected.diagnostics.iter().map(|own| record(own.numbers));
+    if out.into_iter().eq(own.chain([record([0; 4]); 2])) {
+        Ok(())
+    } else {
+        Err("the records of diagnostics differ".to_string())
+    }
 }
 
 /// The rows of an output, with their composed names.

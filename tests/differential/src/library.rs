@@ -298,3 +298,28 @@ pub fn read_sheet(sheet: &[u8], bytes: &mut [u8], letters: Vec<&mut [u32]>) -> [
     }
     told
 }
+
+/// A diagnostic as a record.
+#[repr(C)]
+#[derive(Clone, Copy, Debug, PartialEq, Eq)]
+pub struct Diagnostic {
+    pub code: u32,
+    pub connection: u32,
+    pub first: u32,
+    pub second: u32,
+}
+
+unsafe extern "C" {
+    fn diagnostics_fill(
+        out: *mut Diagnostic,
+        out_length: usize,
+        numbers: *const u32,
+        numbers_length: usize,
+    );
+}
+
+/// Fills records from a listing's output of diagnostics.
+pub fn fill_diagnostics(out: &mut [Diagnostic], numbers: &[u32]) {
+    // SAFETY: as above.
+    unsafe { diagnostics_fill(out.as_mut_ptr(), out.len(), numbers.as_ptr(), numbers.len()) }
+}
