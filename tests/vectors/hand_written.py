@@ -296,6 +296,36 @@ def group_features(lengths, connection="c"):
     return sheet
 
 
+def rows_then_over_the_visits(rows):
+    """So many group rows of the first connection; the second connection's ends have 265,720 visits each."""
+    sheet = group_features([3] * rows)
+    sheet.feature("h", 0)
+    sheet.connection("d", 0, 2, None, "h", None, "h")
+    sheet.declared(0, 0, "h", 8, None, (None, "w", None))
+    group = sheet.group_type(0, "w")
+    for number in range(3):
+        sheet.declared(1, group, "n%d" % number, 8, None, (None, "w", None))
+    return sheet
+
+
+def rows_and_diagnostics(matched, unmatched):
+    """So many features of the source have a partner, so many have none; the connection stands five times."""
+    sheet = one_group((None, "u", None))
+    sheet.rows["X"] = []
+    sheet.feature("h", 0)
+    for _ in range(5):
+        sheet.connection("c", 0, 2, None, "g", None, "h")
+    sheet.declared(0, 0, "h", 8, None, (None, "v", None))
+    source = sheet.group_type(0, "u")
+    destination = sheet.group_type(0, "v")
+    for number in range(unmatched):
+        sheet.declared(1, source, "f%d" % number)
+    for number in range(matched):
+        sheet.declared(1, source, "m%d" % number)
+        sheet.declared(1, destination, "m%d" % number)
+    return sheet
+
+
 def composed_bytes(rows, feature_bytes):
     """So many rows: connection "ccc" and group "g" take 8 bytes of each, the feature's name three times the rest."""
     lengths = [feature_bytes // rows + (1 if row < feature_bytes % rows else 0) for row in range(rows)]
@@ -370,6 +400,10 @@ ACCEPTED = {
     "65,537 visits, most past the depth": visits(6, (9, 20, 11, 8, 3), 1),
     "64 group rows": group_features([3] * 64),
     "65 group rows": group_features([3] * 65),
+    "65 group rows, then an end over the visits": rows_then_over_the_visits(65),
+    "65 group rows and 65 group diagnostics": rows_and_diagnostics(13, 13),
+    "60 group rows and 65 group diagnostics": rows_and_diagnostics(12, 13),
+    "65 group rows and 60 group diagnostics": rows_and_diagnostics(13, 12),
     "4,096 composed bytes": composed_bytes(32, 1280),
     "4,097 composed bytes": composed_bytes(31, 1283),
     "64 group diagnostics, too long a text": unmatched_features(64),
