@@ -51,6 +51,21 @@ fn stored() -> Vec<(Case, Renames)> {
         .collect()
 }
 
+/// The sheets of docs/DIFFERENCES.md with the text that is ours.
+fn differences() -> Vec<Case> {
+    let folder = Path::new(env!("CARGO_MANIFEST_DIR")).join("../vectors/differences");
+    let files = std::fs::read_dir(folder).expect("the differences");
+    let sheets = files.map(|file| file.expect("a file").path());
+    sheets
+        .filter(|path| path.extension().is_some_and(|kind| kind == "sheet"))
+        .map(|path| Case {
+            label: path.display().to_string(),
+            sheet: std::fs::read(&path).expect("a sheet"),
+            text: std::fs::read(path.with_extension("ours")).expect("our text"),
+        })
+        .collect()
+}
+
 /// What was met on all models.
 #[derive(Default)]
 struct Met {
@@ -186,7 +201,15 @@ fn main() -> ExitCode {
     for (case, renames) in stored().into_iter().chain(generated) {
         met.compare(&case, renames);
     }
+    let mut told = damaged::Met::default();
+    for case in differences() {
+        if let Err(what) = damaged::compare(&case, &mut told) {
+            println!("DIFFERS {}: {what}", case.label);
+            met.differing += 1;
+        }
+    }
     met.print();
+    println!("differences: {} sheets", told.text.sheets);
     if met.passes() {
         ExitCode::SUCCESS
     } else {
