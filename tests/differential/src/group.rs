@@ -6,7 +6,8 @@ use oracle::sheet::Sheet;
 use oracle::{MOST_VISITS, endpoint, group, traced};
 
 use crate::lent::Lent;
-use crate::library::{self, Diagnostic};
+use crate::library;
+use crate::listed;
 use crate::tables::Tables;
 use crate::{DIAGNOSTIC_NUMBERS, ROW_NUMBERS};
 
@@ -175,47 +176,13 @@ fn listed(
 ) -> Result<(), String> {
     met.calls += 1;
     let called = run(tables, lengths)?;
-    let counts = [
-        0,
-        expected.rows.len() as u64,
-        expected.diagnostics.len() as u64,
-    ];
-    if called.told != counts {
-        return Err(format!("{counts:?} expected, it told {:?}", called.told));
-    }
+    listed::counts(called.told, expected)?;
     let rows = called.rows.used(expected.rows.len() * ROW_NUMBERS)?;
     let names = called.names.used(composed_bytes(expected))?;
     if rows_of(rows, names)? != expected.rows {
         return Err("the rows differ".to_string());
     }
-    let numbers: Vec<u32> = expected
-        .diagnostics
-        .iter()
-        .flat_map(|own| own.numbers)
-        .collect();
-    if called.diagnostics.used(numbers.len())? != numbers {
-        return Err("the diagnostics differ".to_string());
-    }
-    records(called.diagnostics.contents()?, expected)?;
-    Ok(())
-}
-
-/// The diagnostics of an output as records: two more than there are, so that records of zeros stand behind.
-fn records(numbers: &[u32], expected: &Listing) -> Result<(), String> {
-    let record = |[code, connection, first, second]: [u32; 4]| Diagnostic {
-        code,
-        connection,
-        first,
-        second,
-    };
-    let mut out = vec![record([7; 4]); expected.diagnostics.len() + 2];
-    library::fill_diagnostics(&mut out, numbers);
-    let own = expected.diagnostics.iter().map(|own| record(own.numbers));
-    if out.into_iter().eq(own.chain([record([0; 4]); 2])) {
-        Ok(())
-    } else {
-        Err("the records of diagnostics differ".to_string())
-    }
+    listed::diagnostics(&called.diagnostics, expected)
 }
 
 /// The rows of an output, with their composed names.

@@ -10,6 +10,7 @@ mod expansion;
 mod group;
 mod lent;
 mod library;
+mod listed;
 mod tables;
 mod text;
 mod traced;

@@ -6,6 +6,7 @@ use oracle::{model, traced};
 
 use crate::lent::Lent;
 use crate::library;
+use crate::listed;
 use crate::tables::Tables;
 use crate::{DIAGNOSTIC_NUMBERS, MOST_ROWS, ROW_NUMBERS};
 
@@ -58,25 +59,20 @@ pub fn compare(sheet: &Sheet, met: &mut Met) -> Result<(), String> {
     Ok(())
 }
 
-/// A call into outputs of these lengths: what it tells, and what it leaves in them.
+/// A call into outputs of these lengths: what it tells, and the outputs afterwards.
 fn run(
     tables: &Tables,
     rows: usize,
     diagnostics: usize,
-) -> Result<([u64; 3], Vec<u32>, Vec<u32>), String> {
+) -> Result<([u64; 3], Lent<u32>, Lent<u32>), String> {
     let before = tables.clone();
-    let (mut row_output, mut diagnostic_output) =
-        (Lent::of_length(rows), Lent::of_length(diagnostics));
-    let told =
-        library::compute_semantic_connections(tables, row_output.lend(), diagnostic_output.lend());
-    if *tables != before {
-        return Err("it changed an input".to_string());
+    let (mut rows, mut diagnostics) = (Lent::of_length(rows), Lent::of_length(diagnostics));
+    let told = library::compute_semantic_connections(tables, rows.lend(), diagnostics.lend());
+    if *tables == before {
+        Ok((told, rows, diagnostics))
+    } else {
+        Err("it changed an input".to_string())
     }
-    let contents = (
-        row_output.contents()?.to_vec(),
-        diagnostic_output.contents()?.to_vec(),
-    );
-    Ok((told, contents.0, contents.1))
 }
 
 fn refused(
@@ -95,10 +91,8 @@ fn refused(
     if told != [number, 0, b'-'.into()] {
         return Err(format!("refusal {number} expected, it told {told:?}"));
     }
-    if rows.iter().chain(&diagnostics).any(|&left| left != 0) {
-        return Err(format!("an output is not zero after refusal {number}"));
-    }
-    Ok(())
+    rows.used(0)?;
+    diagnostics.used(0).map(|_| ())
 }
 
 fn listed(
@@ -111,15 +105,8 @@ fn listed(
 ) -> Result<(), String> {
     met.calls += 1;
     let (told, rows, diagnostics) = run(tables, rows, diagnostics)?;
-    let counts = [
-        0,
-        expected.rows.len() as u64,
-        expected.diagnostics.len() as u64,
-    ];
-    if told != counts {
-        return Err(format!("{counts:?} expected, it told {told:?}"));
-    }
-    let (written, unused) = rows.split_at(expected.rows.len() * ROW_NUMBERS);
+    listed::counts(told, expected)?;
+    let written = rows.used(expected.rows.len() * ROW_NUMBERS)?;
     let given: Result<Vec<Row>, String> = written
         .chunks(ROW_NUMBERS)
         .map(|row| row_of(sheet, row))
@@ -127,23 +114,7 @@ fn listed(
     if given? != expected.rows {
         return Err("the rows differ".to_string());
     }
-    let numbers: Vec<u32> = expected
-        .diagnostics
-        .iter()
-        .flat_map(|own| own.numbers)
-        .collect();
-    let (said, unused_diagnostics) = diagnostics.split_at(numbers.len());
-    if said != numbers {
-        return Err("the diagnostics differ".to_string());
-    }
-    if unused
-        .iter()
-        .chain(unused_diagnostics)
-        .any(|&left| left != 0)
-    {
-        return Err("an unused place is not zero".to_string());
-    }
-    Ok(())
+    listed::diagnostics(&diagnostics, expected)
 }
 
 /// A row of the output, its name numbers as names.
