@@ -1,18 +1,19 @@
--- Laws of lists: `All` over a list, `each`, the first entry, and `total`, the sum of a weight over a list; and of numbers that may be missing.
--- Assumes nothing.
+-- Laws of lists: `All` over a list, `each`, the first entry, `padded`, and `total`, the sum of a weight over a list; of tests, and of numbers that may
+-- be missing. Assumes nothing.
 use mathlib.Core.Bool.{Bool, true, false, not, _&&_}
 use mathlib.Core.Logic.{inl, inr}
 use mathlib.Core.Path.{_≡_, refl, sym, ap, ap₂, _∙_, subst}
 use mathlib.Core.List.{List, [], _∷_, _++_, map, append-assoc}
 use mathlib.Core.Option.{some}
-use Prim.Native.Nat.{ℕ, zero, suc, _+_, _*_, _≤_, _<_}
-use native.Mathlib.Nat.{zero-add, mul-comm, mul-add, add-mul, mul-le-mul-left, mul-le-mul-right, mul-lt-mul-of-pos-right, le-refl, le-trans, zero-mul, mul-zero}
+use Prim.Native.Nat.{ℕ, zero, suc, _+_, _-_, _*_, _≤_, _<_}
+use native.Mathlib.Nat.{zero-add, add-comm, suc-mul, mul-comm, mul-add, add-mul, mul-le-mul-left, mul-le-mul-right, mul-lt-mul-of-pos-right, le-refl, le-trans, zero-mul, mul-zero}
 use native.Mathlib.Decide.{decLe}
 use native.Mathlib.Omega.{arith}
 use borrow.Author.Tests.{eq-eqb, ne-eqb}
 use lib.Dec.{T}
+use lib.ListN.{length, length-append, length-replicate}
 use Rattle.as5506.specs.Followed.{In}
-use Rattle.as5506.specs.Lists.{span, upTo, putIf, keep, when, isNil, firstOf, each, total}
+use Rattle.as5506.specs.Lists.{span, upTo, putIf, keep, when, isNil, firstOf, each, total, zeros, padded}
 use Rattle.as5506.specs.Tables.{missing, present}
 
 module _ {A : Type 0} where
@@ -107,6 +108,17 @@ module _ {A B : Type 0} where
   each-same f g [] t = refl
   each-same f g (x ∷ xs) t = ap₂ _++_ (t .0) (each-same f g xs (t .1))
 
+  -- how many a function gives for all entries
+  pub each-length : (f : A → List B) (xs : List A) → length (each f xs) ≡ total (λ x. length (f x)) xs
+  each-length f [] = refl
+  each-length f (x ∷ xs) = length-append (f x) (each f xs) ∙ ap (λ (n : ℕ). length (f x) + n) (each-length f xs)
+
+  -- as many for each
+  pub even-length : (k : ℕ) (f : A → List B) (xs : List A) → All (λ x. length (f x) ≡ k) xs → length (each f xs) ≡ length xs * k
+  even-length k f [] t = sym (zero-mul k)
+  even-length k f (x ∷ xs) t =
+      length-append (f x) (each f xs) ∙ ap₂ _+_ (t .0) (even-length k f xs (t .1)) ∙ add-comm k (length xs * k) ∙ sym (suc-mul (length xs) k)
+
   pub total-each : (w : B → ℕ) (f : A → List B) (xs : List A) → total w (each f xs) ≡ total (λ x. total w (f x)) xs
   total-each w f [] = refl
   total-each w f (x ∷ xs) = total-append w (f x) (each f xs) ∙ ap (λ (n : ℕ). total w (f x) + n) (total-each w f xs)
@@ -114,6 +126,25 @@ module _ {A B : Type 0} where
   pub total-map : (w : B → ℕ) (f : A → B) (xs : List A) → total w (map f xs) ≡ total (λ x. w (f x)) xs
   total-map w f [] = refl
   total-map w f (x ∷ xs) = ap (λ (n : ℕ). w (f x) + n) (total-map w f xs)
+
+module _ {A B C : Type 0} where
+  pub each-each : (h : B → List C) (g : A → List B) (xs : List A) → each h (each g xs) ≡ each (λ x. each h (g x)) xs
+  each-each h g [] = refl
+  each-each h g (x ∷ xs) = each-append h (g x) (each g xs) ∙ ap (λ (r : List C). each h (g x) ++ r) (each-each h g xs)
+
+  pub each-map : (h : B → List C) (g : A → B) (xs : List A) → each h (map g xs) ≡ each (λ x. h (g x)) xs
+  each-map h g [] = refl
+  each-map h g (x ∷ xs) = ap (λ (r : List C). h (g x) ++ r) (each-map h g xs)
+
+-- ---- zeros, and a list with zeros behind it
+
+pub zeros-length : (l : List ℕ) (n : ℕ) → l ≡ zeros n → length l ≡ n
+zeros-length l n e = ap length e ∙ length-replicate {A = ℕ} n 0
+
+-- a list that fits, with its zeros, is as long as the output
+pub padded-length : (n : ℕ) (l : List ℕ) → length l ≤ n → length (padded n l) ≡ n
+unfolding padded
+padded-length n l h = omega (arith, length-append l (zeros (n - length l)), length-replicate {A = ℕ} (n - length l) 0)
 
 -- ---- the first of a list
 
@@ -201,6 +232,13 @@ and-both false b t u = t
 pub and-false : (b : Bool) → b && false ≡ false
 and-false true = refl
 and-false false = refl
+
+pub false-true : false ≡ true → ⊥
+false-true h = subst T (sym h) tt
+
+-- equal values pass the same tests
+pub not-both : {A : Type 0} (test : A → Bool) (a b : A) → a ≡ b → T (test a) → test b ≡ false → ⊥
+not-both test a b e t f = subst T (ap test e ∙ f) t
 
 pub not-not : (b : Bool) → T (not (not b)) → T b
 not-not true t = tt

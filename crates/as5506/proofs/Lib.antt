@@ -1,11 +1,28 @@
+-- Laws of the definition, its trials, and the theorems that contracts cite.
+--
+--     Laws          lists, tests and numbers that may be missing
+--     Scans         what is left of a scan of rows, and what it keeps
+--     Letters       the orders of letters agree with each other
+--     Answers       answers that are given or refused
+--     Whole         what the limit of steps takes of accepted tables, and demand 3's condition over lists
+--     Accepted      accepted tables have it
+--     Ends          where chains end, and how long their paths are
+--     Limit         tracing with and without a limit of steps
+--     Demand        demand 3 over the definition
+--     Back          rows and diagnostics read back from their outputs
+--     Output        demand 3 of what the traced listing hands back
+--     TrialForms    how a trial is written
+--     Trials        the trials, of reading (TrialsRead), resolving and expanding (TrialsFind), listing and printing (TrialsList), as one table
 pub mod Laws
 pub mod Scans
 pub mod Letters
+pub mod Answers
 pub mod Whole
 pub mod Limit
 pub mod Ends
 pub mod Accepted
 pub mod Demand
+pub mod Back
 pub mod Output
 pub mod TrialForms
 pub mod TrialsRead

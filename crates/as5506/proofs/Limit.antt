@@ -424,10 +424,6 @@ module _ (m : Tables) (ok : Sound m) where
   unfolding rows shown
   shown-mass k = total-map (λ r. weight (r .path)) (shown m) (traced k m)
 
-  -- THE LIMIT, over two limits: the rows as numbers
-  pub limit-traced : (a b : ℕ) → a < b → (traced a m ≡ traced b m) ↔ NoFurther a m
-  limit-traced a b h = ((λ e. mass-tight a b h (ap (total (λ r. weight (r .path))) e)), traced-same m a b (omega arith))
-
   -- THE LIMIT, over two limits: the rows with their names' bytes
   pub limit : (a b : ℕ) → a < b → (rows a m ≡ rows b m) ↔ NoFurther a m
   unfolding rows

@@ -9,17 +9,17 @@ use Prim.Native.String.{String}
 use lib.Dec.{T, eqb, leb, eqb→eq, eqb-refl, T-not}
 use lib.ListN.{length, getD, drop}
 use Rattle.as5506.specs.Lists.{keep, each, firstOf, sameBytes, bytesOf}
-use Rattle.as5506.specs.Tables.{Tables, missing, Letter, letterN, letterC, letterF, letterX, letterP, letterI, letterT, letterQ, letterU, letterE, letterR, table, nameOf, Ref, ref}
+use Rattle.as5506.specs.Tables.{Tables, count, missing, Letter, letterN, letterC, letterF, letterX, letterP, letterI, letterT, letterQ, letterU, letterE, letterR, table, nameOf, Ref, ref}
 use Rattle.as5506.specs.Names.{goodName, folded, baseName, isOneToOne}
 use Rattle.as5506.specs.Answers.{Place, nowhere, line, row, Refusal, refusal, Answer, given, refused}
-use Rattle.as5506.specs.Sheet.{Lent, lentOf, readSheet, tableAfter, bytesAfter, rowsAfter, usedAfter}
+use Rattle.as5506.specs.Sheet.{Lent, lentOf, readSheet, tableAfter, bytesAfter}
 use Rattle.as5506.specs.Refusals.{faults10, faults, accepted}
 use Rattle.as5506.specs.Resolve.{Resolved, componentType, componentImpl, groupType, unresolved, resolve}
 use Rattle.as5506.specs.Groups.{Feature, Expansion, expand}
 use Rattle.as5506.specs.Rows.{Row}
 use Rattle.as5506.specs.Tracing.{foundChildren, rows, unlimited, stepLimit}
 use Rattle.as5506.specs.GroupList.{GroupConnection}
-use Rattle.as5506.specs.Listing.{Room, BothLists, groupOf, expansionWithin, expansionAfter, expandAnswer, tracedAnswer, groupAnswer, bothAnswer}
+use Rattle.as5506.specs.Listing.{Room, BothLists, groupOf, expansionWithin, expandAnswer, tracedAnswer, groupAnswer, bothAnswer}
 use Rattle.as5506.specs.Layout.{roomIn, output, featureNumbers, tracedRowNumbers, tracedDiagNumbers, groupRowNumbers, groupDiagNumbers, expansionNumbers, composedNames, ofTraced, ofGroup}
 use Rattle.as5506.specs.Text.{column}
 use Rattle.as5506.specs.Program.{lent, room, namesLent, textLent, printedOrRefusal, textAfter, conlist}
@@ -151,9 +151,19 @@ abbrev pub refusalOf : {A : Type 0} → Answer A → Option Refusal
 refusalOf (given a) = none
 refusalOf (refused r) = some r
 
--- the lent tables after the reader: rows and bytes in use, then the tables
+-- the lent tables after the reader: bytes and rows in use, of which a refusal has none, then the tables
 abbrev pub counts : Answer Tables → List ℕ
-counts a = usedAfter a ∷ map (λ l. rowsAfter l a) letters
+counts (given m) = length (m .bytes) ∷ map (count m) letters
+counts (refused r) = 0 ∷ map (λ l. 0) letters
+
+-- an expansion's features and visits, of which a refusal has none: "13, count 0, no features"
+abbrev pub featureCount : Answer Expansion → ℕ
+featureCount (given x) = length (x .features)
+featureCount (refused r) = 0
+
+abbrev pub visitCount : Answer Expansion → ℕ
+visitCount (given x) = x .visits
+visitCount (refused r) = 0
 
 abbrev pub lentAfter : Tables → Answer Tables → List (List ℕ)
 lentAfter m a = bytesAfter (lentOf m) a ∷ map (λ l. tableAfter (lentOf m) l a) letters
@@ -253,8 +263,8 @@ Means (resolves ls r) = resolve (model ls) (askedFrom (question ls)) (askedFor (
 Means (expands m g u fs visits) = (featureTexts m (expand m g u) ≡ map bytesOf fs) × (expand m g u .visits ≡ visits)
 Means (stops room x r fs visits) =
     (refusalOf (expansionWithin room x) ≡ r)
-    × (length (expansionAfter (expansionWithin room x) .features) ≡ fs)
-    × (expansionAfter (expansionWithin room x) .visits ≡ visits)
+    × (featureCount (expansionWithin room x) ≡ fs)
+    × (visitCount (expansionWithin room x) ≡ visits)
 Means (expandsInto m g u inverse r out) =
     (refusalOf (expandAnswer (length out / featureNumbers) m g u inverse) ≡ r)
     × (output (length out) expansionNumbers (expandAnswer (length out / featureNumbers) m g u inverse) ≡ out)
@@ -447,7 +457,7 @@ passes (resolves ls r) = sameFound (resolve (model ls) (askedFrom (question ls))
 passes (expands m g u fs visits) = sameLists (featureTexts m (expand m g u)) (map bytesOf fs) && eqb (expand m g u .visits) visits
 passes (stops room x r fs visits) =
     sameRefusal (refusalOf (expansionWithin room x)) r
-    && (eqb (length (expansionAfter (expansionWithin room x) .features)) fs && eqb (expansionAfter (expansionWithin room x) .visits) visits)
+    && (eqb (featureCount (expansionWithin room x)) fs && eqb (visitCount (expansionWithin room x)) visits)
 passes (expandsInto m g u inverse r out) =
     sameRefusal (refusalOf (expandAnswer (length out / featureNumbers) m g u inverse)) r
     && sameBytes (output (length out) expansionNumbers (expandAnswer (length out / featureNumbers) m g u inverse)) out

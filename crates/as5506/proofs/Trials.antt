@@ -8,13 +8,13 @@ use Rattle.as5506.specs.Lists.{each, bytesOf, upTo, padded}
 use Rattle.as5506.specs.Tables.{Tables, missing, rowsNaming, nameIn}
 use Rattle.as5506.specs.Names.{goodName, folded, key, sameFolded, baseName, isOneToOne}
 use Rattle.as5506.specs.Fields.{unspaced, decimalFrom, isDecimal, fieldOf, fieldsFit, fieldNumbers}
-use Rattle.as5506.specs.Sheet.{lineWith, linesOf, letterOf, linesWith, keepsRules, hasPlace, isEarlier, lineFaults, faultsFrom, sheetFaults, placed, rowsRead, tablesRead, readSheet, tableAfter, bytesAfter, rowsAfter, usedAfter}
+use Rattle.as5506.specs.Sheet.{lineWith, linesOf, letterOf, linesWith, keepsRules, hasPlace, isEarlier, lineFaults, faultsFrom, sheetFaults, placed, rowsRead, tablesRead, readSheet, tableAfter, bytesAfter}
 use Rattle.as5506.specs.Refusals.{brokenRows, tooManyRows, badName, faults10, allowsFrom, badRow, faults6, faults7, faults8, clashesFrom, clashes, faults9, faults, accepted}
 use Rattle.as5506.specs.Resolve.{packageNamed, typeNamed, implNamed, groupNamed, renamesNamed, typeHit, inPackageBy, inPackage, inFound, replacedBy, replaced, inNamed, withPackage, fromImports, target, renamesFor, afterRename, afterOwn, withoutPackage, resolveBy, resolve}
 use Rattle.as5506.specs.Groups.{turned, featureBy, featuresWalked, extendedBy, typeBy, foundBy, visitWithin, expandFeatureGroup, expand}
 use Rattle.as5506.specs.Tracing.{isNamed, isElement, orElements, foundChildren, leads, stepsOver, steps, chainsBy, chains, shape, named, oneToOne, pairsBy, pairs, appendNew, rowOf, pairRows, rowsAt, traced, shown, rows, unlimited, diagsBy, diagsAt, tracedDiags}
 use Rattle.as5506.specs.GroupList.{isGroupFeature, typeOf, declaredGroup, classifierBy, declaredBy, typedBy, endpointBy, endpoint, isGroupConnection, endComponentBy, endComponent, groupConnection, groupConnections, overrun, partner, matchesBy, matches, dotted, fullName, connectionKind, matchRow, matchDiag, rowsMatched, diagsMatched}
-use Rattle.as5506.specs.Listing.{expansionWithin, expansionAfter, expandOn, expandAnswer, tracedList, tracedWithin, rowNames, groupWithin, groupListOf, groupOf, tracedOn, tracedAnswer, groupOn, groupAnswer, withGroup, afterTraced, bothAnswer}
+use Rattle.as5506.specs.Listing.{expansionWithin, expandOn, expandAnswer, tracedList, tracedWithin, rowNames, groupWithin, groupListOf, groupOf, tracedOn, tracedAnswer, groupOn, groupAnswer, withGroup, afterTraced, bothAnswer}
 use Rattle.as5506.specs.Layout.{featureBlock, expansionNumbers, tracedBlock, groupBlock, diagBlock, tracedRowNumbers, tracedDiagNumbers, groupRowNumbers, groupDiagNumbers, composedNames}
 use Rattle.as5506.specs.Text.{digitsWithin, digits, column, numberLine, textLine, rowText, message, pathNames, diagText, listText, refusalText, textWithin, printed}
 use Rattle.as5506.specs.Program.{textOrRefusal, printedOrRefusal, ofReading, whatFits, conlistWithin, textAfter, conlist}
@@ -197,7 +197,7 @@ trialTable = starred ++ traps ++ further
 -- ---- THE PROOF
 
 table-passes : T (every trialTable)
-unfolding padded rowsNaming nameIn goodName folded key sameFolded baseName isOneToOne unspaced decimalFrom isDecimal fieldOf fieldsFit fieldNumbers lineWith linesOf letterOf linesWith keepsRules hasPlace isEarlier lineFaults faultsFrom sheetFaults placed rowsRead tablesRead readSheet tableAfter bytesAfter rowsAfter usedAfter brokenRows tooManyRows badName faults10 allowsFrom badRow faults6 faults7 faults8 clashesFrom clashes faults9 faults accepted packageNamed typeNamed implNamed groupNamed renamesNamed typeHit inPackageBy inPackage inFound replacedBy replaced inNamed withPackage fromImports target renamesFor afterRename afterOwn withoutPackage resolveBy resolve turned featureBy featuresWalked extendedBy typeBy foundBy visitWithin expandFeatureGroup expand expansionWithin expansionAfter expandOn expandAnswer featureBlock expansionNumbers isNamed isElement orElements foundChildren leads stepsOver steps chainsBy chains shape named oneToOne pairsBy pairs appendNew rowOf pairRows rowsAt traced shown rows unlimited diagsBy diagsAt tracedDiags isGroupFeature typeOf declaredGroup classifierBy declaredBy typedBy endpointBy endpoint isGroupConnection endComponentBy endComponent groupConnection groupConnections overrun partner matchesBy matches dotted fullName connectionKind matchRow matchDiag rowsMatched diagsMatched tracedList tracedWithin rowNames groupWithin groupListOf groupOf tracedOn tracedAnswer groupOn groupAnswer withGroup afterTraced bothAnswer tracedBlock groupBlock diagBlock tracedRowNumbers tracedDiagNumbers groupRowNumbers groupDiagNumbers composedNames digitsWithin digits column numberLine textLine rowText message pathNames diagText listText refusalText textWithin printed textOrRefusal printedOrRefusal ofReading whatFits conlistWithin textAfter conlist
+unfolding padded rowsNaming nameIn goodName folded key sameFolded baseName isOneToOne unspaced decimalFrom isDecimal fieldOf fieldsFit fieldNumbers lineWith linesOf letterOf linesWith keepsRules hasPlace isEarlier lineFaults faultsFrom sheetFaults placed rowsRead tablesRead readSheet tableAfter bytesAfter brokenRows tooManyRows badName faults10 allowsFrom badRow faults6 faults7 faults8 clashesFrom clashes faults9 faults accepted packageNamed typeNamed implNamed groupNamed renamesNamed typeHit inPackageBy inPackage inFound replacedBy replaced inNamed withPackage fromImports target renamesFor afterRename afterOwn withoutPackage resolveBy resolve turned featureBy featuresWalked extendedBy typeBy foundBy visitWithin expandFeatureGroup expand expansionWithin expandOn expandAnswer featureBlock expansionNumbers isNamed isElement orElements foundChildren leads stepsOver steps chainsBy chains shape named oneToOne pairsBy pairs appendNew rowOf pairRows rowsAt traced shown rows unlimited diagsBy diagsAt tracedDiags isGroupFeature typeOf declaredGroup classifierBy declaredBy typedBy endpointBy endpoint isGroupConnection endComponentBy endComponent groupConnection groupConnections overrun partner matchesBy matches dotted fullName connectionKind matchRow matchDiag rowsMatched diagsMatched tracedList tracedWithin rowNames groupWithin groupListOf groupOf tracedOn tracedAnswer groupOn groupAnswer withGroup afterTraced bothAnswer tracedBlock groupBlock diagBlock tracedRowNumbers tracedDiagNumbers groupRowNumbers groupDiagNumbers composedNames digitsWithin digits column numberLine textLine rowText message pathNames diagText listText refusalText textWithin printed textOrRefusal printedOrRefusal ofReading whatFits conlistWithin textAfter conlist
 table-passes = tt
 
 -- EVERY TRIAL HOLDS

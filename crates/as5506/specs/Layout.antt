@@ -73,7 +73,7 @@ expansionNumbers x = each featureBlock (x .features)
 unfoldable pub composedNames : GroupList → List ℕ
 composedNames g = each rowNames (g .rows)
 
--- the outputs of the call that gives both, "in both listings' where one call gives both": f is one of the five above, over its list
+-- the outputs of the call that gives both, "in both listings' where one call gives both": f is what one listing alone puts into an output
 abbrev pub ofTraced : (TracedList → List ℕ) → BothLists → List ℕ
 ofTraced f b = f (b .traced)
 

@@ -1,18 +1,19 @@
-// The numbers of document 01 that the code needs. The definition is in specs/.
+// The numbers of document 01 that the code needs, and a refusal. The definition is in specs/.
+ghost use mathlib.Core.Path.{_≡_};
+ghost use Rattle.as5506.specs.Answers.{nowhere, refusal, told};
+
 pub const MISSING: u32 = 4294967295;
 
 pub const SHEET_BYTES: usize = 16384;
 
 pub const TABLE_ROWS: usize = 4096;
 
-pub const NAME_BYTES: usize = 63;
-
 pub const STEPS: usize = 20;
 
-pub const DEPTH: usize = 10;
-
 pub const VISITS: u32 = 65536;
-// Fields of a row, by letter: N C F X P I T Q U E R.
+// The letters in their order; a letter is known by its place in it.
+pub const LETTERS: [u8; 11] = *b"NCFXPITQUER";
+// The fields of a row, by letter.
 pub const WIDTHS: [usize; 11] = [2, 6, 3, 7, 1, 2, 3, 4, 9, 8, 5];
 // A listing's row: connection, kind, two components, three name fields, path length, 41 places.
 pub const ROW_NUMBERS: usize = 49;
@@ -30,4 +31,15 @@ pub struct Refusal {
     pub number: u32,
     pub place: u32,
     pub letter: u8,
+}
+
+// A refusal that has no place.
+pub fn unplaced(number: u32) -> Refusal
+    ensures { λ z. ⌜ z ≡ told (refusal number nowhere) ⌝ }
+{
+    Refusal {
+        number: number,
+        place: 0,
+        letter: 45,
+    }
 }

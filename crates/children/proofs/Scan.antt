@@ -1,4 +1,4 @@
--- Laws of the children that a name finds: what one more row adds, and that they are the definition's. Assumes nothing.
+-- Laws of the children that a name finds: what one more row adds, that they are the definition's, and that no other table is asked. Assumes nothing.
 use mathlib.Core.Bool.{Bool, true, false}
 use mathlib.Core.Path.{_≡_, refl, sym, ap, ap₂, _∙_, subst}
 use mathlib.Core.List.{List, [], _∷_}
@@ -13,6 +13,7 @@ use Rattle.as5506.specs.Tables.{Tables, missing, nameOf, rowsNaming, childrenOf
 use Rattle.as5506.specs.Names.{sameFolded, bracket, baseName}
 use Rattle.as5506.specs.Tracing.{isNamed, isElement, orElements, foundChildren}
 use Rattle.as5506.proofs.Scans.{span-next, span-done, keep-put}
+use Rattle.lent.specs.Lent.{componentsIn}
 use Rattle.children.specs.declared.Rule.{Rule}
 use Rattle.children.specs.declared.Rule.the-variants.{Exact, Base}
 use Rattle.children.specs.declared.Child.{Child}
@@ -66,6 +67,19 @@ module _ (m : Tables) (p : ℕ) (w : List ℕ) where
   unfolding foundFrom ruleFor foundChildren
   found-from-start = by-list (has bracket w) (childrenFrom m Exact p w 0) refl ∙ ap (orElements (has bracket w) m p w) exact-all
 
+-- ---- names and components are asked, and no other table
+
+rule-same : (m : Tables) (rule : Rule) (p : ℕ) (w : List ℕ) (i : ℕ) → childrenFrom (componentsIn (m .bytes) (m .n) (m .c)) rule p w i ≡ childrenFrom m rule p w i
+unfolding childrenFrom fits isNamed isElement
+rule-same m Exact p w i = refl
+rule-same m Base p w i = refl
+
+pub found-same : (m : Tables) (p : ℕ) (w : List ℕ) (i : ℕ) → foundFrom (componentsIn (m .bytes) (m .n) (m .c)) p w i ≡ foundFrom m p w i
+unfolding foundFrom ruleFor
+found-same m p w i =
+    rule-same m (ruleFor (componentsIn (m .bytes) (m .n) (m .c)) p w) p w i
+    ∙ ap (λ (l : List ℕ). childrenFrom m (ruleBy (isNil l) (has bracket w)) p w i) (rule-same m Exact p w 0)
+
 -- ---- an answer
 
 pub after-at : (g : ℕ → List ℕ) (l : List ℕ) (q : Child) (i : ℕ) → l ≡ afterChild g q → q ≡ At i → l ≡ i ∷ g (i + 1)
@@ -73,6 +87,11 @@ after-at g l q i e f = e ∙ ap (afterChild g) f
 
 pub after-nothing : (g : ℕ → List ℕ) (l : List ℕ) (q : Child) → l ≡ afterChild g q → q ≡ Nothing → l ≡ []
 after-nothing g l q e f = e ∙ ap (afterChild g) f
+
+-- it stands for the same children, where they go on the same
+pub after-same : (g h : ℕ → List ℕ) (q : Child) → ((i : ℕ) → g i ≡ h i) → afterChild g q ≡ afterChild h q
+after-same g h Nothing t = refl
+after-same g h (At i) t = ap (λ (r : List ℕ). i ∷ r) (t (i + 1))
 
 pub inside-at : (c : List ℕ) (q : Child) (i : ℕ) → Inside c q → q ≡ At i → Inside c (At i)
 inside-at c q i h e = subst (Inside c) e h

@@ -4,17 +4,14 @@ use mathlib.Core.List.{List, [], _∷_}
 use Prim.Native.Nat.{ℕ, _+_, _-_, _<_}
 use lib.Dec.{eqb}
 use Rattle.as5506.specs.Lists.{span, keep, isNil, has}
-use Rattle.as5506.specs.Tables.{Tables, tablesOf, cCount, cParent}
+use Rattle.as5506.specs.Tables.{Tables, cCount, cParent}
 use Rattle.as5506.specs.Names.{bracket}
 use Rattle.as5506.specs.Tracing.{isNamed, isElement}
+use Rattle.lent.specs.Lent.{componentsIn}
 use Rattle.children.specs.declared.Rule.{Rule}
 use Rattle.children.specs.declared.Rule.the-variants.{Exact, Base}
 use Rattle.children.specs.declared.Child.{Child}
 use Rattle.children.specs.declared.Child.the-variants.{At, Nothing}
-
--- the tables of names and components, as far as children go
-abbrev pub componentsIn : List ℕ → List ℕ → List ℕ → Tables
-componentsIn bytes n c = tablesOf bytes n c [] [] [] [] [] [] [] [] []
 
 -- component i by a rule: "byte-equal names", or "an array index" and a "name up to the first `[`" that "is equal folded"
 unfoldable pub fits : Tables → Rule → List ℕ → ℕ → Bool
@@ -35,6 +32,7 @@ ruleBy true false = Base
 ruleBy true true = Exact
 ruleBy false b = Exact
 
+-- the rule by which the name w finds children of component p
 unfoldable pub ruleFor : Tables → ℕ → List ℕ → Rule
 ruleFor m p w = ruleBy (isNil (childrenFrom m Exact p w 0)) (has bracket w)
 
@@ -42,11 +40,12 @@ ruleFor m p w = ruleBy (isNil (childrenFrom m Exact p w 0)) (has bracket w)
 unfoldable pub foundFrom : Tables → ℕ → List ℕ → ℕ → List ℕ
 foundFrom m p w i = childrenFrom m (ruleFor m p w) p w i
 
--- an answer stands for no child, or for its own and those that g gives from a row on
+-- the children that an answer stands for, where g gives those from a row on: none, or its own and those from the row behind it on
 abbrev pub afterChild : (ℕ → List ℕ) → Child → List ℕ
 afterChild g Nothing = []
 afterChild g (At i) = i ∷ g (i + 1)
 
+-- an answer's child is a row of C
 abbrev pub Inside : List ℕ → Child → Type 0
 Inside c Nothing = Unit {0}
 Inside c (At i) = i < cCount (componentsIn [] [] c)

@@ -1,15 +1,19 @@
-// Child components by name (instance.rs, `find_children_by_name`), one at a time: nothing is lent to hold them.
+// The children of a component that a name finds (instance.rs, `find_children_by_name`). They are handed out one at a time, since nothing is lent to
+// hold them.
 use as5506::MISSING;
 ghost use mathlib.Core.Path.{_≡_};
 ghost use Prim.Native.Nat.{_+_, _*_, _/_, _<_, _≤_};
 ghost use lib.ListN.{length};
 ghost use Rattle.as5506.specs.Tables.{nameIn};
 ghost use Rattle.as5506.specs.Tracing.{isElement, foundChildren};
-ghost use Rattle.children.specs.Found.{componentsIn, isFound, childrenFrom, ruleFor, foundFrom, afterChild, Inside};
+ghost use Rattle.lent.specs.Lent.{componentsIn};
+ghost use Rattle.children.specs.Found.{isFound, childrenFrom, ruleFor, foundFrom, afterChild, Inside};
 
-// How a name finds children: by all its bytes, or array elements by the name before the bracket.
+// How a name finds children.
 pub enum Rule {
+    // Byte for byte.
     Exact,
+    // As what stands before the bracket in the names of array elements, case ignored.
     Base,
 }
 

@@ -1,7 +1,7 @@
 // Both listings.
 ghost use mathlib.Core.Path.{_≡_};
 ghost use Rattle.as5506.specs.Tables.{tablesOf};
-ghost use Rattle.listing.specs.Answer.{listed, outputs, answerFor, ListedInto};
+ghost use Rattle.listing.specs.Answer.{listed, outputs, answerFor, BothInto};
 ghost use Rattle.conlist_c.specs.Numbers.{bothNumbers};
 use listing::Both;
 
@@ -29,7 +29,7 @@ pub extern "C" fn conlist_list_connections(
     told: &mut [u64; 5],
 )
     ensures { λ _. ⌜ now (told .exit) ≡ bothNumbers (listed (answerFor (tablesOf (now (bytes .entry)) (now (n .entry)) (now (c .entry)) (now (f .entry)) (now (x .entry)) (now (p .entry)) (now (i .entry)) (now (t .entry)) (now (q .entry)) (now (u .entry)) (now (e .entry)) (now (r .entry))) (outputs (now (rows .entry)) (now (diagnostics .entry)) (now («group_rows» .entry)) (now (names .entry)) (now («group_diagnostics» .entry))))) ⌝ }
-    ensures { λ _. ⌜ ListedInto (tablesOf (now (bytes .entry)) (now (n .entry)) (now (c .entry)) (now (f .entry)) (now (x .entry)) (now (p .entry)) (now (i .entry)) (now (t .entry)) (now (q .entry)) (now (u .entry)) (now (e .entry)) (now (r .entry))) (outputs (now (rows .entry)) (now (diagnostics .entry)) (now («group_rows» .entry)) (now (names .entry)) (now («group_diagnostics» .entry))) (listed (answerFor (tablesOf (now (bytes .entry)) (now (n .entry)) (now (c .entry)) (now (f .entry)) (now (x .entry)) (now (p .entry)) (now (i .entry)) (now (t .entry)) (now (q .entry)) (now (u .entry)) (now (e .entry)) (now (r .entry))) (outputs (now (rows .entry)) (now (diagnostics .entry)) (now («group_rows» .entry)) (now (names .entry)) (now («group_diagnostics» .entry))))) (outputs (now (rows .exit)) (now (diagnostics .exit)) (now («group_rows» .exit)) (now (names .exit)) (now («group_diagnostics» .exit))) ⌝ }
+    ensures { λ _. ⌜ BothInto (tablesOf (now (bytes .entry)) (now (n .entry)) (now (c .entry)) (now (f .entry)) (now (x .entry)) (now (p .entry)) (now (i .entry)) (now (t .entry)) (now (q .entry)) (now (u .entry)) (now (e .entry)) (now (r .entry))) (outputs (now (rows .entry)) (now (diagnostics .entry)) (now («group_rows» .entry)) (now (names .entry)) (now («group_diagnostics» .entry))) (listed (answerFor (tablesOf (now (bytes .entry)) (now (n .entry)) (now (c .entry)) (now (f .entry)) (now (x .entry)) (now (p .entry)) (now (i .entry)) (now (t .entry)) (now (q .entry)) (now (u .entry)) (now (e .entry)) (now (r .entry))) (outputs (now (rows .entry)) (now (diagnostics .entry)) (now («group_rows» .entry)) (now (names .entry)) (now («group_diagnostics» .entry))))) (outputs (now (rows .exit)) (now (diagnostics .exit)) (now («group_rows» .exit)) (now (names .exit)) (now («group_diagnostics» .exit))) ⌝ }
 {
     let answer = listing::list_connections(
         bytes,

@@ -10,31 +10,29 @@ use Rattle.as5506.specs.Tables.{Tables, present, Side, nameOf, rowsNaming, chil
 use Rattle.as5506.specs.Names.{bracket}
 use Rattle.as5506.specs.Tracing.{isNamed, isElement, orElements, foundChildren, named}
 use Rattle.as5506.specs.GroupList.{endComponentBy, endComponent}
-use Rattle.as5506.proofs.Laws.{All, all-keep, upTo-below, all-first}
+use Rattle.as5506.proofs.Laws.{All, upTo-below, all-first}
+use Rattle.resolver.proofs.Scan.{all-kept}
 
 module _ (m : Tables) where
   abbrev Row : ℕ → Type 0
   Row i = i < cCount m
 
-  kept : (p : ℕ → Bool) (xs : List ℕ) → All Row xs → All Row (keep p xs)
-  kept p xs t = all-keep Row Row p (λ x u h. h) xs t
-
   children-rows : (p : ℕ) → All Row (childrenOf m p)
   unfolding rowsNaming
-  children-rows p = kept (λ i. eqb (cParent m i) p) (upTo (cCount m)) (upTo-below (cCount m))
+  children-rows p = all-kept Row (λ i. eqb (cParent m i) p) (upTo (cCount m)) (upTo-below (cCount m))
 
   or-rows : (b : Bool) (p : ℕ) (w l : List ℕ) → All Row l → All Row (orElements b m p w l)
   unfolding orElements
   or-rows b p w (i ∷ l) t = t
   or-rows true p w [] t = tt
-  or-rows false p w [] t = kept (isElement m w) (childrenOf m p) (children-rows p)
+  or-rows false p w [] t = all-kept Row (isElement m w) (childrenOf m p) (children-rows p)
 
   named-rows : (s : Side) (x : ℕ) → All Row (named m s x)
   unfolding named foundChildren
   named-rows s x =
       let w : List ℕ = nameOf m (xSub m s x) in
       let l : List ℕ = childrenOf m (xOwner m x) in
-      or-rows (has bracket w) (xOwner m x) w (keep (isNamed m w) l) (kept (isNamed m w) l (children-rows (xOwner m x)))
+      or-rows (has bracket w) (xOwner m x) w (keep (isNamed m w) l) (all-kept Row (isNamed m w) l (children-rows (xOwner m x)))
 
   end-row-by : (b : Bool) (s : Side) (x i : ℕ) → xOwner m x < cCount m → some i ≡ endComponentBy b m s x → i < cCount m
   unfolding endComponentBy

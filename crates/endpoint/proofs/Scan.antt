@@ -1,8 +1,8 @@
--- The definition's searches as one scan of a table each, and the answer of the search for an E row. Assumes nothing.
+-- The definition's searches as one scan of a table each. Assumes nothing.
 use mathlib.Core.Bool.{Bool, true, false, not, _&&_, _||_}
 use mathlib.Core.Path.{_≡_, refl, sym, ap, _∙_}
 use mathlib.Core.List.{List, [], _∷_}
-use mathlib.Core.Option.{Option, none, some}
+use mathlib.Core.Option.{some}
 use Prim.Native.Nat.{ℕ, _-_, _<_}
 use native.Mathlib.Nat.{sub-zero}
 use lib.Dec.{eqb}
@@ -12,10 +12,9 @@ use Rattle.as5506.specs.Names.{key}
 use Rattle.as5506.specs.Groups.{featureKindGroup}
 use Rattle.as5506.specs.GroupList.{isGroupFeature, declaredGroup}
 use Rattle.as5506.proofs.Scans.{keep-both}
+use Rattle.lent.specs.Lent.{declaredIn, featuresIn}
 use Rattle.resolver.proofs.Scan.{rows-first}
-use Rattle.endpoint.specs.declared.Found.{Found}
-use Rattle.endpoint.specs.declared.Found.the-variants.{At, Nothing}
-use Rattle.endpoint.specs.Ends.{rowOf, featuresIn, declaredIn, isGroup, isDeclared}
+use Rattle.endpoint.specs.Ends.{isGroup, isDeclared}
 
 -- ---- F
 
@@ -60,14 +59,7 @@ module _ (m : Tables) (t : ℕ) (k : List ℕ) where
   pub declared-row : (e : ℕ) → some e ≡ declaredGroup m t k → e < count m letterE
   declared-row e h = rows-first (isDeclared m t k) 0 (count m letterE) e (sym (h ∙ declared-scan)) .1
 
+-- no other table is asked
 pub declared-same : (m : Tables) (t f : ℕ) → let l : Tables = declaredIn (m .bytes) (m .n) (m .e) in declaredGroup l t (key l f) ≡ declaredGroup m t (key m f)
 unfolding declaredGroup rowsNaming key
 declared-same m t f = refl
-
--- ---- an answer
-
-pub at-row : (z : Found) (i : ℕ) (o : Option ℕ) → z ≡ At i → rowOf z ≡ o → some i ≡ o
-at-row z i o e p = sym (ap rowOf e) ∙ p
-
-pub no-row : (z : Found) (o : Option ℕ) → z ≡ Nothing → rowOf z ≡ o → none ≡ o
-no-row z o e p = sym (ap rowOf e) ∙ p

@@ -13,15 +13,14 @@ use Rattle.as5506.specs.Tracing.{foundChildren, named}
 use Rattle.as5506.specs.GroupList.{isGroupFeature, typeOf, declaredGroup, classifierBy, declaredBy, typedBy, endpointBy, endpoint, endComponentBy, endComponent}
 use Rattle.children.specs.declared.Child.{Child}
 use Rattle.children.specs.declared.Child.the-variants.{At, Nothing}
-use Rattle.children.specs.Found.{componentsIn, foundFrom, afterChild}
-use Rattle.children.proofs.Scan.{found-from-start}
+use Rattle.children.specs.Found.{foundFrom, afterChild}
+use Rattle.children.proofs.Scan.{found-from-start, found-same}
 use Rattle.resolver.specs.declared.Resolved.{Resolved}
 use Rattle.resolver.specs.Found.{found}
 use Rattle.resolver.proofs.Answers.{meant, means}
-use Rattle.trace.specs.Steps.{tracingIn}
-use Rattle.trace.proofs.Scan.{found-same}
 use Rattle.endpoint.specs.Ends.{componentOf}
 use Rattle.as5506.proofs.Laws.{missing-is, present-is}
+use Rattle.lent.specs.Lent.{componentsIn, wiringIn}
 
 -- ---- the component of an end
 
@@ -35,15 +34,15 @@ first-child g (At i) = refl
 first-child g Nothing = refl
 
 pub end-child :
-    (bytes n c x : List ℕ) (s : Side) (i p sub : ℕ) (q : Child) → let m : Tables = tracingIn bytes n c x in p ≡ xOwner m i → sub ≡ xSub m s i → (sub ≡ missing → ⊥)
+    (bytes n c x : List ℕ) (s : Side) (i p sub : ℕ) (q : Child) → let m : Tables = wiringIn bytes n c x in p ≡ xOwner m i → sub ≡ xSub m s i → (sub ≡ missing → ⊥)
     → foundFrom (componentsIn bytes n c) p (nameIn bytes n sub) 0 ≡ afterChild (foundFrom (componentsIn bytes n c) p (nameIn bytes n sub)) q → componentOf q ≡ endComponent m s i
 unfolding endComponent endComponentBy named
 end-child bytes n c x s i p sub q e f h a =
-    let m : Tables = tracingIn bytes n c x in
+    let m : Tables = wiringIn bytes n c x in
     rw (present-is sub (xSub m s i) f h)
     (first-child (foundFrom (componentsIn bytes n c) p (nameIn bytes n sub)) q
     ∙ ap firstOf
-    (sym a ∙ found-same bytes n c x p (nameIn bytes n sub) 0 ∙ found-from-start m p (nameIn bytes n sub) ∙ ap₂ (λ (p sub : ℕ). foundChildren m p (nameIn bytes n sub)) e f))
+    (sym a ∙ found-same m p (nameIn bytes n sub) 0 ∙ found-from-start m p (nameIn bytes n sub) ∙ ap₂ (λ (p sub : ℕ). foundChildren m p (nameIn bytes n sub)) e f))
 
 -- ---- the classifier of E row e, for component c
 

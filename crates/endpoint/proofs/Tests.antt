@@ -1,5 +1,5 @@
--- Laws of tests, part by part: of a number that was read, of a key, and of parts one after the other. Assumes nothing.
-use mathlib.Core.Bool.{Bool, true, false, _&&_}
+-- Laws of the parts of a test: of a number that was read, and of a key. Assumes nothing.
+use mathlib.Core.Bool.{Bool, true, false}
 use mathlib.Core.Path.{_≡_, sym, ap, _∙_}
 use mathlib.Core.List.{List}
 use Prim.Native.Nat.{ℕ, _+_}
@@ -11,14 +11,6 @@ use Rattle.as5506.specs.Lists.{sameBytes}
 use Rattle.as5506.specs.Tables.{Tables, nameOf}
 use Rattle.as5506.specs.Names.{key, sameFolded}
 use Rattle.name.proofs.Compare.{keys-folded}
-
--- ---- a part that fails, and one that holds
-
-pub fails : (a rest : Bool) → a ≡ false → false ≡ a && rest
-fails a rest h = rw h
-
-pub holds : (a rest z : Bool) → a ≡ true → z ≡ rest → z ≡ a && rest
-holds a rest z h q = rw h q
 
 -- ---- v was read for the field w
 

@@ -1,41 +1,27 @@
 -- The component of an end, and the group that it stands for, as the definition has them. Assumes nothing.
 use mathlib.Core.Bool.{Bool, _&&_}
 use mathlib.Core.Option.{Option, none, some}
-use mathlib.Core.List.{List, []}
+use mathlib.Core.List.{List}
 use Prim.Native.Nat.{ℕ}
 use lib.Dec.{eqb}
 use Rattle.as5506.specs.Lists.{sameBytes}
-use Rattle.as5506.specs.Tables.{Tables, tablesOf, fName, fOwner, fKind, eName, eKind, eHolder, eHolderKind}
+use Rattle.as5506.specs.Tables.{Tables, fName, fOwner, fKind, eName, eKind, eHolder, eHolderKind}
 use Rattle.as5506.specs.Names.{key}
 use Rattle.as5506.specs.Groups.{Expansion, featureKindGroup, expand}
 use Rattle.children.specs.declared.Child.{Child}
 use Rattle.children.specs.declared.Child.the-variants.{At, Nothing}
 use Rattle.endpoint.specs.declared.Asked.{Asked}
 use Rattle.endpoint.specs.declared.Asked.the-variants.{Group, NoGroup}
-use Rattle.endpoint.specs.declared.Found.{Found}
-use Rattle.endpoint.specs.declared.Found.the-variants.{At as FoundAt, Nothing as FoundNothing}
 
 -- a component, or none
 abbrev pub componentOf : Child → Option ℕ
 componentOf (At i) = some i
 componentOf Nothing = none
 
--- an E row, or none
-abbrev pub rowOf : Found → Option ℕ
-rowOf (FoundAt i) = some i
-rowOf FoundNothing = none
-
--- an end's expansion, or none: the group type is asked for by its bare name
+-- the expansion of the group that an end stands for, or none: its type is asked for by its bare name
 abbrev pub expandedAt : Tables → Asked → Option Expansion
 expandedAt m (Group from name) = some (expand m from name)
 expandedAt m NoGroup = none
-
--- tables of names, features, E rows: as far as a search goes
-abbrev pub featuresIn : List ℕ → List ℕ → List ℕ → Tables
-featuresIn bytes n f = tablesOf bytes n [] f [] [] [] [] [] [] [] []
-
-abbrev pub declaredIn : List ℕ → List ℕ → List ℕ → Tables
-declaredIn bytes n e = tablesOf bytes n [] [] [] [] [] [] [] [] e []
 
 -- F row i is one of component c, a group, and has the key k
 unfoldable pub isGroup : Tables → ℕ → List ℕ → ℕ → Bool

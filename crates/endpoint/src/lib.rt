@@ -3,6 +3,7 @@
 use as5506::MISSING;
 use children::Child;
 use lent::number_at;
+use resolver::Found;
 use resolver::Resolved;
 use trace::Side;
 ghost use mathlib.Core.Path.{_≡_};
@@ -12,19 +13,15 @@ ghost use lib.ListN.{length};
 ghost use Rattle.as5506.specs.Tables.{Tables, tablesOf, nameIn, present, cPackage, eClassifier};
 ghost use Rattle.as5506.specs.Names.{key, sameFolded};
 ghost use Rattle.as5506.specs.GroupList.{isGroupConnection, isGroupFeature, declaredGroup, classifierBy, endComponent, endpoint as theEndpoint};
-ghost use Rattle.trace.specs.Steps.{tracingIn, sideOf};
-ghost use Rattle.endpoint.specs.Ends.{componentOf, rowOf, expandedAt, featuresIn, declaredIn, isGroup, isDeclared};
+ghost use Rattle.lent.specs.Lent.{featuresIn, connectionsIn, declaredIn, wiringIn};
+ghost use Rattle.trace.specs.Steps.{sideOf};
+ghost use Rattle.resolver.specs.Found.{rowOf};
+ghost use Rattle.endpoint.specs.Ends.{componentOf, expandedAt, isGroup, isDeclared};
 
 // The group that an end stands for: its type's name and the name of the package to ask from; or none.
 pub enum Asked {
     Group { package: u32, type_name: u32 },
     NoGroup,
-}
-
-// A row, or none.
-enum Found {
-    At(usize),
-    Nothing,
 }
 
 // `FeatureKind::FeatureGroup` and `ConnectionKind::FeatureGroup`.
@@ -35,7 +32,7 @@ const CONNECTION_KIND: u32 = 2;
 // Whether X row i connects groups: it has their kind, and a feature at both ends.
 pub fn is_group_connection(x: &[u32], i: usize) -> bool
     requires { ⌜ i < length (now x) / 7 ⌝ }
-    ensures { λ z. ⌜ z ≡ isGroupConnection (tracingIn [] [] [] (now (x .entry))) i ⌝ }
+    ensures { λ z. ⌜ z ≡ isGroupConnection (connectionsIn [] [] (now (x .entry))) i ⌝ }
 {
     if number_at(x, i * 7 + 2) != CONNECTION_KIND {
         return false;
@@ -49,7 +46,7 @@ pub fn is_group_connection(x: &[u32], i: usize) -> bool
 // The component at an end of X row i: the first child of the name, or the owner where no subcomponent is named.
 pub fn end_component(bytes: &[u8], n: &[u32], c: &[u32], x: &[u32], side: Side, i: usize) -> Child
     requires { ⌜ i < length (now x) / 7 ⌝ }
-    ensures { λ z. ⌜ componentOf z ≡ endComponent (tracingIn (now (bytes .entry)) (now (n .entry)) (now (c .entry)) (now (x .entry))) (sideOf side) i ⌝ }
+    ensures { λ z. ⌜ componentOf z ≡ endComponent (wiringIn (now (bytes .entry)) (now (n .entry)) (now (c .entry)) (now (x .entry))) (sideOf side) i ⌝ }
 {
     let owner = number_at(x, i * 7 + 1);
     let sub = trace::subcomponent_of(x, side, i);
@@ -67,7 +64,7 @@ fn same_feature(bytes: &[u8], n: &[u32], j: u32, k: u32) -> bool
     name::same_folded_names(bytes, n, j, k)
 }
 
-// Whether F row i is a group of a component and a name, case ignored.
+// Whether F row i is a feature of a component that is a group and has a name, case ignored.
 fn is_group_feature(
     bytes: &[u8],
     n: &[u32],
@@ -91,7 +88,7 @@ fn is_group_feature(
     same_feature(bytes, n, number_at(f, place), feature)
 }
 
-// Whether a component has a group feature of a name, case ignored.
+// Whether a component has such a feature.
 fn has_group_feature(bytes: &[u8], n: &[u32], f: &[u32], component: u32, feature: u32) -> bool
     ensures { λ z.
         ⌜ (let m : Tables = featuresIn (now (bytes .entry)) (now (n .entry)) (now (f .entry)) in
@@ -108,7 +105,7 @@ fn has_group_feature(bytes: &[u8], n: &[u32], f: &[u32], component: u32, feature
     false
 }
 
-// Whether E row i is a group of a component type and a name, case ignored.
+// Whether E row i is a feature of a component type that is a group and has a name, case ignored.
 fn is_declared_group(
     bytes: &[u8],
     n: &[u32],
@@ -135,7 +132,7 @@ fn is_declared_group(
     same_feature(bytes, n, number_at(e, place + 2), feature)
 }
 
-// The first such row.
+// The first such feature.
 fn declared_group(bytes: &[u8], n: &[u32], e: &[u32], holder: usize, feature: u32) -> Found
     ensures { λ z.
         ⌜ (let m : Tables = declaredIn (now (bytes .entry)) (now (n .entry)) (now (e .entry)) in
@@ -152,7 +149,7 @@ fn declared_group(bytes: &[u8], n: &[u32], e: &[u32], holder: usize, feature: u3
     Found::Nothing
 }
 
-// What the classifier of E row i asks for, on a component of a package.
+// The group that the classifier of E row i asks for: where it names no package, from the component's.
 fn classifier(e: &[u32], i: usize, component_package: u32) -> Asked
     requires { ⌜ i < length (now e) / 8 ⌝ }
     ensures { λ z.
@@ -178,7 +175,8 @@ fn classifier(e: &[u32], i: usize, component_package: u32) -> Asked
     }
 }
 
-// The group that a feature of a component stands for.
+// The group that a feature of a component stands for. The component must have a group of that name, and its type must declare one: the classifier there
+// names the group type.
 pub fn endpoint(
     bytes: &[u8],
     n: &[u32],

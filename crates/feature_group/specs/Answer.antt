@@ -2,11 +2,10 @@
 use mathlib.Core.Bool.{Bool}
 use mathlib.Core.Path.{_≡_}
 use mathlib.Core.List.{List}
-use Prim.Native.Nat.{ℕ, _/_, _≤_}
+use Prim.Native.Nat.{ℕ, _/_}
 use lib.ListN.{length}
-use lib.Seq.{sets}
 use Rattle.as5506.specs.Tables.{Tables}
-use Rattle.as5506.specs.Answers.{Answer, given, refused, nowhere, refusal, told}
+use Rattle.as5506.specs.Answers.{Answer, given, refused, told}
 use Rattle.as5506.specs.Groups.{Expansion}
 use Rattle.as5506.specs.Listing.{expandAnswer}
 use Rattle.as5506.specs.Layout.{featureNumbers, expansionNumbers, output}
@@ -26,12 +25,3 @@ answerFor m out from name inverse = expandAnswer (length out / featureNumbers) m
 pub record ExpandedInto (m : Tables) (out : List ℕ) (from name : ℕ) (inverse : Bool) (z : Expanded) (out′ : List ℕ) : Type 0 where
   pub answer : z ≡ expanded (answerFor m out from name inverse)
   pub written-features : out′ ≡ output (length out) expansionNumbers (answerFor m out from name inverse)
-
--- a refusal that has no place
-abbrev pub refusedFor : ℕ → Expanded
-refusedFor number = Refused (told (refusal number nowhere))
-
--- the output after an answer that is given: its numbers from the front, of which there are no more than places
-unfoldable pub Wrote : Answer Expansion → List ℕ → List ℕ → Type 0
-Wrote (given x) out out′ = (length (expansionNumbers x) ≤ length out) × (out′ ≡ sets out 0 (expansionNumbers x))
-Wrote (refused r) out out′ = Unit {0}

@@ -2,6 +2,7 @@
 use as5506::FEATURE_NUMBERS;
 use as5506::MISSING;
 use as5506::Refusal;
+use group_walk::LEVELS;
 use group_walk::Walked;
 use sink::Purpose;
 use sink::Tally;
@@ -13,8 +14,10 @@ ghost use lib.ListN.{length};
 ghost use Rattle.as5506.specs.Tables.{tablesOf};
 ghost use Rattle.as5506.specs.Groups.{depthLimit};
 ghost use Rattle.as5506.specs.Listing.{expansionWithin};
+ghost use Rattle.as5506.specs.Layout.{expansionNumbers};
+ghost use Rattle.lent.specs.Answered.{AnswerIn};
 ghost use Rattle.links.specs.Walk.{groupsIn, visitLink};
-ghost use Rattle.feature_group.specs.Answer.{expanded, answerFor, ExpandedInto, refusedFor, Wrote};
+ghost use Rattle.feature_group.specs.Answer.{expanded, answerFor, ExpandedInto};
 
 // How many features were written and how many visits were made, or why none were.
 pub enum Expanded {
@@ -22,35 +25,20 @@ pub enum Expanded {
     Refused(Refusal),
 }
 
-// The levels of visits one inside the other: depths 0 to 10.
-const LEVELS: usize = 11;
-
-// A refusal that has no place.
-fn refused(number: u32) -> Expanded
-    ensures { λ z. ⌜ z ≡ refusedFor number ⌝ }
-{
-    let reason = Refusal {
-        number: number,
-        place: 0,
-        letter: 45,
-    };
-    Expanded::Refused(reason)
-}
-
 // Writes the features of the group that a link means. On a refusal the output holds anything.
 fn write_features(
     e: &[u32],
     nested: &[u32],
     extends: &[u32],
-    inverse: &[u32],
+    inverses: &[u32],
     bytes: &[u8],
     n: &[u32],
     out: &mut [u32],
     to: u32,
-    turned: bool,
+    inverse: bool,
 ) -> Expanded
-    ensures { λ z. ⌜ z ≡ expanded (expansionWithin (length (now (out .entry)) / 14) (visitLink (groupsIn (now (e .entry)) (now (nested .entry)) (now (extends .entry)) (now (inverse .entry))) (suc depthLimit) to turned [])) ⌝ }
-    ensures { λ _. ⌜ Wrote (expansionWithin (length (now (out .entry)) / 14) (visitLink (groupsIn (now (e .entry)) (now (nested .entry)) (now (extends .entry)) (now (inverse .entry))) (suc depthLimit) to turned [])) (now (out .entry)) (now (out .exit)) ⌝ }
+    ensures { λ z. ⌜ z ≡ expanded (expansionWithin (length (now (out .entry)) / 14) (visitLink (groupsIn (now (e .entry)) (now (nested .entry)) (now (extends .entry)) (now (inverses .entry))) (suc depthLimit) to inverse [])) ⌝ }
+    ensures { λ _. ⌜ AnswerIn expansionNumbers (expansionWithin (length (now (out .entry)) / 14) (visitLink (groupsIn (now (e .entry)) (now (nested .entry)) (now (extends .entry)) (now (inverses .entry))) (suc depthLimit) to inverse [])) (now (out .entry)) (now (out .exit)) ⌝ }
 {
     let kept = [0u32; 1];
     let mut memo = [0u32; 1];
@@ -61,7 +49,7 @@ fn write_features(
         e,
         nested,
         extends,
-        inverse,
+        inverses,
         bytes,
         n,
         &kept,
@@ -71,17 +59,17 @@ fn write_features(
         &mut calm,
         Purpose::All,
         to,
-        turned,
+        inverse,
         [0u32; 11],
         0,
         LEVELS,
         start,
         0,
     ) {
-        Walked::Over => refused(13),
+        Walked::Over => Expanded::Refused(as5506::unplaced(13)),
         Walked::Done { tally, visits } => {
             if out.len() < tally.used {
-                return refused(11);
+                return Expanded::Refused(as5506::unplaced(11));
             }
             let count = tally.used / FEATURE_NUMBERS;
             Expanded::Features(count, visits)
@@ -106,17 +94,17 @@ fn expand(
     out: &mut [u32],
     from: u32,
     type_name: u32,
-    turned: bool,
+    inverse: bool,
 ) -> Expanded
-    ensures { λ z. ⌜ z ≡ expanded (answerFor (tablesOf (now (bytes .entry)) (now (n .entry)) (now (c .entry)) (now (f .entry)) (now (x .entry)) (now (p .entry)) (now (i .entry)) (now (t .entry)) (now (q .entry)) (now (u .entry)) (now (e .entry)) (now (r .entry))) (now (out .entry)) from «type_name» turned) ⌝ }
-    ensures { λ _. ⌜ Wrote (answerFor (tablesOf (now (bytes .entry)) (now (n .entry)) (now (c .entry)) (now (f .entry)) (now (x .entry)) (now (p .entry)) (now (i .entry)) (now (t .entry)) (now (q .entry)) (now (u .entry)) (now (e .entry)) (now (r .entry))) (now (out .entry)) from «type_name» turned) (now (out .entry)) (now (out .exit)) ⌝ }
+    ensures { λ z. ⌜ z ≡ expanded (answerFor (tablesOf (now (bytes .entry)) (now (n .entry)) (now (c .entry)) (now (f .entry)) (now (x .entry)) (now (p .entry)) (now (i .entry)) (now (t .entry)) (now (q .entry)) (now (u .entry)) (now (e .entry)) (now (r .entry))) (now (out .entry)) from «type_name» inverse) ⌝ }
+    ensures { λ _. ⌜ AnswerIn expansionNumbers (answerFor (tablesOf (now (bytes .entry)) (now (n .entry)) (now (c .entry)) (now (f .entry)) (now (x .entry)) (now (p .entry)) (now (i .entry)) (now (t .entry)) (now (q .entry)) (now (u .entry)) (now (e .entry)) (now (r .entry))) (now (out .entry)) from «type_name» inverse) (now (out .entry)) (now (out .exit)) ⌝ }
 {
     if let Checked::Refused(reason) = tables::check_tables(bytes, n, c, f, x, p, i, t, q, u, e, r) {
         return Expanded::Refused(reason);
     }
     let mut nested = [0u32; 4096];
     let mut extends = [0u32; 4096];
-    let mut inverse = [0u32; 4096];
+    let mut inverses = [0u32; 4096];
     links::link_groups(
         bytes,
         n,
@@ -129,7 +117,7 @@ fn expand(
         r,
         &mut nested,
         &mut extends,
-        &mut inverse,
+        &mut inverses,
     );
     let to = links::link(
         bytes,
@@ -145,7 +133,7 @@ fn expand(
         type_name,
         MISSING,
     );
-    write_features(e, &nested, &extends, &inverse, bytes, n, out, to, turned)
+    write_features(e, &nested, &extends, &inverses, bytes, n, out, to, inverse)
 }
 
 // The features of a group type, given by its name and the name of the package to ask from; with the inverse flag or without. The output holds
@@ -166,11 +154,11 @@ pub fn expand_feature_group(
     out: &mut [u32],
     from: u32,
     type_name: u32,
-    turned: bool,
+    inverse: bool,
 ) -> Expanded
     ensures { λ z. ⌜ ExpandedInto
         (tablesOf (now (bytes .entry)) (now (n .entry)) (now (c .entry)) (now (f .entry)) (now (x .entry)) (now (p .entry)) (now (i .entry)) (now (t .entry)) (now (q .entry)) (now (u .entry)) (now (e .entry)) (now (r .entry)))
-        (now (out .entry)) from «type_name» turned z (now (out .exit)) ⌝ }
+        (now (out .entry)) from «type_name» inverse z (now (out .exit)) ⌝ }
 {
     lent::clear_numbers(out);
     let answer = expand(
@@ -189,7 +177,7 @@ pub fn expand_feature_group(
         out,
         from,
         type_name,
-        turned,
+        inverse,
     );
     match answer {
         Expanded::Features(_, _) => answer,

@@ -1,8 +1,8 @@
 // The fields of a sheet's line, of any letter: how many there are and which may be missing are data. For the reader (crate sheet) and its trials.
 // Definitions: as5506, Fields; specs/Fields.antt says how the code holds a field and its columns.
 ghost use mathlib.Core.Path.{_≡_};
-ghost use mathlib.Core.Bool.{Bool, false};
-ghost use Prim.Native.Nat.{ℕ, _+_, _*_, _≤_};
+ghost use mathlib.Core.Bool.{false};
+ghost use Prim.Native.Nat.{_+_, _*_, _≤_};
 ghost use lib.ListN.{length, drop};
 ghost use lib.Seq.{sets};
 ghost use Rattle.as5506.specs.Lists.{allOf, sameBytes, bytesOf};

@@ -4,45 +4,25 @@ use mathlib.Core.Bool.{Bool, true, false, _||_}
 use mathlib.Core.Option.{Option, none, some}
 use mathlib.Core.Path.{_≡_, refl, sym, ap, ap₂, subst, _∙_}
 use mathlib.Core.List.{List, [], _∷_, _++_, map, map-append}
-use Prim.Native.Nat.{ℕ, _+_, _*_, _≤_, _<_}
-use native.Mathlib.Nat.{zero-add, zero-mul, suc-mul, add-comm}
-use native.Mathlib.Omega.{arith}
-use native.Mathlib.Decide.{decLe}
-use lib.Dec.{T}
+use Prim.Native.Nat.{ℕ, _+_, _*_}
 use lib.ListN.{length, length-append}
-use lib.Seq.{sets}
-use Rattle.as5506.specs.Lists.{each, total, padded}
+use Rattle.as5506.specs.Lists.{each, padded}
 use Rattle.as5506.specs.Tables.{Tables}
 use Rattle.as5506.specs.Groups.{Feature}
 use Rattle.as5506.specs.Rows.{Row, Diag}
 use Rattle.as5506.specs.GroupList.{GroupConnection, groupOverrun, overrun, Match, matchesBy, matches, matchRow, matchDiag, fullName, rowsMatched, diagsMatched}
 use Rattle.as5506.specs.Layout.{groupBlock, diagBlock}
-use Rattle.as5506.proofs.Laws.{All, all-of, all-each, each-same, each-append}
+use Rattle.as5506.proofs.Laws.{All, all-of, all-each, each-same, each-append, each-each, each-map, even-length, not-both}
 use Rattle.lent.specs.Append.{Filled, filled, appendAll, together}
-use Rattle.lent.proofs.Append.{all-length, all-append, all-fit, all-full}
+use Rattle.lent.proofs.Append.{all-append}
+use Rattle.lent.specs.Lent.{connectionsIn}
 use Rattle.sink.specs.declared.Tally.{Tally}
 use Rattle.group_match.specs.declared.Matched.{Matched}
 use Rattle.group_match.specs.declared.Matched.the-variants.{Over, Done}
 use Rattle.group_match.specs.Matching.{matchPiece, matchPieces, notePieces, Lists, over, lists, afterBy, after, afterAll, listsOf}
-use Rattle.group_names.specs.Compose.{connectionsIn, Pair, pairBlock, pairRows, rowsOfPairs, AllShort}
+use Rattle.group_match.proofs.Loop.{all-over}
+use Rattle.group_names.specs.Compose.{Pair, pairBlock, pairRows, rowsOfPairs, AllShort}
 use Rattle.group_names.proofs.Blocks.{pair-length}
-
--- ---- what a function gives for each entry
-
-module _ {A B : Type 0} where
-  pub each-length : (f : A → List B) (xs : List A) → length (each f xs) ≡ total (λ x. length (f x)) xs
-  each-length f [] = refl
-  each-length f (x ∷ xs) = length-append (f x) (each f xs) ∙ ap (λ (n : ℕ). length (f x) + n) (each-length f xs)
-
-  -- as many of each
-  even-length : (k : ℕ) (f : A → List B) (xs : List A) → All (λ x. length (f x) ≡ k) xs → length (each f xs) ≡ length xs * k
-  even-length k f [] t = sym (zero-mul k)
-  even-length k f (x ∷ xs) t =
-      length-append (f x) (each f xs) ∙ ap₂ _+_ (t .0) (even-length k f xs (t .1)) ∙ add-comm k (length xs * k) ∙ sym (suc-mul (length xs) k)
-
-each-each : {A B C : Type 0} (h : B → List C) (g : A → List B) (xs : List A) → each h (each g xs) ≡ each (λ x. each h (g x)) xs
-each-each h g [] = refl
-each-each {C = C} h g (x ∷ xs) = each-append h (g x) (each g xs) ∙ ap (λ (r : List C). each h (g x) ++ r) (each-each h g xs)
 
 -- ---- MATCHING: what all connections leave
 
@@ -65,16 +45,11 @@ after-more false a b rows notes =
     (sym (ap (λ (ps : List (List ℕ)). appendAll ps notes) (notes-append a b) ∙ all-append (notePieces a) (notePieces b) notes))
 
 module _ (m : Tables) where
-  after-over : (bs : List GroupConnection) → afterAll m bs over ≡ over
-  unfolding afterAll after
-  after-over [] = refl
-  after-over (b ∷ bs) = after-over bs
-
   after-by : (t u : Bool) (a b : List Match) (bs : List GroupConnection) (rows notes : Filled)
       → ((rows notes : Filled) → afterAll m bs (lists rows notes) ≡ afterBy u b rows notes)
       → afterAll m bs (afterBy t a rows notes) ≡ afterBy (t || u) (a ++ b) rows notes
   unfolding afterBy
-  after-by true u a b bs rows notes rest = after-over bs
+  after-by true u a b bs rows notes rest = all-over m bs
   after-by false u a b bs rows notes rest = rest (appendAll (matchPieces a) rows) (appendAll (notePieces a) notes) ∙ after-more u a b rows notes
 
   after-all : (bs : List GroupConnection) (rows notes : Filled) → afterAll m bs (lists rows notes) ≡ afterBy (overrun bs) (matches m bs) rows notes
@@ -97,14 +72,11 @@ abbrev notesOr : Filled → Lists → Filled
 notesOr d over = d
 notesOr d (lists rows notes) = notes
 
-not-over : {x y : Lists} → x ≡ y → T (isOver x) → isOver y ≡ false → ⊥
-not-over e t f = subst T (ap isOver e ∙ f) t
-
 module _ (ms : List Match) (rows notes : Filled) where
   over-by : (t : Bool) → over ≡ afterBy t ms rows notes → t ≡ true
   unfolding afterBy
   over-by true e = refl
-  over-by false e = absurd (not-over e tt refl)
+  over-by false e = absurd (not-both isOver over (afterBy false ms rows notes) e tt refl)
 
   -- no end has too many visits, and both outputs have the pieces of all matches
   abbrev Left : Bool → Filled → Filled → Type 0
@@ -112,7 +84,7 @@ module _ (ms : List Match) (rows notes : Filled) where
 
   done-by : (t : Bool) (rows₁ notes₁ : Filled) → lists rows₁ notes₁ ≡ afterBy t ms rows notes → Left t rows₁ notes₁
   unfolding afterBy
-  done-by true rows₁ notes₁ e = absurd (not-over (sym e) tt refl)
+  done-by true rows₁ notes₁ e = absurd (not-both isOver over (lists rows₁ notes₁) (sym e) tt refl)
   done-by false rows₁ notes₁ e = (refl, ap (rowsOr rows₁) e, ap (notesOr notes₁) e)
 
 module _ (m : Tables) (bs : List GroupConnection) (rows notes rows₁ notes₁ : List ℕ) (z : Matched)
@@ -130,36 +102,6 @@ module _ (m : Tables) (bs : List GroupConnection) (rows notes rows₁ notes₁ :
   told-done t h =
       done-by (matches m bs) (filled rows 0) (filled notes 0) (overrun bs) (filled rows₁ (t .used)) (filled notes₁ (t .noted))
       (subst (λ (y : Matched). listsOf y rows₁ notes₁ ≡ afterBy (overrun bs) (matches m bs) (filled rows 0) (filled notes 0)) h whole)
-
--- ---- an output, as far as it is used
-
-pub record Used (l : List ℕ) (l₁ : List ℕ) (used : ℕ) (ns : List ℕ) : Type 0 where
-  pub same : length l₁ ≡ length l
-  pub spills : length l < used → length l < length ns
-  pub fits : used ≤ length l → (length ns ≤ length l) × (used ≡ length ns) × (l₁ ≡ sets l 0 ns)
-
-pub used-by : (ps : List (List ℕ)) (l l₁ : List ℕ) (used : ℕ) (ns : List ℕ) → together ps ≡ ns → filled l₁ used ≡ appendAll ps (filled l 0) → Used l l₁ used ns
-used-by ps l l₁ used ns same e =
-    subst (Used l l₁ used) same
-    (record {
-      same = ap (λ (o : Filled). length (o .holds)) e ∙ all-length ps (filled l 0);
-      spills = λ h. spill h (decLe (length (together ps)) (length l));
-      fits = λ h. fit h (decLe (length (together ps)) (length l));
-    })
-  where
-    start : 0 + length (together ps) ≡ length (together ps)
-    start = zero-add (length (together ps))
-
-    all : length (together ps) ≤ length l → filled l₁ used ≡ filled (sets l 0 (together ps)) (length (together ps))
-    all h = e ∙ all-fit ps (filled l 0) (omega (arith, h)) ∙ ap (filled (sets l 0 (together ps))) start
-
-    spill : length l < used → Dec (length (together ps) ≤ length l) → length l < length (together ps)
-    spill h (yes k) = absurd (omega (arith, h, k, ap (λ (o : Filled). o .used) (all k)))
-    spill h (no k) = omega (arith, k)
-
-    fit : used ≤ length l → Dec (length (together ps) ≤ length l) → (length (together ps) ≤ length l) × (used ≡ length (together ps)) × (l₁ ≡ sets l 0 (together ps))
-    fit h (yes k) = (k, ap (λ (o : Filled). o .used) (all k), ap (λ (o : Filled). o .holds) (all k))
-    fit h (no k) = absurd (omega (arith, h, ap (λ (o : Filled). o .used) e, all-full ps (filled l 0) (omega arith) (omega (arith, k))))
 
 -- ---- the matches that have a partner
 
@@ -241,13 +183,9 @@ module _ (m : Tables) where
 
 -- ---- the diagnostics
 
-together-map : (ds : List Diag) → together (map diagBlock ds) ≡ each diagBlock ds
-together-map [] = refl
-together-map (d ∷ ds) = ap (λ (r : List ℕ). diagBlock d ++ r) (together-map ds)
-
 pub note-blocks : (ms : List Match) → together (notePieces ms) ≡ each diagBlock (diagsMatched ms)
 unfolding notePieces
-note-blocks ms = together-map (diagsMatched ms)
+note-blocks ms = each-map (λ (p : List ℕ). p) diagBlock (diagsMatched ms)
 
 pub notes-length : (ds : List Diag) → length (each diagBlock ds) ≡ length ds * 4
 unfolding diagBlock

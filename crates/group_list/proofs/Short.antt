@@ -1,22 +1,23 @@
 -- The lengths that composing relies on: no feature of a match has a prefix of more than ten names, and no name more than 63 bytes. Assumes nothing.
 use mathlib.Core.Bool.{Bool, true, false, _&&_}
 use mathlib.Core.Option.{Option, none, some}
-use mathlib.Core.Path.{_≡_, sym, subst}
-use mathlib.Core.List.{List, [], _∷_}
-use Prim.Native.Nat.{ℕ, suc, _+_, _*_, _/_, _≤_, _<_}
+use mathlib.Core.Path.{_≡_, sym, ap, subst, _∙_}
+use mathlib.Core.List.{List, [], _∷_, map}
+use Prim.Native.Nat.{ℕ, zero, suc, _+_, _*_, _/_, _≤_, _<_}
+use native.Mathlib.Nat.{zero-add, add-zero}
 use native.Mathlib.Omega.{arith}
 use native.Mathlib.Decide.{decLt}
 use lib.Dec.{T, leb, leb→le}
-use lib.ListN.{length, take, drop, List·getD-eq-default}
-use Rattle.as5506.specs.Lists.{keep, firstOf, upTo, allOf, sameBytes}
-use Rattle.as5506.specs.Tables.{Tables, missing, present, Ref, ref, letterN, letterU, count, nStart, nLength, nameIn, xCount, source, destination, eClassifier, xFeat}
+use lib.ListN.{length, getD, take, drop, List·getD-eq-default}
+use Rattle.as5506.specs.Lists.{keep, firstOf, span, upTo, allOf, sameBytes}
+use Rattle.as5506.specs.Tables.{Tables, missing, present, Ref, ref, letterN, letterU, letterE, count, nStart, nLength, nameIn, xCount, source, destination, eClassifier, xFeat}
 use Rattle.as5506.specs.Names.{nameByte, goodName, key}
 use Rattle.as5506.specs.Resolve.{Resolved, componentType, componentImpl, groupType, unresolved}
 use Rattle.as5506.specs.Groups.{Feature, Expansion, depthLimit, expandFeatureGroup, expand}
 use Rattle.as5506.specs.GroupList.{isGroupFeature, typeOf, declaredGroup, askingPackage, classifierBy, declaredBy, typedBy, endpointBy, endpoint, isGroupConnection, endComponent, GroupConnection, groupConnection, groupConnections, partner, Match, matchesBy, matches}
 use Rattle.as5506.specs.Refusals.{accepted}
 use Rattle.as5506.proofs.Laws.{All, all-of, all-each, all-keep, all-mapped, and-left, and-right}
-use Rattle.links.specs.Links.{Linked, linkOf}
+use Rattle.links.specs.Links.{Linked, linkOf, nestedLink, extendsLink, inverseLink}
 use Rattle.links.specs.Walk.{groupsIn}
 use Rattle.links.proofs.Range.{expansion-short}
 use Rattle.links.proofs.Walk.{linked}
@@ -34,14 +35,39 @@ ShortGroup (some x) = All ShortFeature (x .features)
 abbrev ShortEnds : GroupConnection → Type 0
 ShortEnds b = ShortGroup (b .srcGroup) × ShortGroup (b .dstGroup)
 
+-- ---- the tables of links that the definition gives: every expansion is one over them
+
+row-link : (link : ℕ → ℕ) (i n j : ℕ) → j < n → getD (map link (span i n)) j 0 ≡ link (i + j)
+row-link link i zero j h = absurd (omega arith)
+row-link link i (suc n) zero h = ap link (sym (add-zero i))
+row-link link i (suc n) (suc j) h = let e : suc i + j ≡ i + suc j = omega arith in row-link link (suc i) n j (omega arith) ∙ ap link e
+
+module _ (m : Tables) where
+  abbrev nested : List ℕ
+  nested = map (nestedLink m) (upTo (count m letterE))
+
+  abbrev extends : List ℕ
+  extends = map (extendsLink m) (upTo (count m letterU))
+
+  abbrev inverse : List ℕ
+  inverse = map (inverseLink m) (upTo (count m letterU))
+
+  links : Linked m nested extends inverse
+  links =
+      record {
+        of-nested = λ e h. row-link (nestedLink m) 0 (count m letterE) e h ∙ ap (nestedLink m) (zero-add e);
+        of-extends = λ u h. row-link (extendsLink m) 0 (count m letterU) u h ∙ ap (extendsLink m) (zero-add u);
+        of-inverse = λ u h. row-link (inverseLink m) 0 (count m letterU) u h ∙ ap (inverseLink m) (zero-add u);
+      }
+
 -- ---- the groups of connections
 
-module _ (m : Tables) (ok : T (accepted m)) (nested extends inverse : List ℕ) (k : Linked m nested extends inverse) where
+module _ (m : Tables) (ok : T (accepted m)) where
   expand-short : (from name : ℕ) → All ShortFeature (expand m from name .features)
   unfolding expand expandFeatureGroup
   expand-short from name =
-      subst (λ (x : Expansion). All ShortFeature (x .features)) (linked m nested extends inverse k (facts m ok .few letterU) (suc depthLimit) from (ref missing name missing) false [])
-      (expansion-short (groupsIn (m .e) nested extends inverse) (linkOf m from (ref missing name missing)) false)
+      subst (λ (x : Expansion). All ShortFeature (x .features)) (linked m (nested m) (extends m) (inverse m) (links m) (facts m ok .few letterU) (suc depthLimit) from (ref missing name missing) false [])
+      (expansion-short (groupsIn (m .e) (nested m) (extends m) (inverse m)) (linkOf m from (ref missing name missing)) false)
 
   classifier-short : (b : Bool) (c : ℕ) (r : Ref) → ShortGroup (classifierBy b m c r)
   unfolding classifierBy
@@ -126,18 +152,18 @@ all-short : (ps : List Pair) → All Short ps → AllShort ps
 all-short [] t = tt
 all-short (p ∷ ps) t = (t .0, all-short ps (t .1))
 
-pub pairs-short : (m : Tables) → T (accepted m) → (nested extends inverse : List ℕ) → Linked m nested extends inverse → AllShort (pairsOf (matches m (groupConnections m)))
+pub pairs-short : (m : Tables) → T (accepted m) → AllShort (pairsOf (matches m (groupConnections m)))
 unfolding pairsOf
-pairs-short m ok nested extends inverse k =
+pairs-short m ok =
     all-short (pairsOf (matches m (groupConnections m)))
     (all-each ShortMatch Short (λ (p : Match). pairBy (p .connection) (p .feature) (p .partner)) (λ p h. pair-short (p .connection) (p .feature) (p .partner) (h .0) (h .1)) (matches m (groupConnections m))
-    (matches-short m (groupConnections m) (connections-short m ok nested extends inverse k)))
+    (matches-short m (groupConnections m) (connections-short m ok)))
 
 -- ---- names
 
-good-short : (s : List ℕ) → T (goodName s) → length s ≤ 63
+good-length : (s : List ℕ) → T (goodName s) → length s ≤ 63
 unfolding goodName
-good-short s t = leb→le (length s) 63 (and-left (leb (length s) 63) (allOf nameByte s) (and-right (leb 1 (length s)) (leb (length s) 63 && allOf nameByte s) t))
+good-length s t = leb→le (length s) 63 (and-left (leb (length s) 63) (allOf nameByte s) (and-right (leb 1 (length s)) (leb (length s) 63 && allOf nameByte s) t))
 
 -- past the table a name has no bytes
 past-short : (bytes n : List ℕ) (k : ℕ) → length n / 2 ≤ k → length (nameIn bytes n k) ≤ 63
@@ -150,5 +176,5 @@ pub names-short : (m : Tables) → T (accepted m) → ShortNames (m .bytes) (m .
 names-short m ok k = go (decLt k (count m letterN))
   where
     go : Dec (k < count m letterN) → length (nameIn (m .bytes) (m .n) k) ≤ 63
-    go (yes h) = good-short (nameIn (m .bytes) (m .n) k) (facts m ok .name-good k h)
+    go (yes h) = good-length (nameIn (m .bytes) (m .n) k) (facts m ok .name-good k h)
     go (no h) = past-short (m .bytes) (m .n) k (omega (arith, h))

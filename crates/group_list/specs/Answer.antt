@@ -1,11 +1,10 @@
 -- What the call answers, and what its outputs hold. Assumes nothing.
 use mathlib.Core.Path.{_≡_}
 use mathlib.Core.List.{List}
-use Prim.Native.Nat.{ℕ, _≤_}
+use Prim.Native.Nat.{ℕ}
 use lib.ListN.{length}
-use lib.Seq.{sets}
 use Rattle.as5506.specs.Tables.{Tables}
-use Rattle.as5506.specs.Answers.{Answer, given, refused, nowhere, refusal, told}
+use Rattle.as5506.specs.Answers.{Answer, given, refused, told}
 use Rattle.as5506.specs.GroupList.{groupConnections}
 use Rattle.as5506.specs.Listing.{GroupList, groupOf, groupAnswer}
 use Rattle.as5506.specs.Layout.{roomIn, groupRowNumbers, groupDiagNumbers, composedNames, output}
@@ -28,19 +27,6 @@ pub record GroupListedInto (m : Tables) (rows names diags : List ℕ) (z : Group
   pub written-names : names′ ≡ output (length names) composedNames (answerFor m rows names diags)
   pub written-diagnostics : diags′ ≡ output (length diags) groupDiagNumbers (answerFor m rows names diags)
 
--- a refusal that has no place
-abbrev pub refusedFor : ℕ → GroupListed
-refusedFor number = Refused (told (refusal number nowhere))
-
 -- of accepted tables
 abbrev pub answerOf : Tables → List ℕ → List ℕ → List ℕ → Answer GroupList
 answerOf m rows names diags = groupOf (roomIn (length rows) (length diags)) (length names) m (groupConnections m)
-
--- an output after an answer that is given: its numbers from the front, of which there are no more than places
-abbrev pub WroteInto : List ℕ → List ℕ → List ℕ → Type 0
-WroteInto ns out out′ = (length ns ≤ length out) × (out′ ≡ sets out 0 ns)
-
-unfoldable pub Wrote : Answer GroupList → List ℕ → List ℕ → List ℕ → List ℕ → List ℕ → List ℕ → Type 0
-Wrote (given g) rows names diags rows′ names′ diags′ =
-    WroteInto (groupRowNumbers g) rows rows′ × WroteInto (composedNames g) names names′ × WroteInto (groupDiagNumbers g) diags diags′
-Wrote (refused r) rows names diags rows′ names′ diags′ = Unit {0}

@@ -1,16 +1,28 @@
 // The group listing (instance.rs, `expand_feature_group_connections`) over the caller's tables and outputs.
 use as5506::DIAGNOSTIC_NUMBERS;
+use as5506::FEATURE_NUMBERS;
 use as5506::ROW_NUMBERS;
 use as5506::Refusal;
+use as5506::TABLE_ROWS;
+use group_match::CALM_NUMBERS;
 use group_match::Matched;
 use tables::Checked;
 ghost use mathlib.Core.Path.{_≡_};
+ghost use Prim.Native.Nat.{_*_, _/_, _≤_};
 ghost use lib.Dec.{T};
 ghost use lib.ListN.{length};
 ghost use Rattle.as5506.specs.Lists.{zeros};
 ghost use Rattle.as5506.specs.Tables.{tablesOf};
 ghost use Rattle.as5506.specs.Refusals.{accepted};
-ghost use Rattle.group_list.specs.Answer.{listed, answerFor, answerOf, GroupListedInto, refusedFor, Wrote};
+ghost use Rattle.as5506.specs.Layout.{groupRowNumbers, groupDiagNumbers, composedNames};
+ghost use Rattle.lent.specs.Answered.{AnswerIn};
+ghost use Rattle.group_match.specs.Matching.{MatchedInto};
+ghost use Rattle.group_list.specs.Answer.{listed, answerOf, GroupListedInto};
+
+// The names, and the group types or features, that the small room is enough for: all that the program conlist can read.
+const SMALL_NAMES: usize = 256;
+
+const SMALL_ROWS: usize = 96;
 
 // How many rows and diagnostics were written, or why none were.
 pub enum GroupListed {
@@ -18,16 +30,195 @@ pub enum GroupListed {
     Refused(Refusal),
 }
 
-// A refusal that has no place.
-fn refused(number: u32) -> GroupListed
-    ensures { λ z. ⌜ z ≡ refusedFor number ⌝ }
+// Matches the groups of all connections of accepted tables in room that is lent: for the links of E and U rows, for a feature and a number of each
+// name, and for what is known of visits. The last two are cleared for each walk, so no more of them is handed on than the tables have use for.
+fn match_in(
+    bytes: &[u8],
+    n: &[u32],
+    c: &[u32],
+    f: &[u32],
+    x: &[u32],
+    p: &[u32],
+    i: &[u32],
+    t: &[u32],
+    q: &[u32],
+    u: &[u32],
+    e: &[u32],
+    r: &[u32],
+    nested: &mut [u32],
+    extends: &mut [u32],
+    inverse: &mut [u32],
+    kept: &mut [u32],
+    memo: &mut [u32],
+    calm: &mut [u32],
+    rows: &mut [u32],
+    notes: &mut [u32],
+) -> Matched
+    requires { ⌜ T (accepted (tablesOf (now bytes) (now n) (now c) (now f) (now x) (now p) (now i) (now t) (now q) (now u) (now e) (now r))) ⌝ }
+    requires { ⌜ (length (now e) / 8 ≤ length (now nested)) × (length (now u) / 9 ≤ length (now extends)) × (length (now u) / 9 ≤ length (now inverse)) ⌝ }
+    requires { ⌜ (length (now n) / 2 ≤ length (now memo)) × (length (now memo) * 14 ≤ length (now kept)) × (length (now u) / 9 * 11 ≤ length (now calm)) ⌝ }
+    ensures { λ z. ⌜ MatchedInto
+        (tablesOf (now (bytes .entry)) (now (n .entry)) (now (c .entry)) (now (f .entry)) (now (x .entry)) (now (p .entry)) (now (i .entry)) (now (t .entry)) (now (q .entry)) (now (u .entry)) (now (e .entry)) (now (r .entry)))
+        (now (rows .entry)) (now (notes .entry)) z (now (rows .exit)) (now (notes .exit)) ⌝ }
 {
-    let reason = Refusal {
-        number: number,
-        place: 0,
-        letter: 45,
-    };
-    GroupListed::Refused(reason)
+    links::link_groups(bytes, n, p, i, t, q, u, e, r, nested, extends, inverse);
+    let names = n.len() / 2;
+    let places = u.len() / 9 * CALM_NUMBERS;
+    group_match::match_connections(
+        bytes,
+        n,
+        c,
+        f,
+        x,
+        p,
+        i,
+        t,
+        q,
+        u,
+        e,
+        r,
+        nested,
+        extends,
+        inverse,
+        kept,
+        &mut memo[..names],
+        &mut calm[..places],
+        rows,
+        notes,
+    )
+}
+
+// Matches them in the small room.
+fn match_small(
+    bytes: &[u8],
+    n: &[u32],
+    c: &[u32],
+    f: &[u32],
+    x: &[u32],
+    p: &[u32],
+    i: &[u32],
+    t: &[u32],
+    q: &[u32],
+    u: &[u32],
+    e: &[u32],
+    r: &[u32],
+    rows: &mut [u32],
+    notes: &mut [u32],
+) -> Matched
+    requires { ⌜ T (accepted (tablesOf (now bytes) (now n) (now c) (now f) (now x) (now p) (now i) (now t) (now q) (now u) (now e) (now r))) ⌝ }
+    requires { ⌜ (length (now n) / 2 ≤ 256) × (length (now u) / 9 ≤ 96) × (length (now e) / 8 ≤ 96) ⌝ }
+    ensures { λ z. ⌜ MatchedInto
+        (tablesOf (now (bytes .entry)) (now (n .entry)) (now (c .entry)) (now (f .entry)) (now (x .entry)) (now (p .entry)) (now (i .entry)) (now (t .entry)) (now (q .entry)) (now (u .entry)) (now (e .entry)) (now (r .entry)))
+        (now (rows .entry)) (now (notes .entry)) z (now (rows .exit)) (now (notes .exit)) ⌝ }
+{
+    let mut nested = [0u32; SMALL_ROWS];
+    let mut extends = [0u32; SMALL_ROWS];
+    let mut inverse = [0u32; SMALL_ROWS];
+    let mut kept = [0u32; SMALL_NAMES * FEATURE_NUMBERS];
+    let mut memo = [0u32; SMALL_NAMES];
+    let mut calm = [0u32; SMALL_ROWS * CALM_NUMBERS];
+    match_in(
+        bytes,
+        n,
+        c,
+        f,
+        x,
+        p,
+        i,
+        t,
+        q,
+        u,
+        e,
+        r,
+        &mut nested,
+        &mut extends,
+        &mut inverse,
+        &mut kept,
+        &mut memo,
+        &mut calm,
+        rows,
+        notes,
+    )
+}
+
+// Matches them in room for all tables that are accepted.
+fn match_large(
+    bytes: &[u8],
+    n: &[u32],
+    c: &[u32],
+    f: &[u32],
+    x: &[u32],
+    p: &[u32],
+    i: &[u32],
+    t: &[u32],
+    q: &[u32],
+    u: &[u32],
+    e: &[u32],
+    r: &[u32],
+    rows: &mut [u32],
+    notes: &mut [u32],
+) -> Matched
+    requires { ⌜ T (accepted (tablesOf (now bytes) (now n) (now c) (now f) (now x) (now p) (now i) (now t) (now q) (now u) (now e) (now r))) ⌝ }
+    ensures { λ z. ⌜ MatchedInto
+        (tablesOf (now (bytes .entry)) (now (n .entry)) (now (c .entry)) (now (f .entry)) (now (x .entry)) (now (p .entry)) (now (i .entry)) (now (t .entry)) (now (q .entry)) (now (u .entry)) (now (e .entry)) (now (r .entry)))
+        (now (rows .entry)) (now (notes .entry)) z (now (rows .exit)) (now (notes .exit)) ⌝ }
+{
+    let mut nested = [0u32; TABLE_ROWS];
+    let mut extends = [0u32; TABLE_ROWS];
+    let mut inverse = [0u32; TABLE_ROWS];
+    let mut kept = [0u32; TABLE_ROWS * FEATURE_NUMBERS];
+    let mut memo = [0u32; TABLE_ROWS];
+    let mut calm = [0u32; TABLE_ROWS * CALM_NUMBERS];
+    match_in(
+        bytes,
+        n,
+        c,
+        f,
+        x,
+        p,
+        i,
+        t,
+        q,
+        u,
+        e,
+        r,
+        &mut nested,
+        &mut extends,
+        &mut inverse,
+        &mut kept,
+        &mut memo,
+        &mut calm,
+        rows,
+        notes,
+    )
+}
+
+// Matches them in the small room where it is enough: all of a room is set to zeros before it is used.
+fn match_all(
+    bytes: &[u8],
+    n: &[u32],
+    c: &[u32],
+    f: &[u32],
+    x: &[u32],
+    p: &[u32],
+    i: &[u32],
+    t: &[u32],
+    q: &[u32],
+    u: &[u32],
+    e: &[u32],
+    r: &[u32],
+    rows: &mut [u32],
+    notes: &mut [u32],
+) -> Matched
+    requires { ⌜ T (accepted (tablesOf (now bytes) (now n) (now c) (now f) (now x) (now p) (now i) (now t) (now q) (now u) (now e) (now r))) ⌝ }
+    ensures { λ z. ⌜ MatchedInto
+        (tablesOf (now (bytes .entry)) (now (n .entry)) (now (c .entry)) (now (f .entry)) (now (x .entry)) (now (p .entry)) (now (i .entry)) (now (t .entry)) (now (q .entry)) (now (u .entry)) (now (e .entry)) (now (r .entry)))
+        (now (rows .entry)) (now (notes .entry)) z (now (rows .exit)) (now (notes .exit)) ⌝ }
+{
+    if n.len() / 2 <= SMALL_NAMES && u.len() / 9 <= SMALL_ROWS && e.len() / 8 <= SMALL_ROWS {
+        return match_small(bytes, n, c, f, x, p, i, t, q, u, e, r, rows, notes);
+    }
+    match_large(bytes, n, c, f, x, p, i, t, q, u, e, r, rows, notes)
 }
 
 // Lists the group connections of accepted tables: first the matches, in the places of their rows; where there is room for all, their names. On a
@@ -51,65 +242,28 @@ pub fn list_accepted(
 ) -> GroupListed
     requires { ⌜ T (accepted (tablesOf (now bytes) (now n) (now c) (now f) (now x) (now p) (now i) (now t) (now q) (now u) (now e) (now r))) ⌝ }
     ensures { λ z. ⌜ z ≡ listed (answerOf (tablesOf (now (bytes .entry)) (now (n .entry)) (now (c .entry)) (now (f .entry)) (now (x .entry)) (now (p .entry)) (now (i .entry)) (now (t .entry)) (now (q .entry)) (now (u .entry)) (now (e .entry)) (now (r .entry))) (now (rows .entry)) (now (names .entry)) (now (diagnostics .entry))) ⌝ }
-    ensures { λ _. ⌜ Wrote (answerOf (tablesOf (now (bytes .entry)) (now (n .entry)) (now (c .entry)) (now (f .entry)) (now (x .entry)) (now (p .entry)) (now (i .entry)) (now (t .entry)) (now (q .entry)) (now (u .entry)) (now (e .entry)) (now (r .entry))) (now (rows .entry)) (now (names .entry)) (now (diagnostics .entry)))
-        (now (rows .entry)) (now (names .entry)) (now (diagnostics .entry)) (now (rows .exit)) (now (names .exit)) (now (diagnostics .exit)) ⌝ }
+    ensures { λ _. ⌜ AnswerIn groupRowNumbers (answerOf (tablesOf (now (bytes .entry)) (now (n .entry)) (now (c .entry)) (now (f .entry)) (now (x .entry)) (now (p .entry)) (now (i .entry)) (now (t .entry)) (now (q .entry)) (now (u .entry)) (now (e .entry)) (now (r .entry))) (now (rows .entry)) (now (names .entry)) (now (diagnostics .entry)))
+        (now (rows .entry)) (now (rows .exit)) ⌝ }
+    ensures { λ _. ⌜ AnswerIn composedNames (answerOf (tablesOf (now (bytes .entry)) (now (n .entry)) (now (c .entry)) (now (f .entry)) (now (x .entry)) (now (p .entry)) (now (i .entry)) (now (t .entry)) (now (q .entry)) (now (u .entry)) (now (e .entry)) (now (r .entry))) (now (rows .entry)) (now (names .entry)) (now (diagnostics .entry)))
+        (now (names .entry)) (now (names .exit)) ⌝ }
+    ensures { λ _. ⌜ AnswerIn groupDiagNumbers (answerOf (tablesOf (now (bytes .entry)) (now (n .entry)) (now (c .entry)) (now (f .entry)) (now (x .entry)) (now (p .entry)) (now (i .entry)) (now (t .entry)) (now (q .entry)) (now (u .entry)) (now (e .entry)) (now (r .entry))) (now (rows .entry)) (now (names .entry)) (now (diagnostics .entry)))
+        (now (diagnostics .entry)) (now (diagnostics .exit)) ⌝ }
 {
-    let mut nested = [0u32; 4096];
-    let mut extends = [0u32; 4096];
-    let mut inverse = [0u32; 4096];
-    let mut kept = [0u32; 57344];
-    let mut memo = [0u32; 4096];
-    let mut calm = [0u32; 45056];
-    links::link_groups(
-        bytes,
-        n,
-        p,
-        i,
-        t,
-        q,
-        u,
-        e,
-        r,
-        &mut nested,
-        &mut extends,
-        &mut inverse,
-    );
-    let matched = group_match::match_connections(
-        bytes,
-        n,
-        c,
-        f,
-        x,
-        p,
-        i,
-        t,
-        q,
-        u,
-        e,
-        r,
-        &nested,
-        &extends,
-        &inverse,
-        &mut kept,
-        &mut memo,
-        &mut calm,
-        rows,
-        diagnostics,
-    );
+    let matched = match_all(bytes, n, c, f, x, p, i, t, q, u, e, r, rows, diagnostics);
     match matched {
-        Matched::Over => refused(13),
+        Matched::Over => GroupListed::Refused(as5506::unplaced(13)),
         Matched::Done(tally) => {
             let noted = tally.noted;
             if rows.len() < tally.used {
-                return refused(11);
+                return GroupListed::Refused(as5506::unplaced(11));
             }
             let count = tally.used / ROW_NUMBERS;
             let used = group_names::compose_names(bytes, n, x, rows, count, names);
             if names.len() < used {
-                return refused(14);
+                return GroupListed::Refused(as5506::unplaced(14));
             }
             if diagnostics.len() < noted {
-                return refused(12);
+                return GroupListed::Refused(as5506::unplaced(12));
             }
             GroupListed::Rows(count, noted / DIAGNOSTIC_NUMBERS)
         }

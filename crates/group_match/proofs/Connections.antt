@@ -2,21 +2,20 @@
 use mathlib.Core.Bool.{Bool, true, false, not, _||_}
 use mathlib.Core.Path.{_≡_, refl, sym, ap, ap₂, _∙_}
 use mathlib.Core.Option.{Option, none, some}
-use mathlib.Core.List.{List, [], _∷_, _++_}
-use Prim.Native.Nat.{ℕ, _<_, _≤_}
+use mathlib.Core.List.{List, [], _++_}
+use Prim.Native.Nat.{ℕ, _<_}
 use native.Mathlib.Omega.{arith}
 use borrow.Author.Tests.{not-true, not-false}
 use lib.Dec.{T}
-use Rattle.as5506.specs.Lists.{keep, firstOf, each, when, has}
-use Rattle.as5506.specs.Tables.{Tables, letterC, letterX, letterU, count, nameOf, rowsNaming, childrenOf, Side, source, destination, xCount, xOwner, xSub, xFeat, present}
-use Rattle.as5506.specs.Names.{key, bracket}
-use Rattle.as5506.specs.Tracing.{isNamed, isElement, orElements, foundChildren, named}
+use Rattle.as5506.specs.Lists.{firstOf, each, when}
+use Rattle.as5506.specs.Tables.{Tables, letterC, letterX, nameOf, Side, source, destination, xCount, xOwner, xSub, xFeat, present}
+use Rattle.as5506.specs.Names.{key}
+use Rattle.as5506.specs.Tracing.{named}
 use Rattle.as5506.specs.Groups.{Expansion}
 use Rattle.as5506.specs.Refusals.{accepted}
 use Rattle.as5506.specs.GroupList.{isGroupConnection, endComponentBy, endComponent, GroupConnection, groupConnection, groupOverrun, Match, partner, matchesBy, endpoint}
+use Rattle.lent.specs.Lent.{namesIn, wiringIn}
 use Rattle.tables.proofs.Facts.{facts}
-use Rattle.sink.specs.Take.{namesIn}
-use Rattle.trace.specs.Steps.{tracingIn}
 use Rattle.trace.proofs.Seen.{seen as seenBy, found-seen}
 use Rattle.children.specs.declared.Child.{Child}
 use Rattle.endpoint.specs.Ends.{componentOf}
@@ -50,9 +49,6 @@ module _ (m : Tables) where
     pub row-below : (x : ℕ) → x < xCount m → x < 4096
     row-below x h = omega (arith, h, facts m ok .few letterX)
 
-    pub few-types : count m letterU ≤ 4096
-    few-types = facts m ok .few letterU
-
   -- ---- rows that add nothing
 
   nothing-by : (b : Bool) (x : ℕ) → connectionAt m x ≡ [] → each (connectionAt m) (when b x) ≡ []
@@ -70,7 +66,7 @@ module _ (m : Tables) where
     adds-nothing e = sym (ap (λ (bs : List GroupConnection). afterAll m bs l) e)
 
     -- it is no group connection; r is the code's test
-    pub row-other : (r : Bool) → r ≡ isGroupConnection (tracingIn [] [] [] (m .x)) x → not r ≡ true → l ≡ afterAll m (connectionsAt m x) l
+    pub row-other : (r : Bool) → r ≡ isGroupConnection (wiringIn [] [] [] (m .x)) x → not r ≡ true → l ≡ afterAll m (connectionsAt m x) l
     unfolding connectionsAt isGroupConnection
     row-other r e q = adds-nothing (ap (λ (b : Bool). each (connectionAt m) (when b x)) (sym e ∙ not-true r q))
 
@@ -98,7 +94,7 @@ module _ (m : Tables) where
   after-names b (lists rows notes) =
       ap (λ (ms : List Match). afterBy (groupOverrun (b .srcGroup) || groupOverrun (b .dstGroup)) ms rows notes) (matches-names b (b .srcGroup) (b .dstGroup))
 
-  pub row-matched : (x : ℕ) (l : Lists) (r : Bool) → r ≡ isGroupConnection (tracingIn [] [] [] (m .x)) x → not r ≡ false
+  pub row-matched : (x : ℕ) (l : Lists) (r : Bool) → r ≡ isGroupConnection (wiringIn [] [] [] (m .x)) x → not r ≡ false
       → (a b : ℕ) → endComponent m source x ≡ some a → endComponent m destination x ≡ some b
       → (f g : ℕ) → f ≡ xFeat m source x → g ≡ xFeat m destination x
       → (s d : Option Expansion) → s ≡ endpoint m a f → d ≡ endpoint m b g

@@ -3,18 +3,17 @@ use mathlib.Core.Bool.{Bool, true, false}
 use mathlib.Core.Path.{_≡_, refl}
 use mathlib.Core.Option.{Option}
 use mathlib.Core.List.{List, [], _∷_, map}
-use Prim.Native.Nat.{ℕ, zero, suc, _+_, _*_, _≤_, _<_}
+use Prim.Native.Nat.{ℕ, zero, suc, _+_, _≤_, _<_}
 use native.Mathlib.Omega.{arith}
 use lib.Dec.{eqb}
-use lib.ListN.{length, getD, set, length-set, length-append}
+use lib.ListN.{length, getD, set, length-set}
 use borrow.Author.Tests.{eqb-true, eqb-false}
 use Rattle.as5506.specs.Lists.{keep, putIf, firstOf}
-use Rattle.as5506.specs.Groups.{Feature, depthLimit}
-use Rattle.as5506.specs.Layout.{featureNumbers, featureBlock}
+use Rattle.as5506.specs.Groups.{Feature}
+use Rattle.as5506.specs.Layout.{featureBlock}
 use Rattle.as5506.proofs.Laws.{All}
-use Rattle.lent.specs.Append.{append, appendAll, together}
+use Rattle.lent.specs.Append.{append, appendAll}
 use Rattle.lent.proofs.Sets.{placed}
-use Rattle.lent.proofs.Padded.{padded-length}
 use Rattle.sink.specs.declared.Purpose.the-variants.{First}
 use Rattle.sink.specs.Take.{Held, firstBy, taken}
 use Rattle.group_walk.specs.Run.{takeAll}
@@ -99,17 +98,6 @@ module _ (P : Feature → Type 0) where
   all-firsts (f ∷ fs) memo t =
       all-by (eqb (getD memo (f .name) 0) 0) f (firsts (set memo (f .name) 1) fs) (firsts memo fs) (t .0)
       (all-firsts fs (set memo (f .name) 1) (t .1)) (all-firsts fs memo (t .1))
-
--- ---- the length of their blocks
-
-pub block-length : (f : Feature) → length (f .prefix) ≤ depthLimit → length (featureBlock f) ≡ featureNumbers
-unfolding featureBlock
-block-length f h = omega (arith, padded-length depthLimit (f .prefix) h)
-
-pub blocks-length : (fs : List Feature) → All (λ f. length (f .prefix) ≤ depthLimit) fs → length (together (map featureBlock fs)) ≡ length fs * featureNumbers
-blocks-length [] t = refl
-blocks-length (f ∷ fs) t =
-    omega (arith, length-append (featureBlock f) (together (map featureBlock fs)), block-length f (t .0), blocks-length fs (t .1))
 
 -- ---- the first feature whose name passes a test is one of them
 

@@ -14,13 +14,14 @@ use Rattle.as5506.specs.GroupList.{GroupConnection, groupOverrun, matchesBy, di
 use Rattle.as5506.specs.Layout.{featureNumbers}
 use Rattle.as5506.proofs.Laws.{All, missing-is, present-is}
 use Rattle.lent.specs.Append.{Filled, filled, appendAll}
+use Rattle.lent.specs.Lent.{namesIn}
 use Rattle.links.specs.Links.{linkOf, Linked}
 use Rattle.links.specs.Walk.{Groups, groupsIn, visitLink}
 use Rattle.links.proofs.Walk.{link-there, linked}
 use Rattle.sink.specs.declared.Tally.{Tally}
 use Rattle.sink.specs.declared.Purpose.{Purpose}
 use Rattle.sink.specs.declared.Purpose.the-variants.{Count, First, Match as Matches}
-use Rattle.sink.specs.Take.{Held, held, namesIn, taken, Ready}
+use Rattle.sink.specs.Take.{Held, held, taken, Ready}
 use Rattle.group_walk.specs.declared.Walked.{Walked}
 use Rattle.group_walk.specs.declared.Walked.the-variants.{Over as WalkedOver, Done as WalkedDone}
 use Rattle.group_walk.specs.Run.{Take, going, run, stateOf}

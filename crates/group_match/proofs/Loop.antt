@@ -56,7 +56,8 @@ module _ (m : Tables) where
   all-after [] cs l = refl
   all-after (b ∷ bs) cs l = all-after bs cs (after m b l)
 
-  all-over : (bs : List GroupConnection) → afterAll m bs over ≡ over
+  -- an end that has too many visits is told, whatever comes after
+  pub all-over : (bs : List GroupConnection) → afterAll m bs over ≡ over
   unfolding afterAll after
   all-over [] = refl
   all-over (b ∷ bs) = all-over bs

@@ -8,24 +8,26 @@ use native.Mathlib.Omega.{arith}
 use native.Mathlib.Nat.{zero-add, add-zero}
 use lib.ListN.{length, getD, take, drop, length-replicate}
 use lib.Seq.{sets, sets-eq, getD-drop, drop-drop, take-at, drop-at}
-use Rattle.as5506.specs.Lists.{span, keep, putIf, firstOf, upTo, zeros, sameBytes}
+use Rattle.as5506.specs.Lists.{span, keep, putIf, firstOf, upTo, each, zeros, sameBytes}
 use Rattle.as5506.specs.Tables.{Tables}
 use Rattle.as5506.specs.Names.{key}
 use Rattle.as5506.specs.Groups.{Feature, Expansion, depthLimit}
 use Rattle.as5506.specs.GroupList.{GroupConnection, Match, partner, matchesBy, matchDiag, diagsMatched}
 use Rattle.as5506.specs.Rows.{Diag}
 use Rattle.as5506.specs.Layout.{featureNumbers, featureBlock, diagBlock}
-use Rattle.as5506.proofs.Laws.{All, all-map}
+use Rattle.as5506.proofs.Laws.{All, all-map, each-map}
 use Rattle.lent.specs.Append.{Filled, filled, append, appendAll, together}
 use Rattle.lent.proofs.Append.{all-fit}
 use Rattle.lent.proofs.Sets.{getD-zeros}
+use Rattle.lent.specs.Lent.{namesIn}
 use Rattle.sink.specs.declared.Purpose.the-variants.{Count, Match as Matches}
-use Rattle.sink.specs.Take.{Held, namesIn, keptName, partnerOf, matchBlock, matchBy, taken, Remembered, Memory, Ready}
+use Rattle.sink.specs.Take.{Held, keptName, partnerOf, matchBlock, matchBy, taken, Remembered, Memory, Ready}
+use Rattle.sink.proofs.Blocks.{block-length, blocks-length}
 use Rattle.group_walk.specs.Run.{Take, takeAll}
 use Rattle.group_match.specs.Matching.{between, matchPiece, matchPieces, notePieces}
 use Rattle.group_match.specs.Prepared.{Leaves}
 use Rattle.group_match.proofs.Range.{Fine}
-use Rattle.group_match.proofs.Firsts.{firsts, named, firsts-few, all-firsts, block-length, blocks-length, first-of-firsts}
+use Rattle.group_match.proofs.Firsts.{firsts, named, firsts-few, all-firsts, first-of-firsts}
 
 -- ---- a search of the blocks
 
@@ -52,11 +54,11 @@ module _ (kept : List ℕ) where
 
     -- the blocks of ds stand in `kept` from place i on
     scan : (ds : List Feature) (i : ℕ) (rest : List ℕ) → All (λ d. length (d .prefix) ≤ depthLimit) ds
-        → drop (i * featureNumbers) kept ≡ together (map featureBlock ds) ++ rest → Agrees (firstOf (keep test (span i (length ds)))) (named p ds)
+        → drop (i * featureNumbers) kept ≡ each featureBlock ds ++ rest → Agrees (firstOf (keep test (span i (length ds)))) (named p ds)
     scan [] i rest t q = tt
     scan (d ∷ ds) i rest t q =
-        let after : List ℕ = together (map featureBlock ds) ++ rest in
-        let e : drop (i * 14) kept ≡ featureBlock d ++ after = q ∙ append-assoc (featureBlock d) (together (map featureBlock ds)) rest in
+        let after : List ℕ = each featureBlock ds ++ rest in
+        let e : drop (i * 14) kept ≡ featureBlock d ++ after = q ∙ append-assoc (featureBlock d) (each featureBlock ds) rest in
         let n : keptName kept i ≡ d .name =
         ap (λ (k : ℕ). getD kept k 0) (sym (add-zero (i * 14))) ∙ sym (getD-drop (i * 14) kept 0 0) ∙ ap (λ (l : List ℕ). getD l 0 0) e ∙ block-name d after in
         let w : take 14 (drop (i * 14) kept) ≡ featureBlock d = ap (take 14) e ∙ take-at (featureBlock d) after 14 (block-length d (t .0)) in
@@ -73,7 +75,10 @@ module _ (size used : ℕ) (ds : List Feature) (fine : All (Fine size) ds) (kept
   gs = firsts (zeros size) ds
 
   abbrev blocks : List ℕ
-  blocks = together (map featureBlock gs)
+  blocks = each featureBlock gs
+
+  one : together (map featureBlock gs) ≡ blocks
+  one = each-map (λ (p : List ℕ). p) featureBlock gs
 
   short : All (λ d. length (d .prefix) ≤ depthLimit) gs
   short =
@@ -87,7 +92,8 @@ module _ (size used : ℕ) (ds : List Feature) (fine : All (Fine size) ds) (kept
   fits = omega (arith, blocks-length gs short, few, room)
 
   whole : filled kept used ≡ filled (sets kept₀ 0 blocks) (0 + length blocks)
-  whole = wrote ∙ all-fit (map featureBlock gs) (filled kept₀ 0) (omega (arith, fits))
+  whole =
+      wrote ∙ all-fit (map featureBlock gs) (filled kept₀ 0) (omega (arith, fits, ap length one)) ∙ ap (λ (l : List ℕ). filled (sets kept₀ 0 l) (0 + length l)) one
 
   kept-count : used / featureNumbers ≡ length gs
   kept-count =

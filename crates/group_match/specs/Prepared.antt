@@ -9,7 +9,8 @@ use Rattle.as5506.specs.Tables.{Tables}
 use Rattle.as5506.specs.Groups.{Expansion}
 use Rattle.as5506.specs.GroupList.{Match, groupOverrun, matchesBy}
 use Rattle.lent.specs.Append.{appendAll}
-use Rattle.sink.specs.Take.{Held, namesIn, taken, Ready}
+use Rattle.lent.specs.Lent.{namesIn}
+use Rattle.sink.specs.Take.{Held, taken, Ready}
 use Rattle.group_walk.specs.Run.{Take, takeAll}
 use Rattle.group_match.specs.declared.Prepared.{Prepared}
 use Rattle.group_match.specs.declared.Prepared.the-variants.{Over, For}

@@ -20,14 +20,18 @@ ghost use lib.ListN.{length};
 ghost use Rattle.as5506.specs.Lists.{zeros};
 ghost use Rattle.as5506.specs.Tables.{Tables, tablesOf};
 ghost use Rattle.as5506.specs.Refusals.{accepted};
-ghost use Rattle.as5506.specs.GroupList.{groupConnections, endpoint as theEndpoint};
+ghost use Rattle.as5506.specs.GroupList.{endpoint as theEndpoint};
 ghost use Rattle.lent.specs.Append.{filled};
+ghost use Rattle.lent.specs.Lent.{namesIn};
 ghost use Rattle.links.specs.Links.{Linked};
 ghost use Rattle.links.specs.Walk.{groupsIn, visitLink};
-ghost use Rattle.sink.specs.Take.{namesIn, held, taken, Ready};
+ghost use Rattle.sink.specs.Take.{held, taken, Ready};
 ghost use Rattle.group_walk.specs.Run.{going, run, stateOf};
-ghost use Rattle.group_match.specs.Matching.{groupAt, between, lists, after, afterAll, connectionsAt, listsOf, Workplace};
+ghost use Rattle.group_match.specs.Matching.{groupAt, between, lists, after, afterAll, connectionsAt, listsOf, MatchedInto, Workplace};
 ghost use Rattle.group_match.specs.Prepared.{Prepares};
+
+// How many numbers of `calm` a group type takes.
+pub const CALM_NUMBERS: usize = LEVELS;
 
 // The outputs of matches and diagnostics as far as they are used; or an end with too many visits.
 pub enum Matched {
@@ -351,7 +355,8 @@ fn match_connection(
     )
 }
 
-// Matches the groups of all connections. The links are those of the tables; `kept`, `memo` and `calm` are room to work in.
+// Matches the groups of all connections. The links are those of the tables; `kept`, `memo` and `calm` are room to work in, and the last two are
+// cleared for each walk.
 pub fn match_connections(
     bytes: &[u8],
     n: &[u32],
@@ -377,10 +382,9 @@ pub fn match_connections(
     requires { ⌜ T (accepted (tablesOf (now bytes) (now n) (now c) (now f) (now x) (now p) (now i) (now t) (now q) (now u) (now e) (now r))) ⌝ }
     requires { ⌜ Linked (tablesOf (now bytes) (now n) (now c) (now f) (now x) (now p) (now i) (now t) (now q) (now u) (now e) (now r)) (now nested) (now extends) (now inverse) ⌝ }
     requires { ⌜ (length (now n) / 2 ≤ length (now memo)) × (length (now memo) ≤ 4096) × (length (now memo) * 14 ≤ length (now kept)) ⌝ }
-    ensures { λ z. ⌜ listsOf z (now (rows .exit)) (now (notes .exit))
-        ≡ afterAll (tablesOf (now (bytes .entry)) (now (n .entry)) (now (c .entry)) (now (f .entry)) (now (x .entry)) (now (p .entry)) (now (i .entry)) (now (t .entry)) (now (q .entry)) (now (u .entry)) (now (e .entry)) (now (r .entry)))
-        (groupConnections (tablesOf (now (bytes .entry)) (now (n .entry)) (now (c .entry)) (now (f .entry)) (now (x .entry)) (now (p .entry)) (now (i .entry)) (now (t .entry)) (now (q .entry)) (now (u .entry)) (now (e .entry)) (now (r .entry))))
-        (lists (filled (now (rows .entry)) 0) (filled (now (notes .entry)) 0)) ⌝ }
+    ensures { λ z. ⌜ MatchedInto
+        (tablesOf (now (bytes .entry)) (now (n .entry)) (now (c .entry)) (now (f .entry)) (now (x .entry)) (now (p .entry)) (now (i .entry)) (now (t .entry)) (now (q .entry)) (now (u .entry)) (now (e .entry)) (now (r .entry)))
+        (now (rows .entry)) (now (notes .entry)) z (now (rows .exit)) (now (notes .exit)) ⌝ }
 {
     let count = x.len() / 7;
     let mut tally = Tally { used: 0, noted: 0 };

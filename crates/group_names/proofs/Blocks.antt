@@ -10,16 +10,12 @@ use Rattle.as5506.specs.Lists.{zeros, padded}
 use Rattle.as5506.specs.Groups.{Feature}
 use Rattle.as5506.specs.GroupList.{connectionKind}
 use Rattle.as5506.specs.Layout.{rowBlock, featureBlock}
-use Rattle.lent.proofs.Padded.{padded-length}
 use Rattle.sink.specs.Take.{matchBlock}
+use Rattle.sink.proofs.Blocks.{block-length}
 use Rattle.group_names.specs.Compose.{Pair, pairBlock, Short}
 use Rattle.group_names.specs.Pieces.{prefixLength, featureBack, pairBack, blockWith}
 
 module _ (f : Feature) (h : length (f .prefix) ≤ 10) where
-  pub feature-length : length (featureBlock f) ≡ 14
-  unfolding featureBlock
-  feature-length = omega (arith, padded-length 10 (f .prefix) h)
-
   prefix-back : (rest : List ℕ) → take (min 10 (length (f .prefix))) (padded 10 (f .prefix) ++ rest) ≡ f .prefix
   unfolding padded
   prefix-back rest =
@@ -36,7 +32,7 @@ module _ (p : Pair) (h : Short p) where
   pair-length =
       let s : List ℕ = featureBlock (p .feature) in
       let d : List ℕ = featureBlock (p .partner) in
-      omega (arith, length-append (s ++ d) (zeros 18), length-append s d, feature-length (p .feature) (h .0), feature-length (p .partner) (h .1), length-replicate {A = ℕ} 18 0)
+      omega (arith, length-append (s ++ d) (zeros 18), length-append s d, block-length (p .feature) (h .0), block-length (p .partner) (h .1), length-replicate {A = ℕ} 18 0)
 
   pub pair-back : (rest : List ℕ) → pairBack (pairBlock p ++ rest) ≡ p
   unfolding pairBack pairBlock matchBlock
@@ -47,7 +43,7 @@ module _ (p : Pair) (h : Short p) where
       ap₂ (λ (f g : Feature). record { conn = p .conn; src = p .src; dst = p .dst; feature = f; partner = g })
       (ap featureBack parts ∙ feature-back (p .feature) (h .0) (d ++ (zeros 18 ++ rest)))
       (ap (λ (l : List ℕ). featureBack (drop 14 l)) parts
-      ∙ ap featureBack (drop-at s (d ++ (zeros 18 ++ rest)) 14 (feature-length (p .feature) (h .0)))
+      ∙ ap featureBack (drop-at s (d ++ (zeros 18 ++ rest)) 14 (block-length (p .feature) (h .0)))
       ∙ feature-back (p .partner) (h .1) (zeros 18 ++ rest))
 
 -- ---- a feature's names in the rows
@@ -91,9 +87,9 @@ row-is : (conn kind src dst a b c : ℕ) → sets (zeros 49) 0 (conn ∷ kind �
 unfolding padded
 row-is conn kind src dst a b c = refl
 
-pub block-length : (p : Pair) (a b c : ℕ) → length (blockWith p a b c) ≡ 49
+pub row-numbers : (p : Pair) (a b c : ℕ) → length (blockWith p a b c) ≡ 49
 unfolding blockWith padded
-block-length p a b c = refl
+row-numbers p a b c = refl
 
 module _ (rows : List ℕ) (place conn kind k src dst a b c : ℕ) where
   block-is : conn ≡ getD rows place 0 → k ≡ getD rows (place + 3 + 1) 0 → kind ≡ connectionKind k → src ≡ getD rows (place + 1) 0

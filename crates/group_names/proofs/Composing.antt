@@ -15,11 +15,12 @@ use Rattle.as5506.specs.Layout.{groupBlock}
 use Rattle.lent.specs.Append.{Filled, filled, append, appendAll, together}
 use Rattle.lent.proofs.Sets.{sets-append, sets-behind}
 use Rattle.lent.proofs.Append.{all-length, all-bound, all-append, all-fit, all-full}
-use Rattle.group_names.specs.Compose.{connectionsIn, Pair, pairBlock, pairRows, rowsOfPairs, AllShort, Holds, ShortNames, Composed}
+use Rattle.group_names.specs.Compose.{Pair, pairBlock, pairRows, rowsOfPairs, AllShort, Holds, ShortNames, Composed}
 use Rattle.group_names.specs.Pieces.{dotPieces, joinedPieces, featureNames, ownPieces, sourcePieces, partnerPieces, pairPieces, featureBack, pairBack, blockWith}
 use Rattle.as5506.proofs.Laws.{each-append}
+use Rattle.lent.specs.Lent.{connectionsIn}
 use Rattle.group_names.proofs.Names.{joined-short, pair-block, pairs-names}
-use Rattle.group_names.proofs.Blocks.{pair-length, pair-back, prefix-short, block-length}
+use Rattle.group_names.proofs.Blocks.{pair-length, pair-back, prefix-short, row-numbers}
 
 -- ---- pieces that are all written
 
@@ -151,7 +152,7 @@ module _ (bytes n x rows : List ℕ) (place : ℕ) (h : ShortNames bytes n) wher
 -- ---- the loop over the matches
 
 row-length : (m : Tables) (p : Pair) → length (each groupBlock (pairRows m p)) ≡ 49
-row-length m p = ap length (pair-block m p) ∙ block-length p (length (together (ownPieces m p))) (length (together (sourcePieces m p))) (length (together (partnerPieces m p)))
+row-length m p = ap length (pair-block m p) ∙ row-numbers p (length (together (ownPieces m p))) (length (together (sourcePieces m p))) (length (together (partnerPieces m p)))
 
 -- of the matches ps, those from place i on are still to be composed
 pub record Left (m : Tables) (ps : List Pair) (rows₀ names₀ : List ℕ) (count : ℕ) (rows names : List ℕ) (used i : ℕ) : Type 0 where

@@ -6,17 +6,13 @@ use Prim.Native.Nat.{ℕ, _+_, _*_, _≤_, _<_}
 use lib.ListN.{length, take}
 use lib.Seq.{sets}
 use Rattle.as5506.specs.Lists.{each}
-use Rattle.as5506.specs.Tables.{Tables, tablesOf, nameIn}
+use Rattle.as5506.specs.Tables.{Tables, nameIn}
 use Rattle.as5506.specs.Groups.{Feature, depthLimit}
 use Rattle.as5506.specs.Rows.{Row}
 use Rattle.as5506.specs.GroupList.{matchRow}
 use Rattle.as5506.specs.Listing.{rowNames}
 use Rattle.as5506.specs.Layout.{rowNumbers, featureBlock, groupBlock}
 use Rattle.sink.specs.Take.{matchBlock}
-
--- tables that have names and connections only
-abbrev pub connectionsIn : List ℕ → List ℕ → List ℕ → Tables
-connectionsIn bytes n x = tablesOf bytes n [] [] x [] [] [] [] [] [] []
 
 -- a match: a connection, its two components, a source feature and its partner
 pub record Pair : Type 0 where

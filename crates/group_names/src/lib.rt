@@ -4,7 +4,7 @@ use lent::append_bytes;
 use lent::number_at;
 ghost use mathlib.Core.Path.{_≡_};
 ghost use mathlib.Core.List.{List};
-ghost use Prim.Native.Nat.{ℕ, _+_, _*_, _≤_};
+ghost use Prim.Native.Nat.{_+_, _*_, _≤_};
 ghost use lib.ListN.{length, drop};
 ghost use lib.Seq.{sets};
 ghost use Rattle.as5506.specs.Lists.{each};
@@ -12,7 +12,8 @@ ghost use Rattle.as5506.specs.Tables.{nameIn};
 ghost use Rattle.as5506.specs.GroupList.{connectionKind};
 ghost use Rattle.as5506.specs.Layout.{groupBlock};
 ghost use Rattle.lent.specs.Append.{filled, append, appendAll};
-ghost use Rattle.group_names.specs.Compose.{connectionsIn, Pair, Holds, pairRows, ShortNames, Composed};
+ghost use Rattle.lent.specs.Lent.{connectionsIn};
+ghost use Rattle.group_names.specs.Compose.{Pair, Holds, pairRows, ShortNames, Composed};
 ghost use Rattle.group_names.specs.Pieces.{dotPieces, joinedPieces, featureNames, pairPieces, prefixLength, featureBack, pairBack, blockWith};
 
 // The places of a match: connection, two components, the source feature's block, its partner's.

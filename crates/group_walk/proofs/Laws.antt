@@ -15,8 +15,9 @@ use Rattle.as5506.specs.Tables.{missing, present, eHolder, eHolderKind, eName, 
 use Rattle.as5506.specs.Groups.{Feature, Expansion, joined, oneVisit, oneFeature, turned}
 use Rattle.as5506.proofs.Laws.{missing-is, present-is}
 use Rattle.as5506.proofs.Scans.{keep-hit, keep-miss, keep-done, keep-both}
+use Rattle.lent.specs.Lent.{declaredIn}
 use Rattle.links.specs.Links.{unfound}
-use Rattle.links.specs.Walk.{Groups, declaredIn, Visit, featureAt, rowBy, walk, rowsIn, extendedBy, typeBy, foundBy, visitLink}
+use Rattle.links.specs.Walk.{Groups, Visit, featureAt, rowBy, walk, rowsIn, extendedBy, typeBy, foundBy, visitLink}
 use Rattle.sink.specs.declared.Tally.{Tally}
 use Rattle.sink.specs.Take.{Held, held}
 use Rattle.group_walk.specs.declared.Walked.{Walked}
@@ -259,13 +260,13 @@ module _ (does : Take) (g : Groups) (visit : Visit) (inverse : Bool) (prefix : L
 
 -- whether E row i is one
 abbrev pub ofGroup : List ℕ → ℕ → ℕ → Bool
-ofGroup e u i = eqb (eHolder (declaredIn e) i) u && eqb (eHolderKind (declaredIn e) i) 1
+ofGroup e u i = eqb (eHolder (declaredIn [] [] e) i) u && eqb (eHolderKind (declaredIn [] [] e) i) 1
 
-pub not-of : (e : List ℕ) (u i v : ℕ) → v ≡ eHolder (declaredIn e) i → (v ≡ u → ⊥) → false ≡ ofGroup e u i
-not-of e u i v a q = rw (ne-eqb (eHolder (declaredIn e) i) u (λ z. q (a ∙ z)))
+pub not-of : (e : List ℕ) (u i v : ℕ) → v ≡ eHolder (declaredIn [] [] e) i → (v ≡ u → ⊥) → false ≡ ofGroup e u i
+not-of e u i v a q = rw (ne-eqb (eHolder (declaredIn [] [] e) i) u (λ z. q (a ∙ z)))
 
-pub of-by : (e : List ℕ) (u i v w : ℕ) → v ≡ eHolder (declaredIn e) i → v ≡ u → w ≡ getD e (i * 8) 0 → eqb w 1 ≡ ofGroup e u i
-of-by e u i v w a q b = rw (eq-eqb (eHolder (declaredIn e) i) u (sym a ∙ q), add-zero (i * 8), b)
+pub of-by : (e : List ℕ) (u i v w : ℕ) → v ≡ eHolder (declaredIn [] [] e) i → v ≡ u → w ≡ getD e (i * 8) 0 → eqb w 1 ≡ ofGroup e u i
+of-by e u i v w a q b = rw (eq-eqb (eHolder (declaredIn [] [] e) i) u (sym a ∙ q), add-zero (i * 8), b)
 
 -- those from row i on
 unfoldable pub rowsFrom : List ℕ → ℕ → ℕ → List ℕ
@@ -274,13 +275,13 @@ rowsFrom e u i = keep (ofGroup e u) (span i (length e / 8 - i))
 -- the one test after the other
 pub rows-start : (g : Groups) (u : ℕ) → rowsFrom (g .e) u 0 ≡ rowsIn g u
 unfolding rowsFrom rowsNaming
-rows-start g u = rw sub-zero (sym (keep-both (λ i. eqb (eHolderKind (declaredIn (g .e)) i) 1) (λ i. eqb (eHolder (declaredIn (g .e)) i) u) (span 0 (length (g .e) / 8))))
+rows-start g u = rw sub-zero (sym (keep-both (λ i. eqb (eHolderKind (declaredIn [] [] (g .e)) i) 1) (λ i. eqb (eHolder (declaredIn [] [] (g .e)) i) u) (span 0 (length (g .e) / 8))))
 
 -- ---- a walk over them, row by row
 
 -- the feature of a row, from the numbers that the code reads
-pub feature-is : (e : List ℕ) (inverse : Bool) (prefix : List ℕ) (i name kind direction now : ℕ) → name ≡ eName (declaredIn e) i → kind ≡ eKind (declaredIn e) i
-    → direction ≡ eDirection (declaredIn e) i → now ≡ turned inverse direction → record { name = name; kind = kind; direction = now; prefix = prefix } ≡ featureAt e inverse prefix i
+pub feature-is : (e : List ℕ) (inverse : Bool) (prefix : List ℕ) (i name kind direction now : ℕ) → name ≡ eName (declaredIn [] [] e) i → kind ≡ eKind (declaredIn [] [] e) i
+    → direction ≡ eDirection (declaredIn [] [] e) i → now ≡ turned inverse direction → record { name = name; kind = kind; direction = now; prefix = prefix } ≡ featureAt e inverse prefix i
 feature-is e inverse prefix i name kind direction now a b c d = rw (a, b, d, c)
 
 pub prefix-more : (p : List ℕ) (len x : ℕ) → len < length p → take (len + 1) (set p len x) ≡ take len p ++ x ∷ []
@@ -316,7 +317,7 @@ module _ (does : Take) (g : Groups) (visit : Visit) (inverse : Bool) (prefix : L
         unfolding rowBy
         row-listed m l a d = sym (row-taken ∙ rw (missing-is to to refl m, run-feature does (featureAt (g .e) inverse prefix i) h k l, ← d))
 
-        module _ (m : to ≡ missing → ⊥) (longer : List ℕ) (more : longer ≡ prefix ++ eName (declaredIn (g .e)) i ∷ [])
+        module _ (m : to ≡ missing → ⊥) (longer : List ℕ) (more : longer ≡ prefix ++ eName (declaredIn [] [] (g .e)) i ∷ [])
             (r : Walked) (memo out notes : List ℕ) (e : stateOf r memo out notes ≡ run does (going h k) (visit to inverse longer)) where
           row-nested : here ≡ onFrom (run does (going h k) (visit to inverse longer)) (i + 1)
           unfolding rowBy

@@ -4,7 +4,6 @@ use mathlib.Core.List.{List, [], _∷_}
 use Prim.Native.Nat.{ℕ, _+_}
 use lib.Dec.{leb}
 use Rattle.as5506.specs.Groups.{Feature, Expansion}
-use Rattle.sink.specs.declared.Tally.{Tally}
 use Rattle.sink.specs.Take.{Held, held}
 use Rattle.group_walk.specs.declared.Walked.{Walked}
 use Rattle.group_walk.specs.declared.Walked.the-variants.{Over, Done}

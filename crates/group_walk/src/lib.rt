@@ -11,12 +11,14 @@ use sink::Purpose;
 use sink::Tally;
 ghost use mathlib.Core.Bool.{_&&_};
 ghost use mathlib.Core.Path.{_≡_};
-ghost use Prim.Native.Nat.{ℕ, _+_, _*_, _/_, _<_, _≤_};
+ghost use mathlib.Core.List.{[]};
+ghost use Prim.Native.Nat.{_+_, _*_, _/_, _<_, _≤_};
 ghost use lib.Dec.{eqb};
 ghost use lib.ListN.{length, getD, take};
 ghost use Rattle.as5506.specs.Tables.{eHolder, eHolderKind, present};
 ghost use Rattle.as5506.specs.Groups.{turned};
-ghost use Rattle.links.specs.Walk.{groupsIn, declaredIn, rowsIn, walk, typeBy, visitLink};
+ghost use Rattle.lent.specs.Lent.{declaredIn};
+ghost use Rattle.links.specs.Walk.{groupsIn, rowsIn, walk, typeBy, visitLink};
 ghost use Rattle.sink.specs.Take.{held, taken, Ready};
 ghost use Rattle.sink.specs.Dull.{Dull};
 ghost use Rattle.group_walk.specs.Run.{going, run, stateOf};
@@ -50,7 +52,7 @@ fn turn(inverse: bool, direction: u32) -> u32
 // Whether E row i is a feature of group type `row`.
 fn belongs(e: &[u32], row: u32, i: usize) -> bool
     requires { ⌜ i < length (now e) / 8 ⌝ }
-    ensures { λ z. ⌜ z ≡ eqb (eHolder (declaredIn (now (e .entry))) i) row && eqb (eHolderKind (declaredIn (now (e .entry))) i) 1 ⌝ }
+    ensures { λ z. ⌜ z ≡ eqb (eHolder (declaredIn [] [] (now (e .entry))) i) row && eqb (eHolderKind (declaredIn [] [] (now (e .entry))) i) 1 ⌝ }
 {
     let place = i * 8;
     if number_at(e, place + 1) != row {

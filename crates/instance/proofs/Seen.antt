@@ -1,15 +1,12 @@
 -- Tracing sees four tables: with the other tables the definition gives the same. Assumes nothing.
-use mathlib.Core.Bool.{Bool, true, false}
 use mathlib.Core.Path.{_≡_, refl, ap, ap₂}
-use mathlib.Core.List.{List, [], _∷_, map}
+use mathlib.Core.List.{List, map}
 use Prim.Native.Nat.{ℕ}
-use Rattle.as5506.specs.Lists.{upTo, keep, each, has}
-use Rattle.as5506.specs.Tables.{Tables, present, Side, source, destination, nameOf, rowsNaming, cParent, childrenOf, connectionsOf, xCount, xOwner, xSub}
-use Rattle.as5506.specs.Names.{bracket}
+use Rattle.as5506.specs.Lists.{upTo, keep, each}
+use Rattle.as5506.specs.Tables.{Tables, present, Side, source, destination, nameOf, rowsNaming, cParent, connectionsOf, xCount, xOwner, xSub}
 use Rattle.as5506.specs.Rows.{Diag}
-use Rattle.as5506.specs.Tracing.{isNamed, isElement, orElements, foundChildren, Step, Chain, leads, stepTo, stepsOver, steps, chainsBy, chains, Shape, faulty, across, upward, downward, neither, shape, named, oneToOne, Start, child, owner, Pair, pairAcross, pairUp, pairDown, pairsAcross, pairsEdge, pairsBy, pairs, Traced, rowOf, reach, pairRows, rowsAt, traced, diagsBy, diagsAt, tracedDiags}
+use Rattle.as5506.specs.Tracing.{foundChildren, Step, Chain, leads, stepTo, stepsOver, steps, chainsBy, chains, Shape, faulty, across, upward, downward, neither, shape, named, oneToOne, Start, child, owner, Pair, pairAcross, pairUp, pairDown, pairsAcross, pairsEdge, pairsBy, pairs, Traced, rowOf, reach, pairRows, rowsAt, traced, diagsBy, diagsAt, tracedDiags}
 use Rattle.as5506.proofs.Laws.{all-of, each-same}
-use Rattle.trace.specs.Steps.{tracingIn}
 use Rattle.trace.proofs.Seen.{seen as seenBy, found-seen}
 
 module _ (m : Tables) where

@@ -1,12 +1,11 @@
--- What the call answers, and what its outputs hold before a refusal clears them. Assumes nothing.
+-- What the call answers, and what its outputs hold. Assumes nothing.
 use mathlib.Core.Logic.{_↔_}
 use mathlib.Core.Path.{_≡_}
 use mathlib.Core.List.{List}
-use Prim.Native.Nat.{ℕ, _≤_}
+use Prim.Native.Nat.{ℕ}
 use lib.ListN.{length}
-use lib.Seq.{sets}
 use Rattle.as5506.specs.Tables.{Tables}
-use Rattle.as5506.specs.Answers.{Answer, given, refused, nowhere, refusal, told}
+use Rattle.as5506.specs.Answers.{Answer, given, refused, told}
 use Rattle.as5506.specs.Tracing.{unlimited, stepLimit}
 use Rattle.as5506.specs.Followed.{NoneHasNext}
 use Rattle.as5506.specs.Listing.{TracedList, tracedAnswer}
@@ -26,18 +25,8 @@ answerFor m rows diags = tracedAnswer (roomIn (length rows) (length diags)) m
 -- THE CONTRACT: a call on the tables m with the outputs `rows` and `diags` answers z and leaves rows′ and diags′ in them. The last field is demand
 -- 3: the rows counted and handed back, with the bytes of their three names, are the rows without a limit exactly when no followed chain has a
 -- twenty-first step
-pub record ListedInto (m : Tables) (rows diags : List ℕ) (z : Listed) (rows′ diags′ : List ℕ) : Type 0 where
+pub record TracedInto (m : Tables) (rows diags : List ℕ) (z : Listed) (rows′ diags′ : List ℕ) : Type 0 where
   pub answer : z ≡ listed (answerFor m rows diags)
   pub written-rows : rows′ ≡ output (length rows) (tracedRowNumbers m) (answerFor m rows diags)
   pub written-diagnostics : diags′ ≡ output (length diags) tracedDiagNumbers (answerFor m rows diags)
   pub step-limit : (k d : ℕ) → z ≡ Rows k d → (rowsBack m k rows′ ≡ unlimited m) ↔ NoneHasNext stepLimit m
-
--- a refusal that has no place
-abbrev pub refusedFor : ℕ → Listed
-refusedFor number = Refused (told (refusal number nowhere))
-
--- the outputs after an answer that is given: its numbers from the front, of which there are no more than places
-unfoldable pub Wrote : Tables → Answer TracedList → List ℕ → List ℕ → List ℕ → List ℕ → Type 0
-Wrote m (given l) rows diags rows′ diags′ =
-    (length (tracedRowNumbers m l) ≤ length rows) × (rows′ ≡ sets rows 0 (tracedRowNumbers m l)) × (length (tracedDiagNumbers l) ≤ length diags) × (diags′ ≡ sets diags 0 (tracedDiagNumbers l))
-Wrote m (refused r) rows diags rows′ diags′ = Unit {0}

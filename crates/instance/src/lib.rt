@@ -1,7 +1,9 @@
 // The traced listing (instance.rs, `compute_semantic_connections`) over the caller's tables and outputs.
 ghost use mathlib.Core.Path.{_≡_};
 ghost use Rattle.as5506.specs.Tables.{tablesOf};
-ghost use Rattle.instance.specs.Answer.{listed, answerFor, ListedInto, refusedFor, Wrote as Outputs};
+ghost use Rattle.as5506.specs.Layout.{tracedRowNumbers, tracedDiagNumbers};
+ghost use Rattle.lent.specs.Answered.{AnswerIn};
+ghost use Rattle.instance.specs.Answer.{listed, answerFor, TracedInto};
 use as5506::Refusal;
 use tables::Checked;
 use trace::Wrote;
@@ -10,18 +12,6 @@ use trace::Wrote;
 pub enum Listed {
     Rows(usize, usize),
     Refused(Refusal),
-}
-
-// A refusal that has no place.
-fn refused(number: u32) -> Listed
-    ensures { λ z. ⌜ z ≡ refusedFor number ⌝ }
-{
-    let reason = Refusal {
-        number: number,
-        place: 0,
-        letter: 45,
-    };
-    Listed::Refused(reason)
 }
 
 // Checks the tables, then writes the rows and the diagnostics of all connections. On a refusal the outputs hold anything.
@@ -42,16 +32,17 @@ fn list(
     diagnostics: &mut [u32],
 ) -> Listed
     ensures { λ z. ⌜ z ≡ listed (answerFor (tablesOf (now (bytes .entry)) (now (n .entry)) (now (c .entry)) (now (f .entry)) (now (x .entry)) (now (p .entry)) (now (i .entry)) (now (t .entry)) (now (q .entry)) (now (u .entry)) (now (e .entry)) (now (r .entry))) (now (rows .entry)) (now (diagnostics .entry))) ⌝ }
-    ensures { λ _. ⌜ Outputs (tablesOf (now (bytes .entry)) (now (n .entry)) (now (c .entry)) (now (f .entry)) (now (x .entry)) (now (p .entry)) (now (i .entry)) (now (t .entry)) (now (q .entry)) (now (u .entry)) (now (e .entry)) (now (r .entry))) (answerFor (tablesOf (now (bytes .entry)) (now (n .entry)) (now (c .entry)) (now (f .entry)) (now (x .entry)) (now (p .entry)) (now (i .entry)) (now (t .entry)) (now (q .entry)) (now (u .entry)) (now (e .entry)) (now (r .entry))) (now (rows .entry)) (now (diagnostics .entry))) (now (rows .entry)) (now (diagnostics .entry)) (now (rows .exit)) (now (diagnostics .exit)) ⌝ }
+    ensures { λ _. ⌜ AnswerIn (tracedRowNumbers (tablesOf (now (bytes .entry)) (now (n .entry)) (now (c .entry)) (now (f .entry)) (now (x .entry)) (now (p .entry)) (now (i .entry)) (now (t .entry)) (now (q .entry)) (now (u .entry)) (now (e .entry)) (now (r .entry)))) (answerFor (tablesOf (now (bytes .entry)) (now (n .entry)) (now (c .entry)) (now (f .entry)) (now (x .entry)) (now (p .entry)) (now (i .entry)) (now (t .entry)) (now (q .entry)) (now (u .entry)) (now (e .entry)) (now (r .entry))) (now (rows .entry)) (now (diagnostics .entry))) (now (rows .entry)) (now (rows .exit)) ⌝ }
+    ensures { λ _. ⌜ AnswerIn tracedDiagNumbers (answerFor (tablesOf (now (bytes .entry)) (now (n .entry)) (now (c .entry)) (now (f .entry)) (now (x .entry)) (now (p .entry)) (now (i .entry)) (now (t .entry)) (now (q .entry)) (now (u .entry)) (now (e .entry)) (now (r .entry))) (now (rows .entry)) (now (diagnostics .entry))) (now (diagnostics .entry)) (now (diagnostics .exit)) ⌝ }
 {
     if let Checked::Refused(reason) = tables::check_tables(bytes, n, c, f, x, p, i, t, q, u, e, r) {
         return Listed::Refused(reason);
     }
     let Wrote::Count(k) = semantic::trace_connections(bytes, n, c, x, rows) else {
-        return refused(11);
+        return Listed::Refused(as5506::unplaced(11));
     };
     let Wrote::Count(d) = semantic::diagnose_connections(bytes, n, c, x, diagnostics) else {
-        return refused(12);
+        return Listed::Refused(as5506::unplaced(12));
     };
     Listed::Rows(k, d)
 }
@@ -73,7 +64,7 @@ pub fn compute_semantic_connections(
     rows: &mut [u32],
     diagnostics: &mut [u32],
 ) -> Listed
-    ensures { λ z. ⌜ ListedInto
+    ensures { λ z. ⌜ TracedInto
         (tablesOf (now (bytes .entry)) (now (n .entry)) (now (c .entry)) (now (f .entry)) (now (x .entry)) (now (p .entry)) (now (i .entry)) (now (t .entry)) (now (q .entry)) (now (u .entry)) (now (e .entry)) (now (r .entry)))
         (now (rows .entry)) (now (diagnostics .entry)) z (now (rows .exit)) (now (diagnostics .exit)) ⌝ }
 {

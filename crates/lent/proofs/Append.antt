@@ -3,7 +3,7 @@ use mathlib.Core.Bool.{Bool, true, false}
 use mathlib.Core.Path.{_≡_, refl, sym, ap, subst, _∙_}
 use mathlib.Core.List.{List, [], _∷_, _++_}
 use Prim.Native.Nat.{ℕ, _+_, _≤_, _<_}
-use native.Mathlib.Nat.{add-zero}
+use native.Mathlib.Nat.{add-zero, zero-add}
 use native.Mathlib.Omega.{arith}
 use native.Mathlib.Decide.{decLe}
 use borrow.Author.Tests.{le-leb, lt-leb}
@@ -23,6 +23,10 @@ append-fits p o h = ap (λ (b : Bool). appendBy b p o) (le-leb _ _ h)
 pub append-full : (p : List ℕ) (o : Filled) → length (o .holds) < o .used + length p → append p o ≡ filled (o .holds) (length (o .holds) + 1)
 unfolding append appendBy
 append-full p o h = ap (λ (b : Bool). appendBy b p o) (lt-leb _ _ h)
+
+-- an output that is full stays so
+pub append-past : (p l : List ℕ) (used : ℕ) → length l < used → filled l (length l + 1) ≡ append p (filled l used)
+append-past p l used h = sym (append-full p (filled l used) (omega (arith, h)))
 
 append-by-length : (b : Bool) (p : List ℕ) (o : Filled) → length (appendBy b p o .holds) ≡ length (o .holds)
 unfolding appendBy
@@ -91,3 +95,31 @@ all-full (p ∷ ps) o b h =
     let k : length (p ++ together ps) ≡ length p + length (together ps) = length-append p (together ps) in
     let then : length (o .holds) < append p o .used + length (together ps) = past p o (length (together ps)) (omega (arith, h, k)) in
     all-full ps (append p o) (rw (append-length p o) (append-bound p o)) (rw (append-length p o) then) ∙ ap (λ (n : ℕ). n + 1) (append-length p o)
+
+-- ---- pieces written from the front of an output, and how much of it is used then
+
+-- l is the output before, l₁ after, ns the pieces as one
+pub record Used (l l₁ : List ℕ) (used : ℕ) (ns : List ℕ) : Type 0 where
+  pub same : length l₁ ≡ length l
+  pub spills : length l < used → length l < length ns
+  pub fits : used ≤ length l → (length ns ≤ length l) × (used ≡ length ns) × (l₁ ≡ sets l 0 ns)
+
+pub used-by : (ps : List (List ℕ)) (l l₁ : List ℕ) (used : ℕ) (ns : List ℕ) → together ps ≡ ns → filled l₁ used ≡ appendAll ps (filled l 0) → Used l l₁ used ns
+used-by ps l l₁ used ns one e =
+    subst (Used l l₁ used) one
+    (record {
+      same = ap (λ (o : Filled). length (o .holds)) e ∙ all-length ps (filled l 0);
+      spills = λ h. spill h (decLe (length (together ps)) (length l));
+      fits = λ h. fit h (decLe (length (together ps)) (length l));
+    })
+  where
+    all : length (together ps) ≤ length l → filled l₁ used ≡ filled (sets l 0 (together ps)) (length (together ps))
+    all h = e ∙ all-fit ps (filled l 0) (omega (arith, h)) ∙ ap (filled (sets l 0 (together ps))) (zero-add (length (together ps)))
+
+    spill : length l < used → Dec (length (together ps) ≤ length l) → length l < length (together ps)
+    spill h (yes k) = absurd (omega (arith, h, k, ap (λ (o : Filled). o .used) (all k)))
+    spill h (no k) = omega (arith, k)
+
+    fit : used ≤ length l → Dec (length (together ps) ≤ length l) → (length (together ps) ≤ length l) × (used ≡ length (together ps)) × (l₁ ≡ sets l 0 (together ps))
+    fit h (yes k) = (k, ap (λ (o : Filled). o .used) (all k), ap (λ (o : Filled). o .holds) (all k))
+    fit h (no k) = absurd (omega (arith, h, ap (λ (o : Filled). o .used) e, all-full ps (filled l 0) (omega arith) (omega (arith, k))))

@@ -1,14 +1,13 @@
--- Laws of `padded n vs`, the list vs and then zeros up to the length n: what a slice holds that was cleared and then written block after block.
--- Assumes nothing.
+-- Laws of `padded n vs`, the list vs and then zeros up to the length n: what a slice holds that was cleared and then written block after block. Its
+-- length is `padded-length` of as5506's Laws. Assumes nothing.
 use mathlib.Core.Path.{_≡_, refl, sym, ap, _∙_}
 use mathlib.Core.List.{List, [], _∷_, _++_}
 use Prim.Native.Nat.{ℕ, zero, suc, _-_, _≤_}
 use native.Mathlib.Nat.{zero-add, sub-zero}
 use native.Mathlib.Omega.{arith}
 use lib.ListN.{length, take, drop, getD, length-replicate, length-append}
-use lib.Seq.{sets, sets-eq, take-append-seam, drop-append-seam}
+use lib.Seq.{sets, sets-eq, take-append-seam}
 use Rattle.as5506.specs.Lists.{zeros, padded}
-use Rattle.as5506.proofs.Output.{padded-length as as5506-padded-length}
 use Rattle.lent.proofs.Sets.{sets-append, getD-zeros, drop-zeros}
 
 -- nothing written yet
@@ -31,19 +30,10 @@ padded-put n vs ws h =
     ∙ sym (sets-append vs ws (zeros n) 0)
     ∙ padded-is n (vs ++ ws) h
 
--- the length, where the list fits
-pub padded-length : (n : ℕ) (vs : List ℕ) → length vs ≤ n → length (padded n vs) ≡ n
-padded-length n vs h = as5506-padded-length n vs h
-
 -- the list, read back
 pub padded-front : (n : ℕ) (vs : List ℕ) → take (length vs) (padded n vs) ≡ vs
 unfolding padded
 padded-front n vs = take-append-seam vs (zeros (n - length vs))
-
--- behind it, zeros
-pub padded-behind : (n : ℕ) (vs : List ℕ) → drop (length vs) (padded n vs) ≡ zeros (n - length vs)
-unfolding padded
-padded-behind n vs = drop-append-seam vs (zeros (n - length vs))
 
 -- a place holds what the list has there, and past the list 0
 pub padded-at : (n : ℕ) (vs : List ℕ) (i : ℕ) → getD (padded n vs) i 0 ≡ getD vs i 0

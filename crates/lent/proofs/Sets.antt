@@ -3,11 +3,11 @@
 use mathlib.Core.Path.{_≡_, refl, sym, ap, _∙_}
 use mathlib.Core.List.{List, [], _∷_, _++_, append-assoc, append-nil}
 use Prim.Native.Nat.{ℕ, zero, suc, _+_, _-_, _≤_, _<_}
-use native.Mathlib.Nat.{add-zero, add-suc, suc-add, zero-add, not-suc-le-zero, le-of-suc-le-suc, sub-zero, zero-sub, suc-sub-suc}
+use native.Mathlib.Nat.{add-zero, add-suc, suc-add, not-suc-le-zero, le-of-suc-le-suc, sub-zero, zero-sub, suc-sub-suc}
 use native.Mathlib.Numerals.{add-one}
 use native.Mathlib.Omega.{arith}
 use lib.ListN.{length, take, drop, getD, set, length-set, drop-of-length-le}
-use lib.Seq.{sets, sets-eq, drop-cons, set-out, getD-set-same, getD-set-other, take-set-le, drop-set-lt, take-append-seam, drop-at, take-nil, length-take-le}
+use lib.Seq.{sets, sets-eq, length-sets, drop-cons, set-out, getD-set-same, getD-set-other, take-set-le, drop-set-lt, take-append-seam, drop-at, length-take-le}
 use Rattle.as5506.specs.Lists.{zeros}
 
 -- ---- writing
@@ -31,6 +31,11 @@ sets-past (v ∷ vs) l i h = rw (set-out l i v h) (sets-past vs l (suc i) (omega
 pub sets-whole : (vs l : List ℕ) → length vs ≡ length l → sets l 0 vs ≡ vs
 sets-whole vs l e =
     sets-eq vs l 0 (omega arith) ∙ ap (λ (r : List ℕ). vs ++ r) (drop-of-length-le l {i = 0 + length vs} (omega arith)) ∙ append-nil vs
+
+-- a block written past the first number leaves it
+pub sets-past-head : (vs l : List ℕ) (x i : ℕ) → sets (x ∷ l) (suc i) vs ≡ x ∷ sets l i vs
+sets-past-head [] l x i = refl
+sets-past-head (v ∷ vs) l x i = sets-past-head vs (set l i v) x (suc i)
 
 -- ---- reading back
 
@@ -59,20 +64,18 @@ pub sets-behind : (vs l : List ℕ) (n i : ℕ) → i + length vs ≤ n → drop
 sets-behind [] l n i h = refl
 sets-behind (v ∷ vs) l n i h = sets-behind vs (set l i v) n (suc i) (omega arith) ∙ drop-set-lt n l i v (omega arith)
 
+-- a block written over another of its length
+pub sets-again : (vs ws l : List ℕ) → length vs ≡ length ws → length ws ≤ length l → sets (sets l 0 vs) 0 ws ≡ sets l 0 ws
+sets-again vs ws l e h =
+    sets-eq ws (sets l 0 vs) 0 (omega (arith, h, length-sets l 0 vs))
+    ∙ ap (λ (r : List ℕ). ws ++ r) (sets-behind vs l (0 + length ws) 0 (omega (arith, e)))
+    ∙ sym (sets-eq ws l 0 (omega (arith, h)))
+
 -- the block itself, read back as a part
 pub sets-block : (vs l : List ℕ) (i : ℕ) → i + length vs ≤ length l → take (length vs) (drop i (sets l i vs)) ≡ vs
 sets-block vs l i h =
     rw (sets-eq vs l i h, append-assoc (take i l) vs (drop (i + length vs) l))
     (rw (drop-at (take i l) (vs ++ drop (i + length vs) l) i (length-take-le i l (omega arith))) (take-append-seam vs (drop (i + length vs) l)))
-
--- a part before the block, read back
-pub sets-part-before : (vs l : List ℕ) (i j n : ℕ) → j + n ≤ i → take n (drop j (sets l i vs)) ≡ take n (drop j l)
-sets-part-before vs l i j n h = sym (part-of-take n j (sets l i vs)) ∙ ap (drop j) (sets-before vs l (j + n) i h) ∙ part-of-take n j l
-  where
-    part-of-take : (n j : ℕ) (l : List ℕ) → drop j (take (j + n) l) ≡ take n (drop j l)
-    part-of-take n zero l = rw (zero-add n)
-    part-of-take n (suc j) [] = rw (suc-add j n) (sym (take-nil n))
-    part-of-take n (suc j) (x ∷ l) = rw (suc-add j n) (part-of-take n j l)
 
 -- ---- zeros
 

@@ -1,4 +1,8 @@
 -- What the calls of this crate do beyond lib's lists.
 --
---     Append   pieces written one behind the other into an output, and how much of it is used
+--     Append     pieces written one behind the other into an output, and how much of it is used
+--     Answered   what an output holds after an answer, before a refusal clears it
+--     Lent       tables of which a call is lent some
 pub mod Append
+pub mod Answered
+pub mod Lent

@@ -1,3 +1,8 @@
+-- Laws of the links. For callers: Walk and Range.
+--
+--     Rows    what a call gave, read as a link, and a table that is filled row by row
+--     Walk    an expansion over the tables of links is the definition's
+--     Range   the features of an expansion
 mod Rows
 pub mod Walk
 pub mod Range

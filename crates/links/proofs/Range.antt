@@ -8,9 +8,11 @@ use lib.ListN.{length, getD, length-append}
 use Rattle.as5506.specs.Lists.{upTo}
 use Rattle.as5506.specs.Tables.{present, letterE, eHolderKind, eHolder, eName, rowsNaming}
 use Rattle.as5506.specs.Groups.{Feature, Expansion, depthLimit}
-use Rattle.as5506.proofs.Laws.{All, all-append, all-keep, upTo-below}
+use Rattle.as5506.proofs.Laws.{All, all-append, upTo-below}
+use Rattle.lent.specs.Lent.{declaredIn}
+use Rattle.resolver.proofs.Scan.{all-kept}
 use Rattle.links.specs.Links.{unfound}
-use Rattle.links.specs.Walk.{Groups, declaredIn, Visit, featureAt, rowBy, walk, rowsIn, extendedBy, typeBy, foundBy, visitLink}
+use Rattle.links.specs.Walk.{Groups, Visit, featureAt, rowBy, walk, rowsIn, extendedBy, typeBy, foundBy, visitLink}
 
 -- whatever the features of E rows have, with either flag and each prefix of at most ten names
 module _ (g : Groups) (P : Feature → Type 0)
@@ -25,7 +27,7 @@ module _ (g : Groups) (P : Feature → Type 0)
     row-each : (b : Bool) (i : ℕ) → i < length (g .e) / 8 → Each (rowBy b g visit inverse prefix i)
     unfolding rowBy
     row-each true i h =
-        let name : List ℕ = eName (declaredIn (g .e)) i ∷ [] in
+        let name : List ℕ = eName (declaredIn [] [] (g .e)) i ∷ [] in
         deeper (getD (g .nested) i 0) inverse (prefix ++ name) (omega (arith, length-append prefix name, short))
     row-each false i h = (own i inverse prefix h (omega (arith, short)), tt)
 
@@ -36,12 +38,12 @@ module _ (g : Groups) (P : Feature → Type 0)
         all-append P (rowBy (present (getD (g .nested) i 0)) g visit inverse prefix i .features) (walk g visit inverse prefix rows .features)
         (row-each (present (getD (g .nested) i 0)) i (t .0)) (walk-each rows (t .1))
 
-    own-rows : (u : ℕ) → All (λ i. i < length (g .e) / 8) (rowsIn g u)
+    rows-below : (u : ℕ) → All (λ i. i < length (g .e) / 8) (rowsIn g u)
     unfolding rowsNaming
-    own-rows u =
+    rows-below u =
         let Row : ℕ → Type 0 = λ i. i < length (g .e) / 8 in
-        all-keep Row Row (λ i. eqb (eHolderKind (declaredIn (g .e)) i) 1) (λ i t h. h) (rowsNaming (declaredIn (g .e)) letterE (eHolder (declaredIn (g .e))) u)
-        (all-keep Row Row (λ i. eqb (eHolder (declaredIn (g .e)) i) u) (λ i t h. h) (upTo (length (g .e) / 8)) (upTo-below (length (g .e) / 8)))
+        all-kept Row (λ i. eqb (eHolderKind (declaredIn [] [] (g .e)) i) 1) (rowsNaming (declaredIn [] [] (g .e)) letterE (eHolder (declaredIn [] [] (g .e))) u)
+        (all-kept Row (λ i. eqb (eHolder (declaredIn [] [] (g .e)) i) u) (upTo (length (g .e) / 8)) (upTo-below (length (g .e) / 8)))
 
     extended-each : (b : Bool) (u : ℕ) → Each (extendedBy b g visit inverse prefix u)
     unfolding extendedBy
@@ -54,7 +56,7 @@ module _ (g : Groups) (P : Feature → Type 0)
     type-each false u =
         let mine : Expansion = walk g visit inverse prefix (rowsIn g u) in
         all-append P (extendedBy (present (getD (g .extends) u 0)) g visit inverse prefix u .features) (mine .features ++ [])
-        (extended-each (present (getD (g .extends) u 0)) u) (all-append P (mine .features) [] (walk-each (rowsIn g u) (own-rows u)) tt)
+        (extended-each (present (getD (g .extends) u 0)) u) (all-append P (mine .features) [] (walk-each (rowsIn g u) (rows-below u)) tt)
 
     found-each : (b : Bool) (u : ℕ) → Each (foundBy b g visit inverse prefix u)
     unfolding foundBy

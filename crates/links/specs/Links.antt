@@ -9,22 +9,22 @@ use Rattle.as5506.specs.Tables.{Tables, missing, present, letterU, letterE, cou
 use Rattle.as5506.specs.Resolve.{Resolved, componentType, componentImpl, groupType, unresolved, resolve}
 use Rattle.as5506.specs.Groups.{isNested}
 
--- a reference that names no group type
+-- the link of a reference that names no group type
 abbrev pub unfound : ℕ
 unfound = 4294967294
 
--- the row of the group type that is found
+-- the link of what a reference was resolved to: the row of a group type
 abbrev pub groupRow : Resolved → ℕ
 groupRow (componentType i) = unfound
 groupRow (componentImpl i) = unfound
 groupRow (groupType u) = u
 groupRow unresolved = unfound
 
--- what a reference means that is asked from a package, given by its name
+-- the link of a reference that is asked from a package, given by its name
 unfoldable pub linkOf : Tables → ℕ → Ref → ℕ
 linkOf m from r = groupRow (resolve m from r)
 
--- "References inside a group ask from the package it was found in": a reference of group type u, missing where there is none
+-- "References inside a group ask from the package it was found in": the link of a reference of group type u, missing where there is none
 abbrev pub linkIn : Bool → Tables → ℕ → Ref → ℕ
 linkIn b m u r = cond b (linkOf m (pName m (uPackage m u)) r) missing
 
@@ -32,13 +32,15 @@ linkIn b m u r = cond b (linkOf m (pName m (uPackage m u)) r) missing
 abbrev pub refIn : List ℕ → ℕ → Ref
 refIn table place = ref (getD table place 0) (getD table (place + 1) 0) (getD table (place + 2) 0)
 
+-- what group type u extends
 unfoldable pub extendsLink : Tables → ℕ → ℕ
 extendsLink m u = linkIn (present (uExtends m u .type)) m u (uExtends m u)
 
+-- what group type u is the inverse of
 unfoldable pub inverseLink : Tables → ℕ → ℕ
 inverseLink m u = linkIn (present (uInverseOf m u .type)) m u (uInverseOf m u)
 
--- the classifier of a nested group
+-- the classifier of E row e, where that is a nested group of a group type
 unfoldable pub nestedLink : Tables → ℕ → ℕ
 nestedLink m e = linkIn (eqb (eHolderKind m e) 1 && isNested m e) m (eHolder m e) (eClassifier m e)
 

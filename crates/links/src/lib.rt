@@ -1,5 +1,5 @@
-// What the references between group types mean. Each is resolved once, before any expansion: a walk makes up to 65,536 visits, and a reference
-// means the same in all of them.
+// What the references between group types mean, each as one number, its link: the row of U. Each is resolved once, before any expansion: a walk makes
+// up to 65,536 visits, and a reference means the same in all of them.
 use as5506::MISSING;
 use lent::number_at;
 use resolver::Resolved;
@@ -10,10 +10,10 @@ ghost use lib.ListN.{length, getD};
 ghost use Rattle.as5506.specs.Tables.{Tables, tablesOf, present, ref};
 ghost use Rattle.links.specs.Links.{linkOf, linkIn, refIn, extendsLink, inverseLink, nestedLink, Holds, Linked};
 
-// A reference that names no group type.
+// The link of a reference that names no group type.
 pub const UNFOUND: u32 = 4294967294;
 
-// The row of U that a reference means that is asked from a package, given by its name; `UNFOUND` where it means no group type.
+// The link of a reference (package?, type, implementation?) that is asked from the package named `from`; `UNFOUND` where it names no group type.
 pub fn link(
     bytes: &[u8],
     n: &[u32],
@@ -55,7 +55,7 @@ pub fn link(
     }
 }
 
-// The reference of group type `row` in the three numbers of a table from `place` on; `MISSING` where no reference stands there.
+// The link of the reference that group type `row` has in three numbers of a table, from `place` on; `MISSING` where none stands there.
 fn link_at(
     bytes: &[u8],
     n: &[u32],
@@ -95,7 +95,7 @@ fn link_at(
     )
 }
 
-// The links of U rows: what each extends and what it is the inverse of.
+// Writes the links of U rows: what each extends and what it is the inverse of.
 fn link_types(
     bytes: &[u8],
     n: &[u32],
@@ -125,7 +125,7 @@ fn link_types(
     }
 }
 
-// What the classifier of E row `row` means, if the row is a nested group of a group type; otherwise `MISSING`.
+// The link of the classifier of E row `row`, if the row is a nested group (kind 8) of a group type (holder's kind 1); otherwise `MISSING`.
 fn link_feature(
     bytes: &[u8],
     n: &[u32],
@@ -154,7 +154,7 @@ fn link_feature(
     link_at(bytes, n, p, i, t, q, u, r, holder, e, place + 5)
 }
 
-// The links of E rows.
+// Writes the links of E rows.
 fn link_features(
     bytes: &[u8],
     n: &[u32],
@@ -181,7 +181,7 @@ fn link_features(
     }
 }
 
-// The links of all group types and their features.
+// Writes the links of all group types and their features.
 pub fn link_groups(
     bytes: &[u8],
     n: &[u32],

@@ -1,1 +1,4 @@
+-- Laws of the call that gives both listings.
+--
+--     Answers   the call's answer and outputs, case by case
 mod Answers

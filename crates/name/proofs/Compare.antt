@@ -86,7 +86,7 @@ pub folded-length : (s : List ℕ) → length (folded s) ≡ length s
 unfolding folded
 folded-length s = length-map s foldByte
 
-pub folded-at : (s : List ℕ) (i : ℕ) → getD (folded s) i 0 ≡ foldByte (getD s i 0)
+folded-at : (s : List ℕ) (i : ℕ) → getD (folded s) i 0 ≡ foldByte (getD s i 0)
 unfolding folded
 folded-at s i = List·getD-map foldByte s i 0
 

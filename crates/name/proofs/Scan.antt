@@ -45,9 +45,9 @@ module _ (p : ℕ → Bool) (s : List ℕ) (i : ℕ) where
   pub all-end : length s ≤ i → true ≡ allOf p (drop i s)
   all-end h = rw (drop-of-length-le s h)
 
-pub good-short : (s : List ℕ) → length s < 1 → false ≡ goodName s
+pub good-empty : (s : List ℕ) → length s < 1 → false ≡ goodName s
 unfolding goodName
-good-short s h = rw (lt-leb 1 (length s) h)
+good-empty s h = rw (lt-leb 1 (length s) h)
 
 pub good-long : (s : List ℕ) → 1 ≤ length s → 63 < length s → false ≡ goodName s
 unfolding goodName

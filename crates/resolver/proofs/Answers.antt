@@ -24,23 +24,23 @@ module _ (m : Tables) where
   InTables (groupType i) = (i < count m letterU) × (uPackage m i < count m letterP)
   InTables unresolved = Unit {0}
 
-  shown : (b : Bool) (d : Meant) → InTables d → InTables (cond b d unresolved)
-  shown true d h = h
-  shown false d h = tt
+  in-shown : (b : Bool) (d : Meant) → InTables d → InTables (cond b d unresolved)
+  in-shown true d h = h
+  in-shown false d h = tt
 
   module _ (own : Bool) (g : ℕ) (h : g < count m letterP) where
     in-group : (k : List ℕ) (o : Option ℕ) → o ≡ groupNamed m g k → InTables (groupHit m own o)
     in-group k none e = tt
-    in-group k (some i) e = let l = group-row m g k i e in shown (own || eqb (uPrivate m i) 0) (groupType i) (l .0, rw (l .1) h)
+    in-group k (some i) e = let l = group-row m g k i e in in-shown (own || eqb (uPrivate m i) 0) (groupType i) (l .0, rw (l .1) h)
 
     in-type : (k : List ℕ) (o : Option ℕ) → o ≡ typeNamed m g k → InTables (typeHit m own g k o)
     unfolding typeHit
     in-type k none e = in-group k (groupNamed m g k) refl
-    in-type k (some i) e = let l = type-row m g k i e in shown (own || eqb (tPrivate m i) 0) (componentType i) (l .0, rw (l .1) h)
+    in-type k (some i) e = let l = type-row m g k i e in in-shown (own || eqb (tPrivate m i) 0) (componentType i) (l .0, rw (l .1) h)
 
     in-impl : (k j : List ℕ) (o : Option ℕ) → o ≡ implNamed m g k j → InTables (implHit m own o)
     in-impl k j none e = tt
-    in-impl k j (some i) e = let l = impl-row m g k j i e in shown (own || eqb (qPrivate m i) 0) (componentImpl i) (l .0, rw (l .1) h)
+    in-impl k j (some i) e = let l = impl-row m g k j i e in in-shown (own || eqb (qPrivate m i) 0) (componentImpl i) (l .0, rw (l .1) h)
 
     in-package-by : (b : Bool) (r : Ref) → InTables (inPackageBy b m own g r)
     unfolding inPackageBy
@@ -56,49 +56,49 @@ module _ (m : Tables) where
   in-found own r k none e = tt
   in-found own r k (some g) e = in-package own g (package-row m k g e) r
 
-  with-package : (from : ℕ) (r : Ref) → InTables (withPackage m from r)
+  in-with-package : (from : ℕ) (r : Ref) → InTables (withPackage m from r)
   unfolding withPackage inNamed
-  with-package from r = let g : ℕ = replaced m from (r .pkg) in in-found (sameBytes (key m g) (key m from)) r (key m g) (packageNamed m (key m g)) refl
+  in-with-package from r = let g : ℕ = replaced m from (r .pkg) in in-found (sameBytes (key m g) (key m from)) r (key m g) (packageNamed m (key m g)) refl
 
-  first-in : (d : Meant) (ds : List Meant) → InTables d → InTables (firstFound ds) → InTables (firstFound (d ∷ ds))
-  first-in (componentType i) ds a b = a
-  first-in (componentImpl i) ds a b = a
-  first-in (groupType i) ds a b = a
-  first-in unresolved ds a b = b
+  in-first : (d : Meant) (ds : List Meant) → InTables d → InTables (firstFound ds) → InTables (firstFound (d ∷ ds))
+  in-first (componentType i) ds a b = a
+  in-first (componentImpl i) ds a b = a
+  in-first (groupType i) ds a b = a
+  in-first unresolved ds a b = b
 
-  all-in : (f : ℕ → Meant) → ((i : ℕ) → InTables (f i)) → (xs : List ℕ) → InTables (firstFound (map f xs))
-  all-in f h [] = tt
-  all-in f h (x ∷ xs) = first-in (f x) (map f xs) (h x) (all-in f h xs)
+  in-imported : (f : ℕ → Meant) → ((i : ℕ) → InTables (f i)) → (xs : List ℕ) → InTables (firstFound (map f xs))
+  in-imported f h [] = tt
+  in-imported f h (x ∷ xs) = in-first (f x) (map f xs) (h x) (in-imported f h xs)
 
-  from-imports : (g : ℕ) (r : Ref) → InTables (fromImports m g r)
+  in-imports : (g : ℕ) (r : Ref) → InTables (fromImports m g r)
   unfolding fromImports
-  from-imports g r = all-in (λ i. inFound m false r (packageNamed m (key m (iName m i)))) (λ i. in-found false r (key m (iName m i)) (packageNamed m (key m (iName m i))) refl) (importsOf m g)
+  in-imports g r = in-imported (λ i. inFound m false r (packageNamed m (key m (iName m i)))) (λ i. in-found false r (key m (iName m i)) (packageNamed m (key m (iName m i))) refl) (importsOf m g)
 
-  after-rename : (from g : ℕ) (r : Ref) (o : Option ℕ) → InTables (afterRename m from g r o)
+  in-after-rename : (from g : ℕ) (r : Ref) (o : Option ℕ) → InTables (afterRename m from g r o)
   unfolding afterRename target
-  after-rename from g r (some j) = with-package from (ref (rOriginalPackage m j) (rOriginalName m j) (r .impl))
-  after-rename from g r none = from-imports g r
+  in-after-rename from g r (some j) = in-with-package from (ref (rOriginalPackage m j) (rOriginalName m j) (r .impl))
+  in-after-rename from g r none = in-imports g r
 
-  after-own : (from g : ℕ) (r : Ref) (d : Meant) → InTables d → InTables (afterOwn m from g r d)
+  in-after-own : (from g : ℕ) (r : Ref) (d : Meant) → InTables d → InTables (afterOwn m from g r d)
   unfolding afterOwn
-  after-own from g r (componentType i) h = h
-  after-own from g r (componentImpl i) h = h
-  after-own from g r (groupType i) h = h
-  after-own from g r unresolved h = after-rename from g r (firstOf (renamesFor m g r))
+  in-after-own from g r (componentType i) h = h
+  in-after-own from g r (componentImpl i) h = h
+  in-after-own from g r (groupType i) h = h
+  in-after-own from g r unresolved h = in-after-rename from g r (firstOf (renamesFor m g r))
 
-  without-package : (from : ℕ) (r : Ref) (o : Option ℕ) → o ≡ packageNamed m (key m from) → InTables (withoutPackage m from r o)
+  in-without-package : (from : ℕ) (r : Ref) (o : Option ℕ) → o ≡ packageNamed m (key m from) → InTables (withoutPackage m from r o)
   unfolding withoutPackage
-  without-package from r none e = tt
-  without-package from r (some g) e = after-own from g r (inPackage m true g r) (in-package true g (package-row m (key m from) g e) r)
+  in-without-package from r none e = tt
+  in-without-package from r (some g) e = in-after-own from g r (inPackage m true g r) (in-package true g (package-row m (key m from) g e) r)
 
-  resolved-by : (b : Bool) (from : ℕ) (r : Ref) → InTables (resolveBy b m from r)
+  in-resolved : (b : Bool) (from : ℕ) (r : Ref) → InTables (resolveBy b m from r)
   unfolding resolveBy
-  resolved-by true from r = with-package from r
-  resolved-by false from r = without-package from r (packageNamed m (key m from)) refl
+  in-resolved true from r = in-with-package from r
+  in-resolved false from r = in-without-package from r (packageNamed m (key m from)) refl
 
   pub resolved-in : (from : ℕ) (r : Ref) → InTables (resolve m from r)
   unfolding resolve
-  resolved-in from r = resolved-by (present (r .pkg)) from r
+  resolved-in from r = in-resolved (present (r .pkg)) from r
 
 -- ---- the code's answer: a row of its table, whose package is the one that is handed back, a row of P
 

@@ -13,17 +13,9 @@ use Rattle.as5506.specs.Resolve.{packageNamed, typeNamed, implNamed, groupNamed
 use Rattle.resolver.specs.declared.Key.{Key}
 use Rattle.resolver.specs.declared.Part.the-variants.{Number, Name, Any}
 use Rattle.resolver.specs.Keys.{hasPart, hasKey, rowHasKey, rowsWithKey}
-use Rattle.as5506.proofs.Scans.{keep-both}
-use Rattle.as5506.proofs.Scans.{keep-same}
+use Rattle.as5506.proofs.Scans.{keep-both, keep-same}
 
--- ---- a key, tested part by part
-
-pub part-fails : (a rest z : Bool) → z ≡ a → z ≡ false → false ≡ a && rest
-part-fails a rest z p h = rw (← p, h)
-
-pub part-holds : (a rest z y : Bool) → z ≡ a → z ≡ true → y ≡ rest → y ≡ a && rest
-part-holds a rest z y p h q = rw (← p, h) q
-
+-- a part that asks for nothing
 and-any : (a : Bool) → a && true ≡ a
 and-any true = refl
 and-any false = refl
@@ -31,7 +23,7 @@ and-any false = refl
 -- ---- the rows with a key, by a test that says the same
 
 module _ (bytes n table : List ℕ) (width : ℕ) (k : Key) (p : ℕ → Bool) (same : (i : ℕ) → rowHasKey bytes n table width k i ≡ p i) where
-  pub rows-by : (start : ℕ) → rowsWithKey bytes n table width start k ≡ keep p (span start (length table / width - start))
+  rows-by : (start : ℕ) → rowsWithKey bytes n table width start k ≡ keep p (span start (length table / width - start))
   unfolding rowsWithKey
   rows-by start = keep-same (rowHasKey bytes n table width k) p same (span start (length table / width - start))
 

@@ -10,17 +10,14 @@ use Rattle.as5506.specs.Tables.{Tables, present, Letter, letterP, letterT, lett
 use Rattle.as5506.specs.Names.{key}
 use Rattle.as5506.specs.Resolve.{packageNamed, typeNamed, implNamed, groupNamed, renamesNamed, renamesFor}
 use Rattle.as5506.proofs.Laws.{All, all-keep, all-append, upTo-below, all-first}
-use Rattle.resolver.specs.Found.{found}
-
-kept : (P : ℕ → Type 0) (p : ℕ → Bool) (xs : List ℕ) → All P xs → All P (keep p xs)
-kept P p xs t = all-keep P P p (λ x u h. h) xs t
+use Rattle.resolver.proofs.Scan.{all-kept}
 
 -- ---- rows by their keys
 
 module _ (m : Tables) where
   pub package-row : (k : List ℕ) (g : ℕ) → some g ≡ packageNamed m k → g < count m letterP
   unfolding packageNamed
-  package-row k g e = all-first (λ i. i < count m letterP) (keep is (upTo (count m letterP))) (kept (λ i. i < count m letterP) is (upTo (count m letterP)) (upTo-below (count m letterP))) g e
+  package-row k g e = all-first (λ i. i < count m letterP) (keep is (upTo (count m letterP))) (all-kept (λ i. i < count m letterP) is (upTo (count m letterP)) (upTo-below (count m letterP))) g e
     where
       is : ℕ → Bool
       is i = sameBytes (key m (pName m i)) k
@@ -34,7 +31,7 @@ module _ (m : Tables) where
   rows-of l g = all-keep (λ i. i < count m l) (Of l g) (λ i. eqb (at m l i 0) g) (λ i t h. (h, eqb→eq (at m l i 0) g t)) (upTo (count m l)) (upTo-below (count m l))
 
   row-of : (l : Letter) (g : ℕ) (p : ℕ → Bool) (i : ℕ) → some i ≡ firstOf (keep p (rowsNaming m l (λ i. at m l i 0) g)) → Of l g i
-  row-of l g p i e = all-first (Of l g) (keep p (rowsNaming m l (λ i. at m l i 0) g)) (kept (Of l g) p (rowsNaming m l (λ i. at m l i 0) g) (rows-of l g)) i e
+  row-of l g p i e = all-first (Of l g) (keep p (rowsNaming m l (λ i. at m l i 0) g)) (all-kept (Of l g) p (rowsNaming m l (λ i. at m l i 0) g) (rows-of l g)) i e
 
   pub type-row : (g : ℕ) (k : List ℕ) (i : ℕ) → some i ≡ typeNamed m g k → (i < count m letterT) × (tPackage m i ≡ g)
   unfolding typeNamed
@@ -50,7 +47,7 @@ module _ (m : Tables) where
 
   rename-rows : (g w : ℕ) (k : List ℕ) → All (Of letterR g) (renamesNamed m g w k)
   unfolding renamesNamed
-  rename-rows g w k = kept (Of letterR g) (λ r. sameBytes (key m (rAlias m r)) k) (renamesOf m g w) (kept (Of letterR g) (λ r. eqb (rWhat m r) w) (rowsNaming m letterR (rPackage m) g) (rows-of letterR g))
+  rename-rows g w k = all-kept (Of letterR g) (λ r. sameBytes (key m (rAlias m r)) k) (renamesOf m g w) (all-kept (Of letterR g) (λ r. eqb (rWhat m r) w) (rowsNaming m letterR (rPackage m) g) (rows-of letterR g))
 
   pub rename-row : (g w : ℕ) (k : List ℕ) (i : ℕ) → some i ≡ firstOf (renamesNamed m g w k) → (i < count m letterR) × (rPackage m i ≡ g)
   rename-row g w k i e = all-first (Of letterR g) (renamesNamed m g w k) (rename-rows g w k) i e

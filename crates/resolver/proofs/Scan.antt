@@ -1,23 +1,29 @@
--- Laws of scans: the rows of a table that pass a test, from a row on. Assumes nothing.
+-- Laws of scans: the rows of a table that pass a test, from a row on, and the row that is found. Assumes nothing.
 use mathlib.Core.Bool.{Bool, true, false}
-use mathlib.Core.Path.{_≡_, refl, _∙_}
+use mathlib.Core.Path.{_≡_, refl, sym, ap, _∙_}
 use mathlib.Core.List.{List, [], _∷_, _++_}
-use mathlib.Core.Option.{none, some}
+use mathlib.Core.Option.{Option, none, some}
 use Prim.Native.Nat.{ℕ, zero, suc, _+_, _*_, _-_, _/_, _≤_, _<_}
 use native.Mathlib.Nat.{div-mul-le-self, mul-le-mul-right, suc-mul}
 use native.Mathlib.Numerals.{add-one}
 use native.Mathlib.Omega.{arith}
 use Rattle.as5506.specs.Lists.{span, putIf, keep, firstOf}
+use Rattle.as5506.proofs.Laws.{All, all-keep}
+use Rattle.resolver.specs.declared.Found.{Found}
+use Rattle.resolver.specs.declared.Found.the-variants.{At, Nothing}
+use Rattle.resolver.specs.Found.{rowOf}
 
 -- a row of a table of whole rows lies within the table
 pub row-within : (len width i : ℕ) → i < len / width → i * width + width ≤ len
 row-within len width i h = omega (arith, div-mul-le-self len width, mul-le-mul-right width h, suc-mul i width)
 
--- ---- a scan, row by row
+-- whatever all rows have, those that pass have
+pub all-kept : (P : ℕ → Type 0) (p : ℕ → Bool) (xs : List ℕ) → All P xs → All P (keep p xs)
+all-kept P p xs t = all-keep P P p (λ x u h. h) xs t
+
+-- ---- the first row from i on: a row from i on, and the others follow it
 
 module _ (p : ℕ → Bool) where
-  -- ---- the first row from i on: a row from i on, and the others follow it
-
   abbrev IsFirst : ℕ → ℕ → ℕ → List ℕ → Type 0
   IsFirst i k j rows = (i ≤ j) × (j < i + k) × (rows ≡ j ∷ keep p (span (suc j) (i + k - suc j)))
 
@@ -40,6 +46,14 @@ module _ (p : ℕ → Bool) where
       let h = first-from i (n - i) j q in
       let e : i + (n - i) - suc j ≡ n - (j + 1) = omega (arith, h .0, h .1) in
       (h .0, omega (arith, h .0, h .1), h .2 ∙ rw (e, add-one))
+
+-- ---- an answer
+
+pub at-row : (z : Found) (i : ℕ) (o : Option ℕ) → z ≡ At i → rowOf z ≡ o → some i ≡ o
+at-row z i o e p = sym (ap rowOf e) ∙ p
+
+pub no-row : (z : Found) (o : Option ℕ) → z ≡ Nothing → rowOf z ≡ o → none ≡ o
+no-row z o e p = sym (ap rowOf e) ∙ p
 
 -- ---- the first of a list
 

@@ -14,19 +14,8 @@ use Rattle.as5506.specs.Names.{key, sameFolded}
 use Rattle.as5506.specs.Resolve.{Resolved as Meant, componentType, componentImpl, groupType, unresolved, packageNamed, typeNamed, implNamed, groupNamed, renamesNamed, visible, typeHit, inPackageBy, inPackage, inFound, replacedBy, replaced, inNamed, withPackage, firstFound, fromImports, target, renamesFor, afterRename, afterOwn, withoutPackage, resolveBy, resolve}
 use Rattle.resolver.specs.declared.Resolved.{Resolved}
 use Rattle.resolver.specs.declared.Resolved.the-variants.{ComponentType, ComponentImpl, GroupType, Unresolved}
-use Rattle.resolver.specs.declared.Found.{Found}
-use Rattle.resolver.specs.declared.Found.the-variants.{At, Nothing}
-use Rattle.resolver.specs.Keys.{rowOf}
 use Rattle.resolver.specs.Found.{found, isFound}
 use Rattle.resolver.proofs.Scan.{rows-first, first-append, first-append-none}
-
--- ---- the answer of a scan
-
-pub at-row : (z : Found) (i : ℕ) (o : Option ℕ) → z ≡ At i → rowOf z ≡ o → some i ≡ o
-at-row z i o e p = sym (ap rowOf e) ∙ p
-
-pub no-row : (z : Found) (o : Option ℕ) → z ≡ Nothing → rowOf z ≡ o → none ≡ o
-no-row z o e p = sym (ap rowOf e) ∙ p
 
 -- ---- in one package
 

@@ -1,7 +1,6 @@
 -- "Hashing becomes a scan for equal folded names": what the scan tests. Assumes nothing.
 use mathlib.Core.Bool.{Bool, true, _&&_}
 use mathlib.Core.List.{List}
-use mathlib.Core.Option.{Option, none, some}
 use Prim.Native.Nat.{ℕ, _+_, _-_, _*_, _/_}
 use lib.Dec.{eqb}
 use lib.ListN.{length, getD}
@@ -11,13 +10,6 @@ use Rattle.as5506.specs.Names.{sameFolded}
 use Rattle.resolver.specs.declared.Part.{Part}
 use Rattle.resolver.specs.declared.Part.the-variants.{Number, Name, Any}
 use Rattle.resolver.specs.declared.Key.{Key}
-use Rattle.resolver.specs.declared.Found.{Found}
-use Rattle.resolver.specs.declared.Found.the-variants.{At, Nothing}
-
--- the row that is found, if one is
-abbrev pub rowOf : Found → Option ℕ
-rowOf (At i) = some i
-rowOf Nothing = none
 
 -- whether a field v is what a part of a key asks for
 unfoldable pub hasPart : List ℕ → List ℕ → ℕ → Part → Bool

@@ -1,11 +1,11 @@
 // `resolve_classifier` (resolver.rs) over lent tables of any contents: past a table 0 is read, and a name past the names is empty, as in the definition.
-// A contract holds whatever stands in the tables that its function does not read, and in the reference's package where that is not asked.
+// A contract holds whatever stands in the tables that its function does not read, and whichever package the reference names where that is not asked.
 use as5506::MISSING;
 use lent::number_at;
 use name::same_folded_names;
 ghost use mathlib.Core.Bool.{_||_, cond};
 ghost use mathlib.Core.List.{List};
-ghost use mathlib.Core.Option.{Option, none, some};
+ghost use mathlib.Core.Option.{some};
 ghost use mathlib.Core.Path.{_≡_};
 ghost use Prim.Native.Nat.{ℕ, _+_, _*_, _/_, _<_, _≤_};
 ghost use lib.Dec.{eqb};
@@ -14,8 +14,8 @@ ghost use Rattle.as5506.specs.Lists.{firstOf};
 ghost use Rattle.as5506.specs.Tables.{Tables, tablesOf, ref};
 ghost use Rattle.as5506.specs.Names.{key};
 ghost use Rattle.as5506.specs.Resolve.{packageNamed, typeNamed, implNamed, groupNamed, renamesNamed, inPackage, inFound, replacedBy, withPackage, fromImports, renamesFor, withoutPackage, resolve};
-ghost use Rattle.resolver.specs.Keys.{rowOf, hasPart, hasKey, rowsWithKey};
-ghost use Rattle.resolver.specs.Found.{found, isFound};
+ghost use Rattle.resolver.specs.Keys.{hasPart, hasKey, rowsWithKey};
+ghost use Rattle.resolver.specs.Found.{rowOf, found, isFound};
 ghost use Rattle.resolver.specs.declared.Resolved.the-variants.{Unresolved};
 
 // What a reference names: a row of T, of Q or of U, with the row of P that it was found in.
@@ -36,13 +36,13 @@ enum Part {
 // The key of a row: what its first three fields must be. Where a row or its key is shorter, the last parts are `Any`.
 struct Key(Part, Part, Part);
 
-// The row that a scan stops at.
-enum Found {
+// The row that a scan of a table stops at, or none.
+pub enum Found {
     At(usize),
     Nothing,
 }
 
-// The fields of a row, by letter.
+// How many fields a row has, by letter: of packages, imports, component types, implementations, group types and renames.
 const P_FIELDS: usize = 1;
 
 const I_FIELDS: usize = 2;
@@ -184,7 +184,7 @@ fn find_rename(bytes: &[u8], n: &[u32], r: &[u32], package: usize, what: usize, 
 
 // ---- in one package
 
-// "A private hit from outside gives nothing".
+// A hit, where it may be seen: `own` says that the reference is asked from the hit's own package. "A private hit from outside gives nothing".
 fn if_visible(own: bool, private: u32, hit: Resolved) -> Resolved
     ensures { λ z. ⌜ z ≡ cond (own || eqb private 0) hit Unresolved ⌝ }
 {
@@ -236,7 +236,7 @@ fn in_package(
     }
 }
 
-// The same in the package of a name, where there is one.
+// The same in the package of a name; nothing where no package has it.
 fn resolve_in_package(
     bytes: &[u8],
     n: &[u32],

@@ -1,12 +1,12 @@
 -- Diagnostics one after the other. Assumes nothing.
 use mathlib.Core.Bool.{Bool, true, false, not, _&&_}
-use mathlib.Core.Path.{_≡_, refl, sym, ap, _∙_, subst}
+use mathlib.Core.Path.{_≡_, refl, sym, ap, _∙_}
 use mathlib.Core.List.{List, [], _∷_, _++_, append-nil}
 use Prim.Native.Nat.{ℕ, suc, _+_, _-_, _*_, _/_, _≤_, _<_}
 use native.Mathlib.Nat.{sub-zero}
 use native.Mathlib.Omega.{arith}
 use lib.Dec.{eqb}
-use lib.ListN.{length, length-append}
+use lib.ListN.{length}
 use lib.Seq.{sets}
 use borrow.Author.Tests.{ne-eqb}
 use Rattle.as5506.specs.Lists.{when, isNil}
@@ -20,7 +20,7 @@ use Rattle.as5506.proofs.Scans.{span-next, span-done}
 use Rattle.trace.specs.declared.Wrote.{Wrote}
 use Rattle.trace.specs.declared.Wrote.the-variants.{Count, Full}
 use Rattle.trace.specs.Writing.{Written}
-use Rattle.trace.proofs.Writing.{remains-start, remains-turn, remains-full, remains-end, written-none, written-room}
+use Rattle.trace.proofs.Writing.{Remains, remains-start, remains-turn, remains-full, remains-end, written-none, written-room, written-as}
 use Rattle.semantic.specs.Rows.{edgeOf}
 use Rattle.semantic.specs.Diagnostics.{Room, WrittenAfter, noChildCode, diagsFrom}
 
@@ -31,14 +31,14 @@ pub diag-written : (code conn one two : ℕ) (out : List ℕ) (count : ℕ) (out
 unfolding Written diagBlock
 diag-written code conn one two out count out′ h e = (refl, omega arith, refl, e)
 
-module _ (test : Bool) (d : Diag) (out : List ℕ) (q : Wrote) where
-  same-answer : (q : Wrote) → Room out q → WrittenAfter [] out q q out
-  unfolding Room WrittenAfter
-  same-answer (Count k) h = written-none 4 diagBlock out k h
-  same-answer Full h = refl
+none-after : (out : List ℕ) (q : Wrote) → Room out q → WrittenAfter [] out q q out
+unfolding Room WrittenAfter
+none-after out (Count k) h = written-none 4 diagBlock out k h
+none-after out Full h = refl
 
+module _ (test : Bool) (d : Diag) (out : List ℕ) (q : Wrote) where
   pub if-not : test ≡ false → Room out q → WrittenAfter (when test d) out q q out
-  if-not e h = rw e (same-answer q h)
+  if-not e h = rw e (none-after out q h)
 
   pub if-count : (k : ℕ) (r : Wrote) (out′ : List ℕ) → test ≡ true → q ≡ Count k → Written 4 diagBlock (d ∷ []) out k r out′ → WrittenAfter (when test d) out q r out′
   unfolding WrittenAfter
@@ -63,19 +63,22 @@ unfolding Room
 room-after l out count (Count k) out′ w = written-room 4 diagBlock l out count k out′ w
 room-after l out count Full out′ w = tt
 
-over-full : (a b : List Diag) (out out′ : List ℕ) (count : ℕ) → Written 4 diagBlock a out count Full out′ → (o : List ℕ) → Written 4 diagBlock (a ++ b) out count Full o
-unfolding Written
-over-full a b out out′ count w o = omega (arith, length-append a b, w)
+-- the first of two lists is written
+after-first : (a b : List Diag) (out : List ℕ) (count k : ℕ) (out₁ : List ℕ) → count ≤ length out / 4 → Written 4 diagBlock a out count (Count k) out₁
+    → Remains 4 diagBlock (a ++ b) out count out₁ k b
+after-first a b out count k out₁ h w =
+    remains-turn 4 diagBlock (a ++ b) out count out count (a ++ b) (remains-start 4 diagBlock (a ++ b) out count h) a b refl (Count k) out₁ w k refl
 
 pub after-append : (a b : List Diag) (out : List ℕ) (count : ℕ) (q : Wrote) (out₁ : List ℕ) (r : Wrote) (out₂ : List ℕ) → count ≤ length out / 4
     → Written 4 diagBlock a out count q out₁ → WrittenAfter b out₁ q r out₂ → Written 4 diagBlock (a ++ b) out count r out₂
 unfolding WrittenAfter
-after-append a b out count Full out₁ r out₂ h w v = rw v (over-full a b out out₁ count w out₂)
+after-append a b out count Full out₁ r out₂ h w v =
+    rw v (remains-full 4 diagBlock (a ++ b) out count out count (a ++ b) (remains-start 4 diagBlock (a ++ b) out count h) a b refl Full out₁ w refl out₂)
 after-append a b out count (Count k) out₁ Full out₂ h w v =
-    remains-full 4 diagBlock (a ++ b) out count out₁ k b [] (rw (append-nil b) (remains-turn 4 diagBlock (a ++ b) out count out count a b (remains-start 4 diagBlock (a ++ b) out count h) (Count k) out₁ w k refl)) Full out₂ v refl out₂
+    remains-full 4 diagBlock (a ++ b) out count out₁ k b (after-first a b out count k out₁ h w) b [] (sym (append-nil b)) Full out₂ v refl out₂
 after-append a b out count (Count k) out₁ (Count n) out₂ h w v =
-    remains-end 4 diagBlock (a ++ b) out count out₂ n
-    (remains-turn 4 diagBlock (a ++ b) out count out₁ k b [] (rw (append-nil b) (remains-turn 4 diagBlock (a ++ b) out count out count a b (remains-start 4 diagBlock (a ++ b) out count h) (Count k) out₁ w k refl)) (Count n) out₂ v n refl)
+    remains-end 4 diagBlock (a ++ b) out count out₂ n []
+    (remains-turn 4 diagBlock (a ++ b) out count out₁ k b (after-first a b out count k out₁ h w) b [] (sym (append-nil b)) (Count n) out₂ v n refl) refl
 
 -- ---- the diagnostics of an X row
 
@@ -106,8 +109,8 @@ module _ (m : Tables) (x : ℕ) where
   pub edge-written : (s : TheSide) (k v code : ℕ) (out : List ℕ) (count : ℕ) (r : Wrote) (out′ : List ℕ) → present (cParent m (xOwner m x)) ≡ false → k ≡ length (named m s x) → v ≡ xSub m s x
       → code ≡ noChildCode s → WrittenAfter (when (eqb k 0) (diag code x v 0)) out (Count count) r out′ → Written 4 diagBlock (diagsBy m x (edgeOf s)) out count r out′
   edge-written s k v code out count r out′ e f g h w =
-      subst (λ (l : List Diag). Written 4 diagBlock l out count r out′)
-      (no-child code x (xSub m s x) k v (named m s x) (eqb k 0) f g refl ∙ ap (λ (c : ℕ). noChild c x (xSub m s x) (named m s x)) h ∙ sym (edge-diags s e))
+      written-as 4 diagBlock _ _ out count r out′
+      (edge-diags s e ∙ sym (no-child code x (xSub m s x) k v (named m s x) (eqb k 0) f g refl ∙ ap (λ (c : ℕ). noChild c x (xSub m s x) (named m s x)) h))
       (after-count _ out count r out′ w)
 
   pub diags-at : (h : TheShape) → shape m x ≡ h → diagsAt m x ≡ diagsBy m x h

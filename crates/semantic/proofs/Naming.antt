@@ -4,14 +4,12 @@ use mathlib.Core.Path.{_≡_, refl, sym, ap, ap₂, _∙_}
 use mathlib.Core.List.{List, []}
 use Prim.Native.Nat.{ℕ}
 use lib.ListN.{length}
-use Rattle.as5506.specs.Lists.{}
 use Rattle.as5506.specs.Tables.{Tables, present, Side, source, destination, nameOf, nameIn, xOwner, xSub, xFeat}
 use Rattle.as5506.specs.Tracing.{foundChildren, shapeBy, shape, named, oneToOne}
+use Rattle.lent.specs.Lent.{componentsIn, connectionsIn, wiringIn}
 use Rattle.children.specs.declared.Child.{Child}
-use Rattle.children.specs.Found.{componentsIn, foundFrom, afterChild}
-use Rattle.children.proofs.Scan.{found-from-start}
-use Rattle.trace.specs.Steps.{tracingIn}
-use Rattle.trace.proofs.Scan.{found-same, after-same}
+use Rattle.children.specs.Found.{foundFrom, afterChild}
+use Rattle.children.proofs.Scan.{found-from-start, found-same, after-same}
 use Rattle.semantic.specs.declared.Shape.{Shape}
 use Rattle.semantic.specs.Rows.{shapeOf, namedFrom}
 
@@ -23,11 +21,11 @@ unfolding shape
 shape-is m x p q a b e f g h = rw (e, f, g, h)
 
 -- as tracing sees it
-pub shape-same : (bytes n c x : List ℕ) (i : ℕ) (r h : Shape) → shapeOf r ≡ shape (tracingIn [] [] [] x) i → r ≡ h → shape (tracingIn bytes n c x) i ≡ shapeOf h
+pub shape-same : (bytes n c x : List ℕ) (i : ℕ) (r h : Shape) → shapeOf r ≡ shape (connectionsIn [] [] x) i → r ≡ h → shape (wiringIn bytes n c x) i ≡ shapeOf h
 unfolding shape
 shape-same bytes n c x i r h e f = sym e ∙ ap shapeOf f
 
-pub pattern-same : (bytes n c x : List ℕ) (p : ℕ) → oneToOne (tracingIn bytes n c []) p ≡ oneToOne (tracingIn bytes n c x) p
+pub pattern-same : (bytes n c x : List ℕ) (p : ℕ) → oneToOne (componentsIn bytes n c) p ≡ oneToOne (wiringIn bytes n c x) p
 unfolding oneToOne
 pattern-same bytes n c x p = refl
 
@@ -37,15 +35,15 @@ pub named-from-start : (m : Tables) (s : Side) (x : ℕ) → namedFrom m s x 0 �
 unfolding namedFrom named
 named-from-start m s x = found-from-start m (xOwner m x) (nameOf m (xSub m s x))
 
-module _ (bytes n c x : List ℕ) (s : Side) (i p sub : ℕ) (e : p ≡ xOwner (tracingIn bytes n c x) i) (f : sub ≡ xSub (tracingIn bytes n c x) s i) where
-  from-same : (j : ℕ) → foundFrom (componentsIn bytes n c) p (nameIn bytes n sub) j ≡ namedFrom (tracingIn bytes n c x) s i j
+module _ (bytes n c x : List ℕ) (s : Side) (i p sub : ℕ) (e : p ≡ xOwner (wiringIn bytes n c x) i) (f : sub ≡ xSub (wiringIn bytes n c x) s i) where
+  from-same : (j : ℕ) → foundFrom (componentsIn bytes n c) p (nameIn bytes n sub) j ≡ namedFrom (wiringIn bytes n c x) s i j
   unfolding namedFrom
-  from-same j = found-same bytes n c x p (nameIn bytes n sub) j ∙ ap₂ (λ (p sub : ℕ). foundFrom (tracingIn bytes n c x) p (nameIn bytes n sub) j) e f
+  from-same j = found-same (wiringIn bytes n c x) p (nameIn bytes n sub) j ∙ ap₂ (λ (p sub : ℕ). foundFrom (wiringIn bytes n c x) p (nameIn bytes n sub) j) e f
 
   pub named-next : (from : ℕ) (q : Child) → foundFrom (componentsIn bytes n c) p (nameIn bytes n sub) from ≡ afterChild (foundFrom (componentsIn bytes n c) p (nameIn bytes n sub)) q
-      → namedFrom (tracingIn bytes n c x) s i from ≡ afterChild (namedFrom (tracingIn bytes n c x) s i) q
+      → namedFrom (wiringIn bytes n c x) s i from ≡ afterChild (namedFrom (wiringIn bytes n c x) s i) q
   named-next from q h = sym (from-same from) ∙ h ∙ after-same _ _ q from-same
 
-  pub named-count : (r : ℕ) → r ≡ length (foundChildren (componentsIn bytes n c) p (nameIn bytes n sub)) → r ≡ length (named (tracingIn bytes n c x) s i)
+  pub named-count : (r : ℕ) → r ≡ length (foundChildren (componentsIn bytes n c) p (nameIn bytes n sub)) → r ≡ length (named (wiringIn bytes n c x) s i)
   named-count r h =
-      h ∙ ap length (sym (found-from-start (componentsIn bytes n c) p (nameIn bytes n sub)) ∙ from-same 0 ∙ named-from-start (tracingIn bytes n c x) s i)
+      h ∙ ap length (sym (found-from-start (componentsIn bytes n c) p (nameIn bytes n sub)) ∙ from-same 0 ∙ named-from-start (wiringIn bytes n c x) s i)

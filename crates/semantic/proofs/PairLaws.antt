@@ -1,6 +1,6 @@
 -- The rows of pairs: what a loop over children or X rows has left to write, and that it all adds up to the definition's rows. Assumes nothing.
 use mathlib.Core.Bool.{true, false}
-use mathlib.Core.Path.{_≡_, refl, sym, ap, ap₂, _∙_, subst}
+use mathlib.Core.Path.{_≡_, refl, sym, ap₂, _∙_}
 use mathlib.Core.List.{List, [], _∷_, _++_, map}
 use Prim.Native.Nat.{ℕ, _+_, _-_, _≤_, _<_}
 use native.Mathlib.Nat.{sub-zero}
@@ -11,33 +11,18 @@ use Rattle.as5506.specs.Tables.{Side as TheSide}
 use Rattle.as5506.specs.Tracing.{Chain, faulty, across, neither, chainsBy, chains, reach, rowOf, pairRows, rowsAt, traced, stepLimit, shape, named, oneToOne, allAs, pairAcross, pairUp, pairDown, pairsBy, pairs}
 use Rattle.as5506.specs.Tracing.{Shape as TheShape}
 use Rattle.as5506.specs.Layout.{tracedBlock}
-use Rattle.as5506.proofs.Laws.{all-of, each-same, each-append}
+use Rattle.as5506.proofs.Laws.{all-of, each-same, each-each, each-map}
 use Rattle.as5506.proofs.Scans.{span-next, span-done}
 use Rattle.trace.specs.declared.Side.{Side}
 use Rattle.trace.specs.declared.Side.the-variants.{Source, Destination}
 use Rattle.trace.specs.declared.Wrote.{Wrote}
-use Rattle.trace.specs.declared.Wrote.the-variants.{Count, Full}
 use Rattle.trace.specs.Steps.{sideOf}
-use Rattle.trace.specs.Ends.{rowAlong, rowsAtEnd, rowsBehind}
+use Rattle.trace.specs.Ends.{theEnd, rowAlong, rowsAtEnd, rowsBehind}
 use Rattle.trace.specs.Writing.{Written}
-use Rattle.trace.proofs.Writing.{Remains, remains-turn, remains-full, remains-end}
 use Rattle.semantic.specs.declared.Start.{Start}
 use Rattle.semantic.specs.declared.Start.the-variants.{Element, Owner}
 use Rattle.semantic.specs.Rows.{edgeOf, startOn, componentOf, limitOf, pairOn, namedFrom, rowsBeside, rowsAll, rowsZip, rowsFrom}
 use Rattle.semantic.proofs.Naming.{named-from-start}
-
--- ---- a turn of a loop: what is left is c, of which a call writes a
-
-module _ {A : Type 0} (w : ℕ) (f : A → List ℕ) (all : List A) (out₀ : List ℕ) (count : ℕ) (out : List ℕ) (done : ℕ) (c : List A) (m : Remains w f all out₀ count out done c) where
-  module _ (a b : List A) (e : c ≡ a ++ b) (q : Wrote) (out′ : List ℕ) (v : Written w f a out done q out′) where
-    pub turn : (n : ℕ) → q ≡ Count n → Remains w f all out₀ count out′ n b
-    turn = remains-turn w f all out₀ count out done a b (subst (Remains w f all out₀ count out done) e m) q out′ v
-
-    pub full : q ≡ Full → (o : List ℕ) → Written w f all out₀ count Full o
-    full = remains-full w f all out₀ count out done a b (subst (Remains w f all out₀ count out done) e m) q out′ v
-
-  pub end : c ≡ [] → Written w f all out₀ count (Count done) out
-  end e = remains-end w f all out₀ count out done (subst (Remains w f all out₀ count out done) e m)
 
 -- ---- one pair
 
@@ -49,9 +34,6 @@ reach-is m s x (Owner i) = refl
 pub limit-low : (a : Start) → limitOf a ≤ 20
 limit-low (Element i) = omega arith
 limit-low (Owner i) = omega arith
-
-abbrev theEnd : ℕ → ℕ → List ℕ → Chain
-theEnd c f p = record { comp = c; feat = f; path = p }
 
 pair-rows : (m : Tables) (x : ℕ) (a b : Start)
     → rowsBehind m source x (limitOf b) (theEnd (componentOf b) (xFeat m destination x) []) (x ∷ []) (chains m source (limitOf a) (componentOf a) (xFeat m source x))
@@ -115,15 +97,6 @@ module _ (m : Tables) (x : ℕ) where
 
 -- ---- the pairs of an X row
 
-module _ {A B C : Type 0} where
-  each-each : (h : B → List C) (g : A → List B) (xs : List A) → each h (each g xs) ≡ each (λ x. each h (g x)) xs
-  each-each h g [] = refl
-  each-each h g (x ∷ xs) = each-append h (g x) (each g xs) ∙ ap (λ (r : List C). each h (g x) ++ r) (each-each h g xs)
-
-  each-map : (h : B → List C) (g : A → B) (xs : List A) → each h (map g xs) ≡ each (λ x. h (g x)) xs
-  each-map h g [] = refl
-  each-map h g (x ∷ xs) = ap (λ (r : List C). h (g x) ++ r) (each-map h g xs)
-
 module _ (m : Tables) (x : ℕ) where
   pub across-one : oneToOne m (xOwner m x) ≡ true → each (pairRows m stepLimit x) (pairsBy m x across) ≡ rowsZip m x (namedFrom m source x 0) (namedFrom m destination x 0)
   unfolding pairsBy rowsZip
@@ -176,6 +149,3 @@ rows-done m i h = rw (span-done i (xCount m) h)
 pub rows-from-start : (m : Tables) → rowsFrom m 0 ≡ traced stepLimit m
 unfolding rowsFrom traced
 rows-from-start m = rw (sub-zero (xCount m))
-
-pub written-as : {A : Type 0} (w : ℕ) (f : A → List ℕ) (l r : List A) (out : List ℕ) (count : ℕ) (q : Wrote) (out′ : List ℕ) → l ≡ r → Written w f r out count q out′ → Written w f l out count q out′
-written-as w f l r out count q out′ e v = subst (λ (t : List _). Written w f t out count q out′) (sym e) v

@@ -13,12 +13,12 @@ use Rattle.trace.specs.declared.Wrote.{Wrote}
 use Rattle.trace.specs.declared.Wrote.the-variants.{Count, Full}
 use Rattle.trace.specs.Writing.{Written}
 
--- what was answered before fits the output
+-- the blocks that were counted before fit the output
 unfoldable pub Room : List ℕ → Wrote → Type 0
 Room out (Count k) = k ≤ length out / 4
 Room out Full = Unit {0}
 
--- the diagnostics l are written behind those that were counted before; where there was no room, there is none
+-- the diagnostics l are written behind those that were counted before; where there was no room for those, there is none
 unfoldable pub WrittenAfter : List Diag → List ℕ → Wrote → Wrote → List ℕ → Type 0
 WrittenAfter l out (Count k) r out′ = Written 4 diagBlock l out k r out′
 WrittenAfter l out Full r out′ = r ≡ Full

@@ -1,2 +1,6 @@
+-- The rows and the diagnostics of each connection.
+--
+--     Rows          the shape of a connection, its ends, and the rows of some of its pairs
+--     Diagnostics   diagnostics written one after the other
 pub mod Rows
 pub mod Diagnostics

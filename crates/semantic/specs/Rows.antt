@@ -12,7 +12,7 @@ use Rattle.semantic.specs.declared.Start.the-variants.{Element, Owner}
 use Rattle.semantic.specs.declared.Shape.{Shape}
 use Rattle.semantic.specs.declared.Shape.the-variants.{Faulty, Across, Upward, Downward, Neither}
 
--- what an X row is
+-- the shape that a value of the code stands for
 abbrev pub shapeOf : Shape → TheShape
 shapeOf Faulty = faulty
 shapeOf Across = across
@@ -20,7 +20,7 @@ shapeOf Upward = upward
 shapeOf Downward = downward
 shapeOf Neither = neither
 
--- an X row with a subcomponent on side s only
+-- the shape of an X row with a subcomponent on side s only
 abbrev pub edgeOf : TheSide → TheShape
 edgeOf source = upward
 edgeOf destination = downward
@@ -30,6 +30,7 @@ abbrev pub startOn : Tables → TheSide → ℕ → Start → TheStart
 startOn m s x (Element i) = child i (xFeat m s x)
 startOn m s x (Owner i) = owner i (xFeat m s x)
 
+-- its component
 abbrev pub componentOf : Start → ℕ
 componentOf (Element i) = i
 componentOf (Owner i) = i
@@ -48,7 +49,7 @@ pairOn m x destination a b = record { from = startOn m source x b; to = startOn 
 unfoldable pub namedFrom : Tables → TheSide → ℕ → ℕ → List ℕ
 namedFrom m s x j = foundFrom m (xOwner m x) (nameOf m (xSub m s x)) j
 
--- the rows of the children l on side s, each with the end b
+-- the rows of the children l on side s, each with the end b on the other
 unfoldable pub rowsBeside : Tables → ℕ → TheSide → Start → List ℕ → List Traced
 rowsBeside m x s b l = each (λ i. pairRows m stepLimit x (pairOn m x s (Element i) b)) l
 

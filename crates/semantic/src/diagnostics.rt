@@ -1,4 +1,5 @@
-// The diagnostics of each connection.
+// The diagnostics of each connection: 1 for an end without a feature, 2 for no source child, 3 for no destination child, 4 where children are
+// paired one to one and the sides have different numbers of them.
 ghost use mathlib.Core.Bool.{not, _&&_};
 ghost use mathlib.Core.Path.{_≡_};
 ghost use mathlib.Core.List.{[], _∷_};
@@ -9,8 +10,9 @@ ghost use Rattle.as5506.specs.Lists.{when};
 ghost use Rattle.as5506.specs.Rows.{diag};
 ghost use Rattle.as5506.specs.Tracing.{diagsBy, diagsAt, tracedDiags, across};
 ghost use Rattle.as5506.specs.Layout.{diagBlock};
+ghost use Rattle.lent.specs.Lent.{wiringIn};
 ghost use Rattle.name.specs.Pattern.{saysOneToOne};
-ghost use Rattle.trace.specs.Steps.{tracingIn, sideOf};
+ghost use Rattle.trace.specs.Steps.{sideOf};
 ghost use Rattle.trace.specs.Writing.{Written};
 ghost use Rattle.semantic.specs.Rows.{edgeOf};
 ghost use Rattle.semantic.specs.Diagnostics.{Room, WrittenAfter, noChildCode};
@@ -21,7 +23,7 @@ use name::ConnectionPattern;
 use trace::Side;
 use trace::Wrote;
 
-// Writes a diagnostic: its code, the connection, and two numbers.
+// Writes a diagnostic behind the first `count`: its code, the connection, and two numbers.
 fn put_diagnostic(out: &mut [u32], code: u32, conn: u32, one: u32, two: u32, count: usize) -> Wrote
     ensures { λ r. ⌜ Written 4 diagBlock (diag code conn one two ∷ []) (now (out .entry)) count r (now (out .exit)) ⌝ }
 {
@@ -65,7 +67,7 @@ fn unequal(pattern: ConnectionPattern, a: usize, b: usize) -> bool
     }
 }
 
-// The code of the diagnostic that no child stands on a side.
+// The code of the diagnostic that a side has no child.
 fn no_child_code(side: Side) -> u32
     ensures { λ r. ⌜ r ≡ noChildCode (sideOf side) ⌝ }
 {
@@ -86,7 +88,7 @@ fn diagnose_across(
     count: usize,
 ) -> Wrote
     requires { ⌜ (length (now c) / 6 ≤ 4096) × (length (now x) / 7 ≤ 4096) × (count ≤ length (now out) / 4) × (i < length (now x) / 7) ⌝ }
-    ensures { λ r. ⌜ Written 4 diagBlock (diagsBy (tracingIn (now (bytes .entry)) (now (n .entry)) (now (c .entry)) (now (x .entry))) i across) (now (out .entry)) count r (now (out .exit)) ⌝ }
+    ensures { λ r. ⌜ Written 4 diagBlock (diagsBy (wiringIn (now (bytes .entry)) (now (n .entry)) (now (c .entry)) (now (x .entry))) i across) (now (out .entry)) count r (now (out .exit)) ⌝ }
 {
     let conn = i as u32;
     let s = ends::count_named(bytes, n, c, x, Side::Source, i);
@@ -133,7 +135,7 @@ fn diagnose_edge(
     count: usize,
 ) -> Wrote
     requires { ⌜ (length (now c) / 6 ≤ 4096) × (length (now x) / 7 ≤ 4096) × (count ≤ length (now out) / 4) × (i < length (now x) / 7) ⌝ }
-    ensures { λ r. ⌜ Written 4 diagBlock (diagsBy (tracingIn (now (bytes .entry)) (now (n .entry)) (now (c .entry)) (now (x .entry))) i (edgeOf (sideOf side))) (now (out .entry)) count r (now (out .exit)) ⌝ }
+    ensures { λ r. ⌜ Written 4 diagBlock (diagsBy (wiringIn (now (bytes .entry)) (now (n .entry)) (now (c .entry)) (now (x .entry))) i (edgeOf (sideOf side))) (now (out .entry)) count r (now (out .exit)) ⌝ }
 {
     if ends::has_parent(c, ends::owner_of(x, i)) {
         return Wrote::Count(count);
@@ -161,7 +163,7 @@ fn diagnose_connection(
     count: usize,
 ) -> Wrote
     requires { ⌜ (length (now c) / 6 ≤ 4096) × (length (now x) / 7 ≤ 4096) × (count ≤ length (now out) / 4) × (i < length (now x) / 7) ⌝ }
-    ensures { λ r. ⌜ Written 4 diagBlock (diagsAt (tracingIn (now (bytes .entry)) (now (n .entry)) (now (c .entry)) (now (x .entry))) i) (now (out .entry)) count r (now (out .exit)) ⌝ }
+    ensures { λ r. ⌜ Written 4 diagBlock (diagsAt (wiringIn (now (bytes .entry)) (now (n .entry)) (now (c .entry)) (now (x .entry))) i) (now (out .entry)) count r (now (out .exit)) ⌝ }
 {
     match ends::shape_of(x, i) {
         Shape::Faulty => put_diagnostic(out, 1, i as u32, 0, 0, count),
@@ -175,7 +177,7 @@ fn diagnose_connection(
 // Writes the diagnostics of all X rows, from the front of the output on.
 pub fn diagnose_connections(bytes: &[u8], n: &[u32], c: &[u32], x: &[u32], out: &mut [u32]) -> Wrote
     requires { ⌜ (length (now c) / 6 ≤ 4096) × (length (now x) / 7 ≤ 4096) ⌝ }
-    ensures { λ r. ⌜ Written 4 diagBlock (tracedDiags (tracingIn (now (bytes .entry)) (now (n .entry)) (now (c .entry)) (now (x .entry)))) (now (out .entry)) 0 r (now (out .exit)) ⌝ }
+    ensures { λ r. ⌜ Written 4 diagBlock (tracedDiags (wiringIn (now (bytes .entry)) (now (n .entry)) (now (c .entry)) (now (x .entry)))) (now (out .entry)) 0 r (now (out .exit)) ⌝ }
 {
     let rows = x.len() / 7;
     let mut done = 0;

@@ -1,13 +1,14 @@
-// What a connection names: its owner, its children, its pattern.
+// What a connection names: its owner, the children on each side, the pattern by which they are paired.
 ghost use mathlib.Core.Path.{_≡_};
 ghost use mathlib.Core.List.{[]};
 ghost use Prim.Native.Nat.{_+_, _*_, _/_, _<_, _≤_};
 ghost use lib.ListN.{length};
 ghost use Rattle.as5506.specs.Tables.{present, xOwner, cParent};
 ghost use Rattle.as5506.specs.Tracing.{shape, named, oneToOne};
+ghost use Rattle.lent.specs.Lent.{componentsIn, connectionsIn, wiringIn};
 ghost use Rattle.name.specs.Pattern.{saysOneToOne};
 ghost use Rattle.children.specs.Found.{afterChild, Inside};
-ghost use Rattle.trace.specs.Steps.{tracingIn, sideOf};
+ghost use Rattle.trace.specs.Steps.{sideOf};
 ghost use Rattle.semantic.specs.Rows.{shapeOf, namedFrom, componentOf, limitOf};
 use super::Shape;
 use super::Start;
@@ -17,10 +18,10 @@ use children::Child;
 use name::ConnectionPattern;
 use trace::Side;
 
-// What X row i is.
+// The shape of X row i.
 pub fn shape_of(x: &[u32], i: usize) -> Shape
     requires { ⌜ i < length (now x) / 7 ⌝ }
-    ensures { λ r. ⌜ shapeOf r ≡ shape (tracingIn [] [] [] (now (x .entry))) i ⌝ }
+    ensures { λ r. ⌜ shapeOf r ≡ shape (connectionsIn [] [] (now (x .entry))) i ⌝ }
 {
     if trace::feature_of(x, Side::Source, i) == MISSING {
         return Shape::Faulty;
@@ -44,14 +45,14 @@ pub fn shape_of(x: &[u32], i: usize) -> Shape
 // The owner of X row i.
 pub fn owner_of(x: &[u32], i: usize) -> u32
     requires { ⌜ i < length (now x) / 7 ⌝ }
-    ensures { λ r. ⌜ r ≡ xOwner (tracingIn [] [] [] (now (x .entry))) i ⌝ }
+    ensures { λ r. ⌜ r ≡ xOwner (connectionsIn [] [] (now (x .entry))) i ⌝ }
 {
     lent::number_at(x, i * 7 + 1)
 }
 
 // Whether a component has a parent.
 pub fn has_parent(c: &[u32], owner: u32) -> bool
-    ensures { λ r. ⌜ r ≡ present (cParent (tracingIn [] [] (now (c .entry)) []) owner) ⌝ }
+    ensures { λ r. ⌜ r ≡ present (cParent (componentsIn [] [] (now (c .entry))) owner) ⌝ }
 {
     lent::number_at(c, (owner as usize) * 6 + 1) != MISSING
 }
@@ -63,7 +64,7 @@ pub fn resolve_connection_pattern(
     c: &[u32],
     owner: u32,
 ) -> ConnectionPattern
-    ensures { λ r. ⌜ saysOneToOne r ≡ oneToOne (tracingIn (now (bytes .entry)) (now (n .entry)) (now (c .entry)) []) owner ⌝ }
+    ensures { λ r. ⌜ saysOneToOne r ≡ oneToOne (componentsIn (now (bytes .entry)) (now (n .entry)) (now (c .entry))) owner ⌝ }
 {
     name::pattern_of(bytes, n, lent::number_at(c, (owner as usize) * 6 + 5))
 }
@@ -79,8 +80,8 @@ pub fn next_named(
     from: usize,
 ) -> Child
     requires { ⌜ i < length (now x) / 7 ⌝ }
-    ensures { λ r. ⌜ namedFrom (tracingIn (now (bytes .entry)) (now (n .entry)) (now (c .entry)) (now (x .entry))) (sideOf side) i from
-        ≡ afterChild (namedFrom (tracingIn (now (bytes .entry)) (now (n .entry)) (now (c .entry)) (now (x .entry))) (sideOf side) i) r ⌝ }
+    ensures { λ r. ⌜ namedFrom (wiringIn (now (bytes .entry)) (now (n .entry)) (now (c .entry)) (now (x .entry))) (sideOf side) i from
+        ≡ afterChild (namedFrom (wiringIn (now (bytes .entry)) (now (n .entry)) (now (c .entry)) (now (x .entry))) (sideOf side) i) r ⌝ }
     ensures { λ r. ⌜ Inside (now (c .entry)) r ⌝ }
 {
     children::find_child_by_name(
@@ -96,7 +97,7 @@ pub fn next_named(
 // How many children X row i names on a side.
 pub fn count_named(bytes: &[u8], n: &[u32], c: &[u32], x: &[u32], side: Side, i: usize) -> usize
     requires { ⌜ i < length (now x) / 7 ⌝ }
-    ensures { λ r. ⌜ r ≡ length (named (tracingIn (now (bytes .entry)) (now (n .entry)) (now (c .entry)) (now (x .entry))) (sideOf side) i) ⌝ }
+    ensures { λ r. ⌜ r ≡ length (named (wiringIn (now (bytes .entry)) (now (n .entry)) (now (c .entry)) (now (x .entry))) (sideOf side) i) ⌝ }
     ensures { λ r. ⌜ r ≤ length (now (c .entry)) / 6 ⌝ }
 {
     children::count_children(

@@ -147,6 +147,7 @@ module _ (lent : Lent) (before : List (List ℕ)) (s : List ℕ) (l : Letter) (k
 pub record Good (lent : Lent) (before : List (List ℕ)) (s : List ℕ) : Type 0 where
   pub letter : Letter
   pub known : letterOf s ≡ some letter
+  pub order : isEarlier before letter ≡ false
   pub rules : keepsRules letter s ≡ true
   pub place : hasPlace lent before letter s ≡ true
   pub faultless : lineFaults lent before (ended s) ≡ []
@@ -160,7 +161,7 @@ good lent before s e = go (letterOf s) refl e
     three l true b c k p q r e = absurd (omega arith)
     three l false false c k p q r e = absurd (omega arith)
     three l false true false k p q r e = absurd (omega arith)
-    three l false true true k p q r e = record { letter = l; known = k; rules = q; place = r; faultless = rw (k, p, q, r) }
+    three l false true true k p q r e = record { letter = l; known = k; order = p; rules = q; place = r; faultless = rw (k, p, q, r) }
 
     go : (o : Option Letter) → letterOf s ≡ o → firstFault (knownFaults lent before s o) ≡ 0 → Good lent before s
     go none k e = absurd (omega arith)
@@ -177,22 +178,28 @@ numbers-small lent before s g l =
       | no z ↦ rw (other-line l s before (other-byte s (g .letter) l (g .known) z)) (omega arith)
     ]
 
+-- ---- a letter earlier in order than the line before's
+
+pub earlier-none : (l : Letter) → isEarlier [] l ≡ ltb (rank l) 0
+unfolding isEarlier
+earlier-none l = sym (leb·suc-zero (rank l))
+
+pub earlier-than : (before : List (List ℕ)) (s : List ℕ) (l : Letter) → letterOf s ≡ some l → (m : Letter) → isEarlier (s ∷ before) m ≡ ltb (rank m) (rank l)
+unfolding isEarlier
+earlier-than before s l known m = ap (λ (o : Option Letter). earlierThan o m) known
+
 -- ---- what has been seen
 
 pub counted-none : (seen : Seen) → seen .last ≡ 0 → seen .bytes ≡ 0 → ((l : Letter) → getD (seen .numbers) (rank l) 0 ≡ 0) → Counted seen []
-unfolding isEarlier linesWith
+unfolding linesWith
 counted-none seen last bytes numbers =
     record {
-      last = λ l. sym (ap (ltb (rank l)) last ∙ leb·suc-zero (rank l));
+      last = λ l. earlier-none l ∙ ap (ltb (rank l)) (sym last);
       bytes = bytes;
       numbers = λ l. numbers l ∙ sym (zero-mul (width l));
     }
 
 module _ (seen : Seen) (before : List (List ℕ)) (counted : Counted seen before) (s : List ℕ) (l : Letter) (known : letterOf s ≡ some l) where
-  last-more : (m : Letter) → isEarlier (s ∷ before) m ≡ ltb (rank m) (rank l)
-  unfolding isEarlier
-  last-more m = ap (λ (o : Option Letter). earlierThan o m) known
-
   own-numbers : length (seen .numbers) ≡ 11
       → getD (set (seen .numbers) (rank l) (getD (seen .numbers) (rank l) 0 + width l)) (rank l) 0 ≡ length (linesWith l (s ∷ before)) * width l
   own-numbers size =
@@ -215,7 +222,7 @@ module _ (seen : Seen) (before : List (List ℕ)) (counted : Counted seen before
       → r .last ≡ k → r .bytes ≡ seen .bytes + nameBytes (s ∷ []) → r .numbers ≡ set (seen .numbers) k (getD (seen .numbers) k 0 + width l) → Counted r (s ∷ before)
   counted-more r k at size last bytes numbers =
       record {
-        last = λ m. last-more m ∙ ap (ltb (rank m)) (sym (last ∙ at));
+        last = λ m. earlier-than before s l known m ∙ ap (ltb (rank m)) (sym (last ∙ at));
         bytes = bytes ∙ omega (arith, counted .bytes, names-split s before);
         numbers = λ m. ap (λ (ns : List ℕ). getD ns (rank m) 0) (numbers ∙ ap (λ (j : ℕ). set (seen .numbers) j (getD (seen .numbers) j 0 + width l)) at) ∙ numbers-more size m;
       }

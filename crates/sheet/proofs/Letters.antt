@@ -4,11 +4,12 @@ use mathlib.Core.List.{List, [], _∷_, map}
 use mathlib.Core.Option.{Option, none, some}
 use mathlib.Core.Path.{_≡_, refl, sym, ap, _∙_}
 use Prim.Native.Nat.{ℕ, zero, suc, _+_, _<_}
+use native.Mathlib.Decide.{decLe}
 use native.Mathlib.Nat.{not-suc-le-zero, le-of-suc-le-suc}
 use native.Mathlib.Omega.{arith}
 use borrow.Author.Tests.{eqb-true, eq-eqb}
 use lib.Dec.{eqb}
-use lib.ListN.{length, getD, drop}
+use lib.ListN.{length, getD, drop, List·getD-eq-default}
 use Rattle.as5506.specs.Columns.{order, rank, letterByte, columns}
 use Rattle.as5506.specs.Lists.{span, putIf, keep, firstOf}
 use Rattle.as5506.specs.Sheet.{letterOf}
@@ -49,30 +50,29 @@ mapped-at f (l ∷ ls) (suc k) h = mapped-at f ls k (le-of-suc-le-suc h)
 entry : (f : Letter → ℕ) (k : ℕ) → k < 11 → getD (map f order) k 0 ≡ f (letterAt k)
 entry f = mapped-at f order
 
--- the code's tables with an entry for each letter: as5506::WIDTHS, LETTERS and OPTIONAL
+-- tables with an entry for each letter: as5506::WIDTHS and LETTERS are the first two, the code's OPTIONAL is the third
 abbrev pub widths : List ℕ
-widths = 2 ∷ 6 ∷ 3 ∷ 7 ∷ 1 ∷ 2 ∷ 3 ∷ 4 ∷ 9 ∷ 8 ∷ 5 ∷ []
+widths = map width order
 
 abbrev pub letters : List ℕ
-letters = 78 ∷ 67 ∷ 70 ∷ 88 ∷ 80 ∷ 73 ∷ 84 ∷ 81 ∷ 85 ∷ 69 ∷ 82 ∷ []
+letters = map letterByte order
 
 abbrev pub optionals : List ℕ
 optionals = 0 ∷ 38 ∷ 0 ∷ 120 ∷ 0 ∷ 0 ∷ 0 ∷ 0 ∷ 504 ∷ 240 ∷ 16 ∷ []
 
--- ONE COMPUTED TEST: they are the definition's
-pub tables-right : (widths ≡ map width order) × (letters ≡ map letterByte order) × (optionals ≡ map (λ l. marksOf (columns l)) order)
+optionals-right : optionals ≡ map (λ l. marksOf (columns l)) order
 unfolding marksOf
-tables-right = (refl, refl, refl)
+optionals-right = refl
 
 module _ (k : ℕ) (h : k < 11) where
   pub width-at : getD widths k 0 ≡ width (letterAt k)
-  width-at = ap (λ (xs : List ℕ). getD xs k 0) (tables-right .0) ∙ entry width k h
+  width-at = entry width k h
 
   pub byte-at : getD letters k 0 ≡ letterByte (letterAt k)
-  byte-at = ap (λ (xs : List ℕ). getD xs k 0) (tables-right .1) ∙ entry letterByte k h
+  byte-at = entry letterByte k h
 
   pub optional-at : getD optionals k 0 ≡ marksOf (columns (letterAt k))
-  optional-at = ap (λ (xs : List ℕ). getD xs k 0) (tables-right .2) ∙ entry (λ l. marksOf (columns l)) k h
+  optional-at = ap (λ (xs : List ℕ). getD xs k 0) optionals-right ∙ entry (λ l. marksOf (columns l)) k h
 
 span-at : (i n k : ℕ) → k < n → getD (span i n) k 0 ≡ i + k
 span-at i zero k h = absurd (not-suc-le-zero h)
@@ -111,7 +111,7 @@ first-by b (l ∷ ls) i e n = go (eqb (letterByte l) b) (first-by b ls (suc i) (
 pub letter-rank : (s : List ℕ) → indexOf (getD s 0 0) letters ≡ rankOf (letterOf s)
 unfolding letterOf indexOf
 letter-rank [] = refl
-letter-rank (b ∷ s) = ap (indexOf b) (tables-right .1) ∙ sym (first-by b order 0 refl refl ∙ omega arith)
+letter-rank (b ∷ s) = sym (first-by b order 0 refl refl ∙ omega arith)
 
 passes : (p : Letter → Bool) (ls : List Letter) (l : Letter) → firstOf (keep p ls) ≡ some l → p l ≡ true
 passes p [] l e = absurd (let z : _≡_ {A = ℕ} 0 1 = cc in omega arith)
@@ -127,11 +127,19 @@ unfolding letterOf
 letter-byte [] l e = absurd (let z : _≡_ {A = ℕ} 0 1 = cc in omega arith)
 letter-byte (b ∷ s) l e = eq-eqb b (letterByte l) (sym (eqb-true (letterByte l) b (passes (λ l. eqb (letterByte l) b) order l e)))
 
+byte-some : (l : Letter) → 0 < letterByte l
+byte-some = each-letter (λ l. 0 < letterByte l) (omega arith) (omega arith) (omega arith) (omega arith) (omega arith) (omega arith) (omega arith) (omega arith) (omega arith) (omega arith) (omega arith)
+
+-- a letter stands within the sheet
+pub byte-within : (s : List ℕ) (i : ℕ) (l : Letter) → getD s i 0 ≡ letterByte l → i < length s
+byte-within s i l e =
+    elim (decLe (length s) i) [
+      | yes n ↦ absurd (omega (arith, List·getD-eq-default s 0 n, e, byte-some l))
+      | no n ↦ omega arith
+    ]
+
 no-zero : (l : Letter) → eqb 0 (letterByte l) ≡ true → ⊥
 no-zero l e = let h : 0 ≡ letterByte l = eqb-true 0 (letterByte l) e in omega (arith, byte-some l)
-  where
-    byte-some : (l : Letter) → 0 < letterByte l
-    byte-some = each-letter (λ l. 0 < letterByte l) (omega arith) (omega arith) (omega arith) (omega arith) (omega arith) (omega arith) (omega arith) (omega arith) (omega arith) (omega arith) (omega arith)
 
 known : (l : Letter) (s : List ℕ) → letterOf (letterByte l ∷ s) ≡ some l
 unfolding letterOf
@@ -141,6 +149,9 @@ known l s = each-letter (λ l. letterOf (letterByte l ∷ s) ≡ some l) refl re
 pub byte-letter : (s : List ℕ) (l : Letter) → eqb (getD s 0 0) (letterByte l) ≡ true → letterOf s ≡ some l
 byte-letter [] l e = absurd (no-zero l e)
 byte-letter (b ∷ s) l e = ap (λ (c : ℕ). letterOf (c ∷ s)) (eqb-true b (letterByte l) e) ∙ known l s
+
+pub same-byte : (a b : Letter) → letterByte a ≡ letterByte b → a ≡ b
+same-byte a b e = cc (known a [], byte-letter (letterByte a ∷ []) b (eq-eqb (letterByte a) (letterByte b) e))
 
 rank-letter : (o : Option Letter) (k : ℕ) → k < 11 → k ≡ rankOf o → o ≡ some (letterAt k)
 rank-letter none k h e = absurd (omega arith)

@@ -27,6 +27,15 @@ pub index-end : (s : List ℕ) (b i : ℕ) → length s ≤ i → indexOf b (dro
 unfolding indexOf
 index-end s b i h = rw (drop-of-length-le s h)
 
+pub index-within : (s : List ℕ) (b : ℕ) → indexOf b s ≤ length s
+unfolding indexOf
+index-within [] b = omega arith
+index-within (x ∷ s) b = go (eqb x b) (index-within s b)
+  where
+    go : (t : Bool) → indexOf b s ≤ length s → cond t 0 (suc (indexOf b s)) ≤ suc (length s)
+    go true h = omega arith
+    go false h = omega arith
+
 -- ---- the first line of s
 
 ended-case : (t : Bool) (b : ℕ) (s : List ℕ)

@@ -11,7 +11,8 @@ use Rattle.as5506.specs.Answers.{given}
 use Rattle.as5506.specs.Lists.{each, padded}
 use Rattle.as5506.specs.Sheet.{linesWith, lineName, lentOf, placed, tablesRead, readSheet, tableAfter, bytesAfter}
 use Rattle.as5506.specs.Tables.{Tables, nameIn, nameOf, Letter, letterN, table, width, count}
-use Rattle.lent.proofs.Padded.{padded-front, padded-length}
+use Rattle.as5506.proofs.Laws.{padded-length}
+use Rattle.lent.proofs.Padded.{padded-front}
 use Rattle.sheet.proofs.Rows.{whole-rows, rows-counted}
 use Rattle.sheet.proofs.Whole.{no-fault, read-is, table-fits, bytes-fit}
 use Rattle.sheet.specs.Read.{countsOf, sheetRead, ReadInto}

@@ -1,52 +1,37 @@
--- Writing the tables: what a well-formed line writes, and a turn of a loop over lines. Assumes nothing.
+-- Writing the tables: what a line writes, and the pass over the lines of a letter. Assumes nothing.
 use mathlib.Core.Bool.{Bool, true, false}
-use mathlib.Core.List.{List, [], _∷_, _++_, map, append-nil}
-use mathlib.Core.Option.{Option, some}
-use mathlib.Core.Path.{_≡_, refl, sym, ap, subst, _∙_}
-use Prim.Native.Nat.{ℕ, _+_, _-_, _*_, _≤_, _<_}
-use native.Mathlib.Decide.{decLe}
+use mathlib.Core.List.{List, [], _∷_, _++_, map}
+use mathlib.Core.Path.{_≡_, refl, sym, ap, _∙_}
+use Prim.Native.Nat.{ℕ, _+_, _-_, _≤_, _<_}
 use native.Mathlib.Omega.{arith}
 use borrow.Author.Tests.{eqb-true, eqb-false, eq-eqb, ne-eqb}
 use lib.Dec.{eqb}
-use lib.ListN.{length, take, drop, getD, length-append, length-drop}
+use lib.ListN.{length, drop, getD, length-append, length-drop}
 use lib.Seq.{sets, length-sets}
 use Rattle.as5506.specs.Columns.{rank, letterByte, columns}
 use Rattle.as5506.specs.Fields.{fieldNumbers}
-use Rattle.as5506.specs.Lists.{allOf, total, each}
-use Rattle.as5506.specs.Sheet.{ended, textOf, letterOf, linesOf, linesWith, lineName, lineRow, keepsRules, nameBytes, lineFeed, placed, rowsRead}
-use Rattle.as5506.specs.Tables.{Letter, letterN, width}
+use Rattle.as5506.specs.Lists.{total, each}
+use Rattle.as5506.specs.Sheet.{textOf, linesOf, linesWith, lineName, lineRow, nameBytes, placed, rowsRead}
+use Rattle.as5506.specs.Tables.{Letter, letterN}
 use Rattle.lent.proofs.Sets.{sets-append}
 use Rattle.fields.proofs.Laws.{columns-numbers}
 use Rattle.fields.specs.Fields.{columnsBy}
-use Rattle.sheet.proofs.Check.{both, name-size, row-size}
-use Rattle.sheet.proofs.Letters.{widths, width-at, column-count, byte-letter}
-use Rattle.sheet.proofs.Lines.{no-lines, last-line, next-line}
-use Rattle.sheet.proofs.Rows.{none-with, own-line, other-line, names-more, rows-more, placed-more, numbers-length, names-length}
-use Rattle.sheet.specs.Steps.{letterAt, indexOf, keepsLetter, wellFormed, texts}
+use Rattle.sheet.proofs.Check.{name-size}
+use Rattle.sheet.proofs.Letters.{widths, width-at, column-count, letter-byte, other-byte}
+use Rattle.sheet.proofs.Order.{lineFrom, Turn, none-later, passed}
+use Rattle.sheet.proofs.Rows.{own-line, other-line, numbers-length}
+use Rattle.sheet.specs.Steps.{letterAt, texts, inOrder, LeftFrom}
 
--- ---- a well-formed line
-
-rules-of : (s : List ℕ) (l : Letter) → wellFormed (ended s) ≡ true → letterOf s ≡ some l → keepsRules l s ≡ true
-rules-of s l w e = subst (λ (o : Option Letter). keepsLetter s o ≡ true) e w
+-- ---- the bytes of a line's name
 
 module _ (s : List ℕ) where
-  no-names : (getD s 0 0 ≡ 78 → ⊥) → linesWith letterN (s ∷ []) ≡ []
-  unfolding linesWith
-  no-names z = other-line letterN s [] (ne-eqb (getD s 0 0) 78 z)
-
-  one-name : getD s 0 0 ≡ 78 → linesWith letterN (s ∷ []) ≡ s ∷ []
-  unfolding linesWith
-  one-name e = own-line letterN s [] (eq-eqb (getD s 0 0) 78 e)
-
-  pub name-room : wellFormed (ended s) ≡ true → getD s 0 0 ≡ 78 → (3 ≤ length s) × (length s ≤ 65)
-  name-room w e = name-size s (rules-of s letterN w (byte-letter s letterN (eq-eqb (getD s 0 0) 78 e)))
-
-  -- the bytes of its name
   pub bytes-own : getD s 0 0 ≡ 78 → length s - 2 ≡ nameBytes (s ∷ [])
-  bytes-own e = sym (ap (total (λ s. length (lineName s))) (one-name e) ∙ omega (arith, length-drop 2 s))
+  unfolding linesWith
+  bytes-own e = sym (ap (total (λ s. length (lineName s))) (own-line letterN s [] (eq-eqb (getD s 0 0) 78 e)) ∙ omega (arith, length-drop 2 s))
 
   pub bytes-other : (getD s 0 0 ≡ 78 → ⊥) → 0 ≡ nameBytes (s ∷ [])
-  bytes-other z = sym (ap (total (λ s. length (lineName s))) (no-names z))
+  unfolding linesWith
+  bytes-other z = sym (ap (total (λ s. length (lineName s))) (other-line letterN s [] (ne-eqb (getD s 0 0) 78 z)))
 
   pub bytes-short : length s < 2 → 0 ≡ nameBytes (s ∷ [])
   bytes-short h = go (eqb (getD s 0 0) 78) refl
@@ -62,153 +47,138 @@ module _ (s : List ℕ) where
       go true e = omega (arith, bytes-own (eqb-true (getD s 0 0) 78 e))
       go false e = omega (arith, bytes-other (eqb-false (getD s 0 0) 78 e))
 
-  pub name-own : getD s 0 0 ≡ 78 → each lineName (linesWith letterN (s ∷ [])) ≡ drop 2 s
-  name-own e = ap (each lineName) (one-name e) ∙ append-nil (drop 2 s)
+-- ---- what the code writes for a line of the letter k
 
-  pub name-other : (getD s 0 0 ≡ 78 → ⊥) → each lineName (linesWith letterN (s ∷ [])) ≡ []
-  name-other z = ap (each lineName) (no-names z)
+module _ (s : List ℕ) (k : ℕ) (p : 0 < k) (h : k < 11) where
+  pub row-written : fieldNumbers (columnsBy (getD widths k 0) 0) (drop 1 s) ≡ lineRow (letterAt k) s
+  row-written = ap (λ (w : ℕ). fieldNumbers (columnsBy w 0) (drop 1 s)) (width-at k h ∙ column-count k p h) ∙ columns-numbers (columns (letterAt k)) 0 (drop 1 s)
 
-  -- its row
-  pub placed-own : (used : ℕ) → getD s 0 0 ≡ 78 → placed used (map lineName (linesWith letterN (s ∷ []))) ≡ used ∷ (length s - 2) ∷ []
-  unfolding placed
-  placed-own used e = ap (λ (ls : List (List ℕ)). placed used (map lineName ls)) (one-name e) ∙ rw (length-drop 2 s)
+  pub row-count : length (lineRow (letterAt k) s) ≡ getD widths k 0
+  row-count = numbers-length (columns (letterAt k)) (drop 1 s) ∙ sym (width-at k h ∙ column-count k p h)
 
-  pub placed-other : (used : ℕ) → (getD s 0 0 ≡ 78 → ⊥) → placed used (map lineName (linesWith letterN (s ∷ []))) ≡ []
-  unfolding placed
-  placed-other used z = ap (λ (ls : List (List ℕ)). placed used (map lineName ls)) (no-names z)
+-- ---- writing: the pass of the letter l stands at byte `from`. Of `all` the part W is left, which goes to t from index `at` on; t₀ is the table at the
+-- start. Of later letters all lines are left.
 
-  module _ (l : Letter) where
-    pub row-own : getD s 0 0 ≡ letterByte l → rowsRead l (s ∷ []) ≡ fieldNumbers (columns l) (drop 1 s)
-    unfolding rowsRead linesWith
-    row-own e = ap (each (lineRow l)) (own-line l s [] (eq-eqb (getD s 0 0) (letterByte l) e)) ∙ append-nil (lineRow l s)
-
-    pub row-other : (getD s 0 0 ≡ letterByte l → ⊥) → rowsRead l (s ∷ []) ≡ []
-    unfolding rowsRead linesWith
-    row-other z = ap (each (lineRow l)) (other-line l s [] (ne-eqb (getD s 0 0) (letterByte l) z))
-
-    pub row-room : (rank l ≡ 0 → ⊥) → wellFormed (ended s) ≡ true → getD s 0 0 ≡ letterByte l → length s ≡ 1 + 6 * width l
-    row-room z w e = row-size s l z (rules-of s l w (byte-letter s l (eq-eqb (getD s 0 0) (letterByte l) e)))
-
-  module _ (k : ℕ) (p : 0 < k) (h : k < 11) (own : getD s 0 0 ≡ letterByte (letterAt k)) where
-    -- what the code writes for it
-    pub row-written : fieldNumbers (columnsBy (getD widths k 0) 0) (drop 1 s) ≡ rowsRead (letterAt k) (s ∷ [])
-    row-written =
-        ap (λ (w : ℕ). fieldNumbers (columnsBy w 0) (drop 1 s)) (width-at k h ∙ column-count k p h)
-        ∙ columns-numbers (columns (letterAt k)) 0 (drop 1 s) ∙ sym (row-own (letterAt k) own)
-
-    pub row-count : length (rowsRead (letterAt k) (s ∷ [])) ≡ getD widths k 0
-    row-count = ap length (row-own (letterAt k) own) ∙ numbers-length (columns (letterAt k)) (drop 1 s) ∙ sym (width-at k h ∙ column-count k p h)
-
--- ---- a turn of a loop over the lines, from byte `from` on; `stop` is where the first line's LF stands
-
-pub record Turn (s : List ℕ) (from stop : ℕ) : Type 0 where
-  pub inside : stop < length s
-  pub texts-are : texts (drop from s) ≡ take (stop - from) (drop from s) ∷ texts (drop (stop + 1) s)
-  pub line : wellFormed (ended (take (stop - from) (drop from s))) ≡ true
-  pub rest : allOf wellFormed (linesOf (drop (stop + 1) s)) ≡ true
-
-pub turn : (s : List ℕ) (from stop : ℕ) → from < length s → stop ≡ from + indexOf lineFeed (drop from s) → stop ≤ length s
-    → allOf wellFormed (linesOf (drop from s)) ≡ true → Turn s from stop
-turn s from stop h found within w =
-    elim (decLe (length s) stop) [
-      | yes n ↦ absurd (unended-not (rw (last-line s from stop found h (omega arith)) at w))
-      | no n ↦ going (omega arith)
-    ]
-  where
-    unended-not : false ≡ true → ⊥
-    unended-not e = let z : _≡_ {A = ℕ} 0 1 = cc in omega arith
-
-    going : stop < length s → Turn s from stop
-    going n =
-        let e = next-line s from stop found n in
-        let b = both (wellFormed (ended (take (stop - from) (drop from s)))) (allOf wellFormed (linesOf (drop (stop + 1) s))) (rw e at w) in
-        record { inside = n; texts-are = ap (map textOf) e; line = b .0; rest = b .1 }
-
--- ---- writing: of `all` the part W is left, which goes to t from index `at` on; t₀ is the table at the start
-
-pub record Writing (s : List ℕ) (from : ℕ) (t₀ t W all : List ℕ) (at : ℕ) : Type 0 where
+pub record Writing (l : Letter) (s : List ℕ) (from : ℕ) (t₀ t W all : List ℕ) (at : ℕ) : Type 0 where
   pub within : from ≤ length s
-  pub well : allOf wellFormed (linesOf (drop from s)) ≡ true
+  pub order : inOrder (rank l) (linesOf (drop from s)) ≡ true
+  pub later : (m : Letter) → rank l < rank m → linesWith m (texts (drop from s)) ≡ linesWith m (texts s)
   pub size : length t ≡ length t₀
   pub room : at + length W ≤ length t₀
   pub left : sets t at W ≡ sets t₀ 0 all
 
-pub writing-start : (s t all : List ℕ) → allOf wellFormed (linesOf s) ≡ true → length all ≤ length t → Writing s 0 t t all all 0
-writing-start s t all w h = record { within = omega arith; well = w; size = refl; room = omega arith; left = refl }
+pub left-all : (s : List ℕ) → inOrder 0 (linesOf s) ≡ true → LeftFrom s 0 0
+left-all s w = record { within = omega arith; order = w; lines = λ l h. refl }
 
--- a block A has its place
-room-by : (s : List ℕ) (from : ℕ) (t₀ t W all : List ℕ) (at : ℕ) → Writing s from t₀ t W all at → (A R : List ℕ) → W ≡ A ++ R → at + length A ≤ length t
-room-by s from t₀ t W all at k A R split = omega (arith, k .size, k .room, ap length split ∙ length-append A R)
-
--- it is written, and R is left
-turn-by : (s : List ℕ) (from stop : ℕ) (t₀ t W all : List ℕ) (at : ℕ) → Writing s from t₀ t W all at → Turn s from stop
-    → (A R : List ℕ) → W ≡ A ++ R → (t′ : List ℕ) (at′ : ℕ) → t′ ≡ sets t at A → at′ ≡ at + length A → Writing s (stop + 1) t₀ t′ R all at′
-turn-by s from stop t₀ t W all at k turn A R split t′ at′ wrote next =
+pub writing-start : (l : Letter) (s : List ℕ) (from : ℕ) (t W all : List ℕ) → LeftFrom s (rank l) from → W ≡ all → length all ≤ length t → Writing l s from t t W all 0
+writing-start l s from t W all k e h =
     record {
-      within = omega (arith, turn .inside);
-      well = turn .rest;
-      size = ap length wrote ∙ length-sets t at A ∙ k .size;
-      room = omega (arith, next, ap length split ∙ length-append A R, k .room);
-      left = rw (wrote, next) (sym (sets-append A R t at)) ∙ ap (sets t at) (sym split) ∙ k .left;
+      within = k .within;
+      order = k .order;
+      later = λ m g. k .lines m (omega arith);
+      size = refl;
+      room = omega (arith, ap length e, h);
+      left = ap (sets t 0) e;
     }
 
--- a turn, for rows of a letter, for names and for the rows of names
-module _ (s : List ℕ) (from stop : ℕ) (k : Turn s from stop) (t₀ t all : List ℕ) (at : ℕ) where
-  abbrev first : List ℕ
-  first = take (stop - from) (drop from s)
+-- ---- a turn
 
-  module _ (l : Letter) (w : Writing s from t₀ t (rowsRead l (texts (drop from s))) all at) where
-    rows-split : rowsRead l (texts (drop from s)) ≡ rowsRead l (first ∷ []) ++ rowsRead l (texts (drop (stop + 1) s))
-    rows-split = ap (rowsRead l) (k .texts-are) ∙ rows-more l first (texts (drop (stop + 1) s))
+module _ (l : Letter) (s : List ℕ) (from stop : ℕ) (turn : Turn l s from stop) where
+  texts-are : texts (drop from s) ≡ lineFrom s from stop ∷ texts (drop (stop + 1) s)
+  texts-are = ap (map textOf) (turn .lines-are)
 
-    pub rows-room : at + length (rowsRead l (first ∷ [])) ≤ length t
-    rows-room = room-by s from t₀ t _ all at w (rowsRead l (first ∷ [])) (rowsRead l (texts (drop (stop + 1) s))) rows-split
+  -- of the letter l it takes the first line away
+  lines-left : linesWith l (texts (drop from s)) ≡ lineFrom s from stop ∷ linesWith l (texts (drop (stop + 1) s))
+  lines-left = ap (linesWith l) texts-are ∙ own-line l (lineFrom s from stop) (texts (drop (stop + 1) s)) (letter-byte (lineFrom s from stop) l (turn .known))
 
-    pub rows-turn : (t′ : List ℕ) (at′ : ℕ) → t′ ≡ sets t at (rowsRead l (first ∷ [])) → at′ ≡ at + length (rowsRead l (first ∷ []))
-        → Writing s (stop + 1) t₀ t′ (rowsRead l (texts (drop (stop + 1) s))) all at′
-    rows-turn = turn-by s from stop t₀ t _ all at w k (rowsRead l (first ∷ [])) _ rows-split
+  -- of a later letter none
+  still-left : (m : Letter) → rank l < rank m → linesWith m (texts (drop from s)) ≡ linesWith m (texts (drop (stop + 1) s))
+  still-left m h =
+      ap (linesWith m) texts-are
+      ∙ other-line m (lineFrom s from stop) (texts (drop (stop + 1) s)) (other-byte (lineFrom s from stop) l m (turn .known) (λ z. omega (arith, h)))
 
-  module _ (w : Writing s from t₀ t (each lineName (linesWith letterN (texts (drop from s)))) all at) where
-    names-split : each lineName (linesWith letterN (texts (drop from s))) ≡ each lineName (linesWith letterN (first ∷ [])) ++ each lineName (linesWith letterN (texts (drop (stop + 1) s)))
-    names-split = ap (λ (ls : List (List ℕ)). each lineName (linesWith letterN ls)) (k .texts-are) ∙ names-more first (texts (drop (stop + 1) s))
+  module _ (t₀ t W all : List ℕ) (at : ℕ) (k : Writing l s from t₀ t W all at) (A R : List ℕ) (split : W ≡ A ++ R) where
+    -- a block A has its place
+    room-by : at + length A ≤ length t
+    room-by = omega (arith, k .size, k .room, ap length split ∙ length-append A R)
 
-    pub names-room : at + nameBytes (first ∷ []) ≤ length t
-    names-room = rw (← names-length (linesWith letterN (first ∷ []))) (room-by s from t₀ t _ all at w (each lineName (linesWith letterN (first ∷ []))) (each lineName (linesWith letterN (texts (drop (stop + 1) s)))) names-split)
+    -- it is written, and R is left
+    turn-by : (t′ : List ℕ) (at′ : ℕ) → t′ ≡ sets t at A → at′ ≡ at + length A → Writing l s (stop + 1) t₀ t′ R all at′
+    turn-by t′ at′ wrote next =
+        record {
+          within = omega (arith, turn .inside);
+          order = turn .rest;
+          later = λ m h. sym (still-left m h) ∙ k .later m h;
+          size = ap length wrote ∙ length-sets t at A ∙ k .size;
+          room = omega (arith, next, ap length split ∙ length-append A R, k .room);
+          left = rw (wrote, next) (sym (sets-append A R t at)) ∙ ap (sets t at) (sym split) ∙ k .left;
+        }
 
-    pub names-turn : (t′ : List ℕ) (at′ : ℕ) → t′ ≡ sets t at (each lineName (linesWith letterN (first ∷ []))) → at′ ≡ at + nameBytes (first ∷ [])
-        → Writing s (stop + 1) t₀ t′ (each lineName (linesWith letterN (texts (drop (stop + 1) s)))) all at′
-    names-turn t′ at′ wrote next =
-        turn-by s from stop t₀ t _ all at w k (each lineName (linesWith letterN (first ∷ []))) _ names-split t′ at′ wrote
-        (next ∙ ap (λ (n : ℕ). at + n) (sym (names-length (linesWith letterN (first ∷ [])))))
-
-  module _ (used : ℕ) (w : Writing s from t₀ t (placed used (map lineName (linesWith letterN (texts (drop from s))))) all at) where
-    placed-split : placed used (map lineName (linesWith letterN (texts (drop from s))))
-        ≡ placed used (map lineName (linesWith letterN (first ∷ []))) ++ placed (used + nameBytes (first ∷ [])) (map lineName (linesWith letterN (texts (drop (stop + 1) s))))
-    placed-split = ap (λ (ls : List (List ℕ)). placed used (map lineName (linesWith letterN ls))) (k .texts-are) ∙ placed-more used first (texts (drop (stop + 1) s))
-
-    pub placed-room : at + length (placed used (map lineName (linesWith letterN (first ∷ [])))) ≤ length t
-    placed-room = room-by s from t₀ t _ all at w (placed used (map lineName (linesWith letterN (first ∷ [])))) (placed (used + nameBytes (first ∷ [])) (map lineName (linesWith letterN (texts (drop (stop + 1) s))))) placed-split
-
-    pub placed-turn : (t′ : List ℕ) (at′ used′ : ℕ) → t′ ≡ sets t at (placed used (map lineName (linesWith letterN (first ∷ [])))) → at′ ≡ at + length (placed used (map lineName (linesWith letterN (first ∷ []))))
-        → used′ ≡ used + nameBytes (first ∷ []) → Writing s (stop + 1) t₀ t′ (placed used′ (map lineName (linesWith letterN (texts (drop (stop + 1) s))))) all at′
-    placed-turn t′ at′ used′ wrote next more =
-        rw more (turn-by s from stop t₀ t _ all at w k (placed used (map lineName (linesWith letterN (first ∷ [])))) _ placed-split t′ at′ wrote next)
-
-pub writing-end : (s : List ℕ) (from : ℕ) (t₀ t W all : List ℕ) (at : ℕ) → Writing s from t₀ t W all at → W ≡ [] → t ≡ sets t₀ 0 all
-writing-end s from t₀ t W all at k e = sym (ap (sets t at) e) ∙ k .left
-
--- what is left at the end
-module _ (s : List ℕ) (from : ℕ) (h : length s ≤ from) where
-  no-texts : texts (drop from s) ≡ []
-  no-texts = ap (map textOf) (no-lines s from h)
-
-  pub no-rows : (l : Letter) → rowsRead l (texts (drop from s)) ≡ []
+  -- for the rows of a letter
+  rows-split : rowsRead l (texts (drop from s)) ≡ lineRow l (lineFrom s from stop) ++ rowsRead l (texts (drop (stop + 1) s))
   unfolding rowsRead
-  no-rows l = ap (λ (ls : List (List ℕ)). each (lineRow l) (linesWith l ls)) no-texts ∙ ap (each (lineRow l)) (none-with l)
+  rows-split = ap (each (lineRow l)) lines-left
 
-  pub no-names-left : each lineName (linesWith letterN (texts (drop from s))) ≡ []
-  no-names-left = ap (λ (ls : List (List ℕ)). each lineName (linesWith letterN ls)) no-texts ∙ ap (each lineName) (none-with letterN)
+  module _ (t₀ t all : List ℕ) (at : ℕ) (w : Writing l s from t₀ t (rowsRead l (texts (drop from s))) all at) where
+    pub rows-room : at + length (lineRow l (lineFrom s from stop)) ≤ length t
+    rows-room = room-by t₀ t _ all at w (lineRow l (lineFrom s from stop)) (rowsRead l (texts (drop (stop + 1) s))) rows-split
 
-  pub no-placed : (used : ℕ) → placed used (map lineName (linesWith letterN (texts (drop from s)))) ≡ []
+    pub rows-turn : (t′ : List ℕ) (at′ from′ : ℕ) → t′ ≡ sets t at (lineRow l (lineFrom s from stop)) → at′ ≡ at + length (lineRow l (lineFrom s from stop)) → from′ ≡ stop + 1
+        → Writing l s from′ t₀ t′ (rowsRead l (texts (drop from′ s))) all at′
+    rows-turn t′ at′ from′ wrote next behind = rw behind (turn-by t₀ t _ all at w (lineRow l (lineFrom s from stop)) _ rows-split t′ at′ wrote next)
+
+module _ (s : List ℕ) (from stop : ℕ) (turn : Turn letterN s from stop) where
+  -- a name has 1 to 63 bytes behind the letter and a space
+  pub name-room : (3 ≤ stop - from) × (stop - from ≤ 65)
+  name-room = let n = name-size (lineFrom s from stop) (turn .rules) in (omega (arith, n .0, turn .size), omega (arith, n .1, turn .size))
+
+  name-bytes : length (drop 2 (lineFrom s from stop)) ≡ stop - from - 2
+  name-bytes = omega (arith, length-drop 2 (lineFrom s from stop), turn .size)
+
+  -- for the names
+  names-split : each lineName (linesWith letterN (texts (drop from s))) ≡ drop 2 (lineFrom s from stop) ++ each lineName (linesWith letterN (texts (drop (stop + 1) s)))
+  names-split = ap (each lineName) (lines-left letterN s from stop turn)
+
+  module _ (t₀ t all : List ℕ) (at : ℕ) (w : Writing letterN s from t₀ t (each lineName (linesWith letterN (texts (drop from s)))) all at) where
+    pub names-room : at + (stop - from - 2) ≤ length t
+    names-room =
+        omega (arith, name-bytes, room-by letterN s from stop turn t₀ t _ all at w (drop 2 (lineFrom s from stop)) (each lineName (linesWith letterN (texts (drop (stop + 1) s)))) names-split)
+
+    pub names-turn : (t′ : List ℕ) (at′ : ℕ) → t′ ≡ sets t at (drop 2 (lineFrom s from stop)) → at′ ≡ at + (stop - from - 2)
+        → Writing letterN s (stop + 1) t₀ t′ (each lineName (linesWith letterN (texts (drop (stop + 1) s)))) all at′
+    names-turn t′ at′ wrote next =
+        turn-by letterN s from stop turn t₀ t _ all at w (drop 2 (lineFrom s from stop)) _ names-split t′ at′ wrote (next ∙ ap (λ (n : ℕ). at + n) (sym name-bytes))
+
+  -- for the rows of names
+  placed-split : (used : ℕ) → placed used (map lineName (linesWith letterN (texts (drop from s))))
+      ≡ (used ∷ (stop - from - 2) ∷ []) ++ placed (used + (stop - from - 2)) (map lineName (linesWith letterN (texts (drop (stop + 1) s))))
   unfolding placed
-  no-placed used = ap (λ (ls : List (List ℕ)). placed used (map lineName (linesWith letterN ls))) no-texts ∙ ap (λ (ls : List (List ℕ)). placed used (map lineName ls)) (none-with letterN)
+  placed-split used = ap (λ (ls : List (List ℕ)). placed used (map lineName ls)) (lines-left letterN s from stop turn) ∙ rw name-bytes
+
+  module _ (t₀ t all : List ℕ) (at used : ℕ) (w : Writing letterN s from t₀ t (placed used (map lineName (linesWith letterN (texts (drop from s))))) all at) where
+    pub placed-room : at + 2 ≤ length t
+    placed-room = room-by letterN s from stop turn t₀ t _ all at w (used ∷ (stop - from - 2) ∷ []) _ (placed-split used)
+
+    pub placed-turn : (t′ : List ℕ) (at′ used′ : ℕ) → t′ ≡ sets t at (used ∷ (stop - from - 2) ∷ []) → at′ ≡ at + 2 → used′ ≡ used + (stop - from - 2)
+        → Writing letterN s (stop + 1) t₀ t′ (placed used′ (map lineName (linesWith letterN (texts (drop (stop + 1) s))))) all at′
+    placed-turn t′ at′ used′ wrote next more =
+        rw more (turn-by letterN s from stop turn t₀ t _ all at w (used ∷ (stop - from - 2) ∷ []) _ (placed-split used) t′ at′ wrote next)
+
+-- ---- the end: no line of the letter l begins at byte `from`
+
+module _ (l : Letter) (s : List ℕ) (from : ℕ) (t₀ t W all : List ℕ) (at : ℕ) (k : Writing l s from t₀ t W all at) (b : getD s from 0 ≡ letterByte l → ⊥) where
+  pub left-from : LeftFrom s (rank l + 1) from
+  left-from = record { within = k .within; order = passed l s from b (k .order); lines = λ m h. k .later m (omega (arith, h)) }
+
+  -- what is made of the letter's lines, and is nothing where there are none, is written
+  pub writing-end : (f : List (List ℕ) → List ℕ) → f [] ≡ [] → W ≡ f (linesWith l (texts (drop from s))) → t ≡ sets t₀ 0 all
+  writing-end f none e =
+      sym (ap (sets t at) (e ∙ ap f (none-later l (rank l + 1) (linesOf (drop from s)) (omega arith) (passed l s from b (k .order))) ∙ none)) ∙ k .left
+
+pub rows-of : (l : Letter) (ls : List (List ℕ)) → rowsRead l ls ≡ each (lineRow l) (linesWith l ls)
+unfolding rowsRead
+rows-of l ls = refl
+
+pub none-placed : (used : ℕ) → placed used [] ≡ []
+unfolding placed
+none-placed used = refl

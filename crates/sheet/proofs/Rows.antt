@@ -1,6 +1,6 @@
 -- The lines of a letter and their rows: one line more, all lines in the other order, and how many numbers they are. Assumes nothing.
 use mathlib.Core.Bool.{Bool, true, false}
-use mathlib.Core.List.{List, [], _∷_, _++_, map, reverse, reverseAux, append-nil}
+use mathlib.Core.List.{List, [], _∷_, map, reverse, reverseAux}
 use mathlib.Core.Path.{_≡_, refl, sym, ap, ap₂, _∙_}
 use Prim.Native.Nat.{ℕ, suc, _+_, _*_, _/_, _<_}
 use native.Mathlib.Nat.{add-mul, zero-mul, zero-add, add-zero, mul-div-cancel}
@@ -31,31 +31,6 @@ own-line l s ls e = rw e
 pub other-line : (l : Letter) (s : List ℕ) (ls : List (List ℕ)) → eqb (getD s 0 0) (letterByte l) ≡ false → linesWith l (s ∷ ls) ≡ linesWith l ls
 unfolding linesWith
 other-line l s ls e = rw e
-
-each-more : (f : List ℕ → List ℕ) (b : Bool) (s : List ℕ) (ls : List (List ℕ)) → each f (putIf b s ls) ≡ each f (putIf b s []) ++ each f ls
-each-more f true s ls = rw (append-nil (f s))
-each-more f false s ls = refl
-
-pub names-more : (s : List ℕ) (ls : List (List ℕ)) → each lineName (linesWith letterN (s ∷ ls)) ≡ each lineName (linesWith letterN (s ∷ [])) ++ each lineName (linesWith letterN ls)
-unfolding linesWith
-names-more s ls = each-more lineName (eqb (getD s 0 0) (letterByte letterN)) s (linesWith letterN ls)
-
-pub rows-more : (l : Letter) (s : List ℕ) (ls : List (List ℕ)) → rowsRead l (s ∷ ls) ≡ rowsRead l (s ∷ []) ++ rowsRead l ls
-unfolding rowsRead linesWith
-rows-more l s ls = each-more (lineRow l) (eqb (getD s 0 0) (letterByte l)) s (linesWith l ls)
-
-placed-by : (from : ℕ) (b : Bool) (s : List ℕ) (ls : List (List ℕ))
-    → placed from (map lineName (putIf b s ls))
-    ≡ placed from (map lineName (putIf b s [])) ++ placed (from + total (λ s. length (lineName s)) (putIf b s [])) (map lineName ls)
-unfolding placed
-placed-by from true s ls = rw (add-zero (length (lineName s)))
-placed-by from false s ls = rw (add-zero from)
-
-pub placed-more : (from : ℕ) (s : List ℕ) (ls : List (List ℕ))
-    → placed from (map lineName (linesWith letterN (s ∷ ls)))
-    ≡ placed from (map lineName (linesWith letterN (s ∷ []))) ++ placed (from + nameBytes (s ∷ [])) (map lineName (linesWith letterN ls))
-unfolding linesWith
-placed-more from s ls = placed-by from (eqb (getD s 0 0) (letterByte letterN)) s (linesWith letterN ls)
 
 -- ---- how many numbers
 

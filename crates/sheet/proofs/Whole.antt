@@ -11,16 +11,16 @@ use lib.ListN.{length, getD, length-replicate}
 use lib.Seq.{sets}
 use Rattle.as5506.specs.Answers.{Refusal, refusal, line, Answer, given, refused, fault, unlessFaults}
 use Rattle.as5506.specs.Columns.{rank, letterByte}
-use Rattle.as5506.specs.Lists.{allOf}
-use Rattle.as5506.specs.Sheet.{Line, ended, unended, textOf, linesOf, linesWith, isN, Lent, lentOf, nameBytes, hasPlace, lineFaults, faultsFrom, sheetFaults, tablesRead, readSheet, tableAfter, bytesAfter}
+use Rattle.as5506.specs.Sheet.{Line, ended, unended, textOf, linesOf, linesWith, isN, Lent, lentOf, nameBytes, hasPlace, isEarlier, lineFaults, faultsFrom, sheetFaults, tablesRead, readSheet, tableAfter, bytesAfter}
 use Rattle.as5506.specs.Tables.{Tables, Letter, letterN, table, width}
 use Rattle.as5506.specs.declared.Refusal.{Refusal as Told}
 use Rattle.lent.proofs.Padded.{padded-is}
-use Rattle.sheet.proofs.Check.{both, Good, good}
+use Rattle.sheet.proofs.Check.{both, Good, good, earlier-none, earlier-than}
 use Rattle.sheet.proofs.Letters.{each-letter, byte-letter}
+use Rattle.sheet.proofs.Order.{first-in}
 use Rattle.sheet.proofs.Rows.{none-with, own-line, other-line, names-length, whole-rows, lines-split, names-split}
 use Rattle.sheet.specs.Read.{sheetRead, ReadInto}
-use Rattle.sheet.specs.Steps.{lentBy, firstFault, wellFormed, texts, Cleared}
+use Rattle.sheet.specs.Steps.{lentBy, firstFault, texts, inOrder, Cleared}
 use Rattle.sheet.specs.declared.Counts.{Counts}
 use Rattle.sheet.specs.declared.SheetRead.{SheetRead}
 use Rattle.sheet.specs.declared.SheetRead.the-variants.{Read, Refused}
@@ -49,12 +49,15 @@ module _ (lent : Lent) where
   unfolding faultsFrom lineFaults
   none-unended before k s ls e = absurd (let z : _≡_ {A = ℕ} 0 1 = cc in omega arith)
 
-  all-well : (before : List (List ℕ)) (k : ℕ) (ls : List Line) → faultsFrom lent before k ls ≡ [] → allOf wellFormed ls ≡ true
-  all-well before k [] e = refl
-  all-well before k (unended s ∷ ls) e = none-unended before k s ls e
-  all-well before k (ended s ∷ ls) e =
+  -- they keep the rules and stand in order
+  all-in-order : (last : ℕ) (before : List (List ℕ)) (k : ℕ) (ls : List Line) → ((l : Letter) → isEarlier before l ≡ ltb (rank l) last) → faultsFrom lent before k ls ≡ [] → inOrder last ls ≡ true
+  all-in-order last before k [] o e = refl
+  all-in-order last before k (unended s ∷ ls) o e = none-unended before k s ls e
+  all-in-order last before k (ended s ∷ ls) o e =
       let g = first-good before k s ls e in
-      rw (g .0 .known, g .0 .rules) (all-well (s ∷ before) (suc k) ls (g .1))
+      let l = g .0 .letter in
+      first-in last s ls l (g .0 .known) (g .0 .rules) (ltb-false (rank l) last (sym (o l) ∙ g .0 .order))
+      (all-in-order (rank l) (s ∷ before) (suc k) ls (earlier-than before s l (g .0 .known)) (g .1))
 
   -- ---- they fit
 
@@ -114,8 +117,8 @@ module _ (lent : Lent) (s : List ℕ) (none : sheetFaults lent s ≡ []) where
       go true e f = absurd (let z : _≡_ {A = ℕ} 0 1 = cc in omega arith)
       go false e f = ltb-false 16384 (length s) e
 
-  pub sheet-well : allOf wellFormed (linesOf s) ≡ true
-  sheet-well = all-well lent [] 1 (linesOf s) lines-none
+  pub sheet-in-order : inOrder 0 (linesOf s) ≡ true
+  sheet-in-order = all-in-order lent 0 [] 1 (linesOf s) earlier-none lines-none
 
   pub read-is : readSheet lent s ≡ given (tablesRead (texts s))
   unfolding readSheet

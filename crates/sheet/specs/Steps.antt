@@ -1,11 +1,11 @@
 -- What the private functions say: belongs to the code, and defines nothing of the sheet anew. Assumes nothing.
-use mathlib.Core.Bool.{Bool, false, cond}
+use mathlib.Core.Bool.{Bool, true, false, cond, _&&_}
 use mathlib.Core.List.{List, [], _∷_, map, reverseAux}
 use mathlib.Core.Option.{Option, none, some}
 use mathlib.Core.Path.{_≡_}
-use Prim.Native.Nat.{ℕ, suc, _*_}
-use lib.Dec.{eqb, ltb}
-use lib.ListN.{length, getD}
+use Prim.Native.Nat.{ℕ, suc, _*_, _≤_}
+use lib.Dec.{eqb, leb, ltb}
+use lib.ListN.{length, getD, drop}
 use Rattle.as5506.specs.Answers.{unlessFaults}
 use Rattle.as5506.specs.Columns.{order, rank}
 use Rattle.as5506.specs.Lists.{zeros}
@@ -67,6 +67,21 @@ wellFormed (ended s) = keepsLetter s (letterOf s)
 -- the texts of a sheet's lines
 abbrev pub texts : List ℕ → List (List ℕ)
 texts s = map textOf (linesOf s)
+
+-- a line's letter by its place in the order
+abbrev pub lineRank : Line → ℕ
+lineRank l = rankOf (letterOf (textOf l))
+
+-- whether lines are well formed and their letters stand in order, none of them before k
+abbrev pub inOrder : ℕ → List Line → Bool
+inOrder k [] = true
+inOrder k (l ∷ ls) = wellFormed l && leb k (lineRank l) && inOrder (lineRank l) ls
+
+-- from byte `from` on stand all the lines of the letters from k on, in order, and no others
+pub record LeftFrom (s : List ℕ) (k from : ℕ) : Type 0 where
+  pub within : from ≤ length s
+  pub order : inOrder k (linesOf (drop from s)) ≡ true
+  pub lines : (l : Letter) → k ≤ rank l → linesWith l (texts (drop from s)) ≡ linesWith l (texts s)
 
 -- every lent slice is zeros
 pub record Cleared (before after : Tables) : Type 0 where

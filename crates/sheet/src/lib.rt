@@ -1,6 +1,7 @@
 // The reader of a sheet: from any bytes to tables, or to one refusal. A first pass checks every line and writes nothing; then each table is
-// written by a pass of its own, which looks for the lines of its letter. So nothing has to be taken back, and a table's contract speaks of that
-// table alone. (Thirteen passes over at most 16,384 bytes; bench/sheet says how long they take.)
+// written by a pass of its own over the lines of its letter, which begins where the pass of the letter before ended: the letters stand in order. So
+// nothing has to be taken back, and a table's contract speaks of that table alone. (Each line is checked once and written once, the N lines twice: a
+// pass for their bytes and one for their rows. bench/sheet says how long that takes.)
 // Definitions: as5506, Sheet and Fields; specs/Read.antt says what a call gives, specs/Steps.antt what the private functions say beside that.
 // Laws for callers: proofs/Model.antt.
 ghost use mathlib.Core.Path.{_≡_};
@@ -10,12 +11,12 @@ ghost use Prim.Native.Nat.{ℕ, _+_, _≤_, _<_};
 ghost use lib.Dec.{leb};
 ghost use lib.ListN.{length, drop, getD};
 ghost use lib.Seq.{sets};
-ghost use Rattle.as5506.specs.Lists.{allOf, each};
+ghost use Rattle.as5506.specs.Lists.{each};
 ghost use Rattle.as5506.specs.Tables.{letterN, tablesOf};
 ghost use Rattle.as5506.specs.Answers.{refusal, line, told};
 ghost use Rattle.as5506.specs.Sheet.{ended, letterOf, linesOf, linesWith, lineName, keepsRules, hasPlace, lineFaults, nameBytes, placed, rowsRead, tablesRead, readSheet};
 ghost use Rattle.sheet.specs.Read.{countsOf, sheetRead, ReadInto};
-ghost use Rattle.sheet.specs.Steps.{letterAt, rankOf, indexOf, lentBy, Counted, firstFault, answerFrom, wellFormed, texts, Cleared};
+ghost use Rattle.sheet.specs.Steps.{letterAt, rankOf, indexOf, lentBy, Counted, firstFault, answerFrom, texts, inOrder, LeftFrom, Cleared};
 
 // The bytes of names, and the rows of each letter, that were read.
 pub struct Counts {
@@ -38,21 +39,6 @@ pub enum SheetRead {
     Read(Counts),
     Refused(as5506::Refusal),
 }
-
-// A letter is known by its place in the order: 0 is N, 10 is R.
-const LETTERS: [u8; 11] = [
-    b'N',
-    b'C',
-    b'F',
-    b'X',
-    b'P',
-    b'I',
-    b'T',
-    b'Q',
-    b'U',
-    b'E',
-    b'R',
-];
 
 // For each letter a bit for each field that may be missing, the first field lowest.
 const OPTIONAL: [usize; 11] = [
@@ -103,7 +89,7 @@ fn index_from(s: &[u8], at: usize, b: u8) -> usize
 fn letter(line: &[u8]) -> usize
     ensures { λ r. ⌜ r ≡ rankOf (letterOf (now (line .entry))) ⌝ }
 {
-    index_from(&LETTERS, 0, lent::byte_at(line, 0))
+    index_from(&as5506::LETTERS, 0, lent::byte_at(line, 0))
 }
 
 // The length of an N line's name; 0 of any other line.
@@ -297,89 +283,60 @@ fn check_sheet(sheet: &[u8], room: Room) -> SheetRead
 
 // ---- the tables
 
-// Writes the row of a line of the letter k to `table` from index `at` on, and gives the next place; passes over any other line.
-fn put_row(line: &[u8], k: usize, table: &mut [u32], at: usize) -> usize
-    requires { ⌜ (0 < k) × (k < 11) × (wellFormed (ended (now line)) ≡ true) × (at + length (rowsRead (letterAt k) (now line ∷ [])) ≤ length (now table)) ⌝ }
-    ensures { λ r. ⌜ (r ≡ at + length (rowsRead (letterAt k) (now (line .entry) ∷ [])))
-        × (now (table .exit) ≡ sets (now (table .entry)) at (rowsRead (letterAt k) (now (line .entry) ∷ []))) ⌝ }
-{
-    if lent::byte_at(line, 0) == LETTERS[k] {
-        let w = as5506::WIDTHS[k];
-        fields::put_fields(line, w, table, at);
-        return at + w;
-    }
-    at
-}
-
-// Writes the rows of a letter k other than N to its table.
-fn put_rows(sheet: &[u8], k: usize, table: &mut [u32])
-    requires { ⌜ (0 < k) × (k < 11) × (allOf wellFormed (linesOf (now sheet)) ≡ true) × (length (rowsRead (letterAt k) (texts (now sheet))) ≤ length (now table)) ⌝ }
-    ensures { λ _. ⌜ now (table .exit) ≡ sets (now (table .entry)) 0 (rowsRead (letterAt k) (texts (now (sheet .entry)))) ⌝ }
-{
-    let mut from = 0;
-    let mut at = 0;
-    while from < sheet.len() {
-        let end = index_from(sheet, from, b'\n');
-        at = put_row(&sheet[from..end], k, table, at);
-        from = end + 1;
-    }
-}
-
-// Writes the name of an N line to the byte table from index `at` on; passes over any other line.
-fn put_name(line: &[u8], bytes: &mut [u8], at: usize)
-    requires { ⌜ (wellFormed (ended (now line)) ≡ true) ⌝ }
-    ensures { λ _. ⌜ now (bytes .exit) ≡ sets (now (bytes .entry)) at (each lineName (linesWith letterN (now (line .entry) ∷ []))) ⌝ }
-{
-    if lent::byte_at(line, 0) == b'N' {
-        lent::put_bytes(bytes, at, &line[2..]);
-    }
-}
-
 // Writes the names one after the other to the byte table.
 fn put_names(sheet: &[u8], bytes: &mut [u8])
-    requires { ⌜ (allOf wellFormed (linesOf (now sheet)) ≡ true) × (length (each lineName (linesWith letterN (texts (now sheet)))) ≤ length (now bytes)) ⌝ }
+    requires { ⌜ (inOrder 0 (linesOf (now sheet)) ≡ true) × (length (each lineName (linesWith letterN (texts (now sheet)))) ≤ length (now bytes)) ⌝ }
     ensures { λ _. ⌜ now (bytes .exit) ≡ sets (now (bytes .entry)) 0 (each lineName (linesWith letterN (texts (now (sheet .entry))))) ⌝ }
 {
     let mut from = 0;
     let mut used = 0;
-    while from < sheet.len() {
+    while lent::byte_at(sheet, from) == b'N' {
         let end = index_from(sheet, from, b'\n');
         let line = &sheet[from..end];
-        put_name(line, bytes, used);
-        used += name_length(line);
+        lent::put_bytes(bytes, used, &line[2..]);
+        used += line.len() - 2;
         from = end + 1;
     }
 }
 
-// Writes the row of an N line, whose name stands at `used` in the byte table, to `n` from index `at` on, and gives the next place; passes over any other line.
-fn put_name_row(line: &[u8], n: &mut [u32], at: usize, used: usize) -> usize
-    requires { ⌜ (wellFormed (ended (now line)) ≡ true) × (used ≤ 16384) × (at + length (placed used (map lineName (linesWith letterN (now line ∷ [])))) ≤ length (now n)) ⌝ }
-    ensures { λ r. ⌜ (r ≡ at + length (placed used (map lineName (linesWith letterN (now (line .entry) ∷ [])))))
-        × (now (n .exit) ≡ sets (now (n .entry)) at (placed used (map lineName (linesWith letterN (now (line .entry) ∷ []))))) ⌝ }
-{
-    if lent::byte_at(line, 0) == b'N' {
-        n[at] = used as u32;
-        n[at + 1] = (line.len() - 2) as u32;
-        return at + 2;
-    }
-    at
-}
-
-// Writes the rows of N: each name's offset and length in the byte table.
-fn put_name_rows(sheet: &[u8], n: &mut [u32])
-    requires { ⌜ (length (now sheet) ≤ 16384) × (allOf wellFormed (linesOf (now sheet)) ≡ true) × (length (placed 0 (map lineName (linesWith letterN (texts (now sheet))))) ≤ length (now n)) ⌝ }
-    ensures { λ _. ⌜ now (n .exit) ≡ sets (now (n .entry)) 0 (placed 0 (map lineName (linesWith letterN (texts (now (sheet .entry)))))) ⌝ }
+// Writes the rows of N, each name's offset and length in the byte table, and gives where the first line behind the N lines begins.
+fn put_name_rows(sheet: &[u8], n: &mut [u32]) -> usize
+    requires { ⌜ (length (now sheet) ≤ 16384) × (inOrder 0 (linesOf (now sheet)) ≡ true) × (length (placed 0 (map lineName (linesWith letterN (texts (now sheet))))) ≤ length (now n)) ⌝ }
+    ensures { λ r. ⌜ LeftFrom (now (sheet .entry)) 1 r
+        × (now (n .exit) ≡ sets (now (n .entry)) 0 (placed 0 (map lineName (linesWith letterN (texts (now (sheet .entry))))))) ⌝ }
 {
     let mut from = 0;
     let mut at = 0;
     let mut used = 0;
-    while from < sheet.len() {
+    while lent::byte_at(sheet, from) == b'N' {
         let end = index_from(sheet, from, b'\n');
-        let line = &sheet[from..end];
-        at = put_name_row(line, n, at, used);
-        used += name_length(line);
+        let bytes = end - from - 2;
+        n[at] = used as u32;
+        n[at + 1] = bytes as u32;
+        at += 2;
+        used += bytes;
         from = end + 1;
     }
+    from
+}
+
+// Writes the rows of a letter k other than N, whose lines begin at byte `start`, to its table, and gives where the first line behind them begins.
+// A line of the letter has a field of six bytes for each number, so its LF need not be looked for.
+fn put_rows(sheet: &[u8], start: usize, k: usize, table: &mut [u32]) -> usize
+    requires { ⌜ (0 < k) × (k < 11) × LeftFrom (now sheet) k start × (length (rowsRead (letterAt k) (texts (now sheet))) ≤ length (now table)) ⌝ }
+    ensures { λ r. ⌜ LeftFrom (now (sheet .entry)) (k + 1) r
+        × (now (table .exit) ≡ sets (now (table .entry)) 0 (rowsRead (letterAt k) (texts (now (sheet .entry))))) ⌝ }
+{
+    let w = as5506::WIDTHS[k];
+    let mut from = start;
+    let mut at = 0;
+    while lent::byte_at(sheet, from) == as5506::LETTERS[k] {
+        let end = from + (1 + 6 * w);
+        fields::put_fields(&sheet[from..end], w, table, at);
+        at += w;
+        from += 2 + 6 * w;
+    }
+    from
 }
 
 // ---- the whole
@@ -460,16 +417,16 @@ pub fn read_sheet(
         return read;
     };
     put_names(sheet, bytes);
-    put_name_rows(sheet, n);
-    put_rows(sheet, 1, c);
-    put_rows(sheet, 2, f);
-    put_rows(sheet, 3, x);
-    put_rows(sheet, 4, p);
-    put_rows(sheet, 5, i);
-    put_rows(sheet, 6, t);
-    put_rows(sheet, 7, q);
-    put_rows(sheet, 8, u);
-    put_rows(sheet, 9, e);
-    put_rows(sheet, 10, r);
+    let from_c = put_name_rows(sheet, n);
+    let from_f = put_rows(sheet, from_c, 1, c);
+    let from_x = put_rows(sheet, from_f, 2, f);
+    let from_p = put_rows(sheet, from_x, 3, x);
+    let from_i = put_rows(sheet, from_p, 4, p);
+    let from_t = put_rows(sheet, from_i, 5, i);
+    let from_q = put_rows(sheet, from_t, 6, t);
+    let from_u = put_rows(sheet, from_q, 7, q);
+    let from_e = put_rows(sheet, from_u, 8, u);
+    let from_r = put_rows(sheet, from_e, 9, e);
+    put_rows(sheet, from_r, 10, r);
     read
 }

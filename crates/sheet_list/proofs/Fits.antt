@@ -10,11 +10,13 @@ use borrow.Author.Tests.{lt-ltb, le-ltb}
 use lib.ListN.{length}
 use lib.Seq.{sets}
 use Rattle.as5506.specs.Lists.{zeros, padded}
-use Rattle.as5506.specs.Answers.{refusal, nowhere}
+use Rattle.as5506.specs.declared.Refusal.{Refusal as Told}
+use Rattle.as5506.specs.Answers.{refusal, nowhere, told}
 use Rattle.as5506.specs.Text.{refusalText, textWithin}
 use Rattle.as5506.specs.Program.{textOrRefusal, whatFits}
 use Rattle.lent.proofs.Padded.{padded-none, padded-is}
-use Rattle.text.specs.Printing.{Printed}
+use Rattle.text.specs.Printing.{Printed, refusalOf}
+use Rattle.text.proofs.Printed.{refusal-printed}
 use Rattle.sheet_list.specs.Printing.{Shown}
 
 -- an equal text
@@ -76,11 +78,11 @@ module _ (t text : List ℕ) (z : ℕ) (text′ : List ℕ) (p : Printed t text 
   pub list-stands : text ≡ zeros (length text) → z ≤ length text → Shown (textOrRefusal (textWithin (length text) t)) text z text′
   list-stands e h = same-text t (textOrRefusal (textWithin (length text) t)) text z text′ (sym (within-is h)) (stands e h)
 
-  pub list-over : (text″ : List ℕ) (y : ℕ) (text‴ : List ℕ) → length text < z → length text″ ≡ length text → Shown (refusalText (refusal 15 nowhere)) text″ y text‴
+  pub list-over : (text″ : List ℕ) (r : Told) (y : ℕ) (text‴ : List ℕ) → length text < z → length text″ ≡ length text → r ≡ told (refusal 15 nowhere) → Shown (refusalOf r) text″ y text‴
       → Shown (textOrRefusal (textWithin (length text) t)) text y text‴
-  list-over text″ y text‴ h e s =
-      let w = within-over h in
+  list-over text″ r y text‴ h e f s =
+      let w : refusalOf r ≡ textOrRefusal (textWithin (length text) t) = ap refusalOf f ∙ sym (refusal-printed (refusal 15 nowhere)) ∙ sym (within-over h) in
       record {
-        used = s .used ∙ (λ i. length (whatFits (e i) (sym w i)));
-        written = s .written ∙ (λ i. padded (e i) (whatFits (e i) (sym w i)));
+        used = s .used ∙ (λ i. length (whatFits (e i) (w i)));
+        written = s .written ∙ (λ i. padded (e i) (whatFits (e i) (w i)));
       }

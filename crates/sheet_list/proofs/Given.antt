@@ -1,7 +1,7 @@
 -- What an answer that gives both lists holds: no more than there is room for, and short paths; and its list as it is printed from the outputs. Assumes nothing.
 use mathlib.Core.Bool.{Bool, true, false}
 use mathlib.Core.Option.{Option, none, some}
-use mathlib.Core.Path.{_≡_, refl, sym, ap, subst, _∙_}
+use mathlib.Core.Path.{_≡_, refl, sym, ap, _∙_}
 use mathlib.Core.List.{List, [], _∷_, _++_, map}
 use Prim.Native.Nat.{ℕ, _+_, _≤_}
 use native.Mathlib.Omega.{arith}
@@ -19,14 +19,14 @@ use Rattle.as5506.specs.Layout.{tracedRowNumbers, tracedDiagNumbers, groupRowNu
 use Rattle.as5506.specs.Text.{textWithin, printed}
 use Rattle.as5506.specs.Program.{textOrRefusal, printedOrRefusal}
 use Rattle.as5506.specs.declared.Refusal.{Refusal as Told}
-use Rattle.as5506.proofs.Laws.{All, all-of, all-each, nil-left, nil-right, nil-when}
+use Rattle.as5506.proofs.Laws.{All, all-of, all-each, not-both, nil-left, nil-right, nil-when}
+use Rattle.as5506.proofs.Back.{ShortPath, ShortRow, traced-back, group-back, traced-diags-back, group-diags-back}
 use Rattle.as5506.proofs.Ends.{traced-short}
 use Rattle.listing.specs.declared.Both.{Both}
 use Rattle.listing.specs.declared.Both.the-variants.{Rows, Refused}
 use Rattle.listing.specs.Answer.{listed}
 use Rattle.text.specs.Printing.{listOf, refusalOf}
 use Rattle.text.proofs.Printed.{list-printed, refusal-printed, four, list-same, traced-same}
-use Rattle.sheet_list.proofs.Back.{ShortPath, ShortRow, traced-back, group-back, traced-diags-back, group-diags-back}
 
 -- ---- what holds of an answer that is given
 
@@ -148,16 +148,13 @@ abbrev reasonOr : Told → Both → Told
 reasonOr t (Rows k d l g) = t
 reasonOr t (Refused r) = r
 
-not-both : (y z : Both) → y ≡ z → T (isRows z) → isRows y ≡ false → ⊥
-not-both y z e t f = subst T (ap isRows (sym e) ∙ f) t
-
 module _ (room room′ : Room) (m : Tables) (k d l g : ℕ) where
   -- how many rows and diagnostics there are, where there is a list
   pub counts-fit : (a : Answer BothLists) → Holds (BothFit room room′) a → Rows k d l g ≡ listed a
       → (k ≤ room .rows) × (l ≤ room′ .rows) × (d ≤ room .diags) × (g ≤ room′ .diags)
   counts-fit (given b) h e =
       (rw (ap tracedRows e) (h .traced .rows), rw (ap groupRows e) (h .group .rows), rw (ap tracedDiags e) (h .traced .diags), rw (ap groupDiags e) (h .group .diags))
-  counts-fit (refused r) h e = absurd (not-both (Refused (told r)) (Rows k d l g) (sym e) tt refl)
+  counts-fit (refused r) h e = absurd (not-both isRows (Rows k d l g) (Refused (told r)) e tt refl)
 
   -- the list that is printed from the outputs, of n₁ to n₅ numbers, is the definition's; n: the length of the output of text
   pub list-given : (n n₁ n₂ n₃ n₄ n₅ : ℕ) (a : Answer BothLists) → Holds (BothFit room room′) a → Rows k d l g ≡ listed a
@@ -190,10 +187,10 @@ module _ (room room′ : Room) (m : Tables) (k d l g : ℕ) where
           (diagsBack d (padded n₂ (tracedDiagNumbers (b .traced)))) (diagsBack g (padded n₅ (groupDiagNumbers (b .group))))
           ≡ listOf (four m) (map (shown m) (b .traced .rows)) (b .group .rows) (b .traced .diags) (b .group .diags)
       back = λ i. listOf (four m) (traced-is i) (group-is i) (diags-are i) (group-diags-are i)
-  list-given n n₁ n₂ n₃ n₄ n₅ (refused r) h e = absurd (not-both (Refused (told r)) (Rows k d l g) (sym e) tt refl)
+  list-given n n₁ n₂ n₃ n₄ n₅ (refused r) h e = absurd (not-both isRows (Rows k d l g) (Refused (told r)) e tt refl)
 
 -- a refusal of the listings is printed as it is handed over
 pub listing-refused : (n : ℕ) (m : Tables) (t : Told) (a : Answer BothLists) → Refused t ≡ listed a → refusalOf t ≡ printedOrRefusal n m a
 unfolding printedOrRefusal
-listing-refused n m t (given b) e = absurd (not-both (Refused t) _ e tt refl)
+listing-refused n m t (given b) e = absurd (not-both isRows _ (Refused t) (sym e) tt refl)
 listing-refused n m t (refused r) e = ap (λ (z : Both). refusalOf (reasonOr t z)) e ∙ sym (refusal-printed r)

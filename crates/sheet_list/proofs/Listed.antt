@@ -12,7 +12,7 @@ use Rattle.as5506.specs.Program.{room, namesLent, textOrRefusal, printedOrRefus
 use Rattle.as5506.specs.declared.Refusal.{Refusal as Told}
 use Rattle.listing.specs.declared.Both.{Both}
 use Rattle.listing.specs.declared.Both.the-variants.{Rows, Refused}
-use Rattle.listing.specs.Answer.{listed, Outputs, outputs, answerFor, ListedInto}
+use Rattle.listing.specs.Answer.{listed, Outputs, outputs, answerFor, BothInto}
 use Rattle.text.specs.Printing.{listOf, refusalOf}
 use Rattle.text.proofs.Printed.{four}
 use Rattle.sheet_list.proofs.Given.{both-fit, counts-fit, list-given, listing-refused}
@@ -39,7 +39,7 @@ none-lent =
       group-diags = length-replicate {A = ℕ} 256 0;
     }
 
-module _ (m : Tables) (z : Both) (p : Outputs) (h : ListedInto m noOutputs z p) where
+module _ (m : Tables) (z : Both) (p : Outputs) (h : BothInto m noOutputs z p) where
   answer-is : answerFor m noOutputs ≡ bothAnswer room room namesLent m
   answer-is = λ i. bothAnswer (roomIn (none-lent .rows i) (none-lent .diags i)) (roomIn (none-lent .group-rows i) (none-lent .group-diags i)) (none-lent .names i) m
 

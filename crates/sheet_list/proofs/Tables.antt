@@ -5,7 +5,6 @@ use mathlib.Core.List.{List}
 use Prim.Native.Nat.{ℕ, _*_, _≤_}
 use native.Mathlib.Nat.{mul-one, le-trans}
 use native.Mathlib.Omega.{arith}
-use lib.Dec.{T}
 use lib.ListN.{length, take, length-replicate}
 use Rattle.as5506.specs.Lists.{zeros, padded}
 use Rattle.as5506.specs.Tables.{Tables, tablesOf, Letter, letterN, letterC, letterF, letterX, letterP, letterI, letterT, letterQ, letterU, letterE, letterR, table, width, count}
@@ -14,6 +13,7 @@ use Rattle.as5506.specs.Sheet.{Lent, isN, lentOf, readSheet}
 use Rattle.as5506.specs.Listing.{bothAnswer}
 use Rattle.as5506.specs.Program.{rowsLent, lent, room, namesLent, printedOrRefusal, ofReading, whatFits, conlistWithin, textAfter}
 use Rattle.as5506.specs.declared.Refusal.{Refusal as Told}
+use Rattle.as5506.proofs.Laws.{not-both}
 use Rattle.sheet.specs.declared.Counts.{Counts}
 use Rattle.sheet.specs.declared.SheetRead.{SheetRead}
 use Rattle.sheet.specs.declared.SheetRead.the-variants.{Read, Refused}
@@ -167,7 +167,7 @@ reasonOr t (Refused r) = r
 
 refusal-read : (n : ℕ) (t : Told) (a : Answer Tables) → Refused t ≡ sheetRead a → refusalOf t ≡ ofReading n a
 unfolding ofReading
-refusal-read n t (given m) e = absurd (subst T (ap isRead (sym e)) tt)
+refusal-read n t (given m) e = absurd (not-both isRead _ (Refused t) (sym e) tt refl)
 refusal-read n t (refused r) e = ap (λ (z : SheetRead). refusalOf (reasonOr t z)) e ∙ sym (refusal-printed r)
 
 pub text-refused : (s : List ℕ) (z : SheetRead) (after : Tables) → ReadInto noTables s z after → (n : ℕ) (t : Told) → z ≡ Refused t

@@ -7,12 +7,12 @@ ghost use Prim.Native.Nat.{_*_, _≤_};
 ghost use lib.ListN.{length};
 ghost use Rattle.as5506.specs.Lists.{zeros};
 ghost use Rattle.as5506.specs.Tables.{tablesOf};
-ghost use Rattle.as5506.specs.Answers.{refusal, nowhere};
 ghost use Rattle.as5506.specs.Listing.{bothAnswer};
 ghost use Rattle.as5506.specs.Layout.{rowsBack, groupRowsBack, diagsBack};
-ghost use Rattle.as5506.specs.Text.{refusalText, textWithin};
+ghost use Rattle.as5506.specs.Text.{textWithin};
 ghost use Rattle.as5506.specs.Program.{room, namesLent, textOrRefusal, printedOrRefusal};
-ghost use Rattle.text.specs.Printing.{printingIn, listOf, refusalOf};
+ghost use Rattle.lent.specs.Lent.{wiringIn};
+ghost use Rattle.text.specs.Printing.{listOf, refusalOf};
 ghost use Rattle.sheet_list.specs.Printing.{TextInto, Shown};
 
 // Prints a refusal into an output of zeros; where not even that has its place, nothing.
@@ -26,19 +26,6 @@ fn tell(reason: Refusal, text: &mut [u8]) -> usize
         return 0;
     }
     used
-}
-
-// The same of a refusal that has no place.
-fn tell_number(number: u32, text: &mut [u8]) -> usize
-    requires { ⌜ now text ≡ zeros (length (now text)) ⌝ }
-    ensures { λ z. ⌜ Shown (refusalText (refusal number nowhere)) (now (text .entry)) z (now (text .exit)) ⌝ }
-{
-    let reason = Refusal {
-        number: number,
-        place: 0,
-        letter: 45,
-    };
-    tell(reason, text)
 }
 
 // Prints the list that the listings' outputs hold into an output of zeros; where it has no room, refusal 15.
@@ -61,8 +48,8 @@ fn print_both(
     requires { ⌜ (now text ≡ zeros (length (now text))) × («traced_count» * 49 ≤ length (now traced)) × («group_count» * 49 ≤ length (now group)) × («diagnostic_count» * 4 ≤ length (now diagnostics)) × («group_diagnostic_count» * 4 ≤ length (now «group_diagnostics»)) ⌝ }
     ensures { λ z. ⌜ Shown
         (textOrRefusal (textWithin (length (now (text .entry)))
-        (listOf (printingIn (now (bytes .entry)) (now (n .entry)) (now (c .entry)) (now (x .entry)))
-        (rowsBack (printingIn (now (bytes .entry)) (now (n .entry)) (now (c .entry)) (now (x .entry))) «traced_count» (now (traced .entry)))
+        (listOf (wiringIn (now (bytes .entry)) (now (n .entry)) (now (c .entry)) (now (x .entry)))
+        (rowsBack (wiringIn (now (bytes .entry)) (now (n .entry)) (now (c .entry)) (now (x .entry))) «traced_count» (now (traced .entry)))
         (groupRowsBack «group_count» (now (group .entry)) (now (names .entry)))
         (diagsBack «diagnostic_count» (now (diagnostics .entry)))
         (diagsBack «group_diagnostic_count» (now («group_diagnostics» .entry))))))
@@ -86,7 +73,7 @@ fn print_both(
     );
     if text.len() < printed {
         lent::clear_bytes(text);
-        return tell_number(15, text);
+        return tell(as5506::unplaced(15), text);
     }
     printed
 }

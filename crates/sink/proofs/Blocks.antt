@@ -2,25 +2,29 @@
 -- Assumes nothing.
 use mathlib.Core.Path.{_≡_, refl, sym, ap, ap₂, _∙_}
 use mathlib.Core.List.{List, [], _∷_, _++_}
-use Prim.Native.Nat.{ℕ, suc, _+_, _-_, _*_, _≤_, _<_}
+use Prim.Native.Nat.{ℕ, _+_, _-_, _*_, _≤_, _<_}
 use native.Mathlib.Omega.{arith}
 use lib.ListN.{length, take, drop, getD, set, length-append, length-drop, drop-of-length-le}
 use lib.Seq.{sets, length-take-le, getD-take}
-use Rattle.as5506.specs.Lists.{zeros, padded}
-use Rattle.as5506.specs.Layout.{featureBlock}
-use Rattle.lent.specs.Append.{Filled, filled, append}
-use Rattle.lent.proofs.Sets.{sets-append, sets-step}
-use Rattle.lent.proofs.Append.{append-full}
-use Rattle.lent.proofs.Padded.{padded-is, padded-length}
+use Rattle.as5506.specs.Lists.{each, zeros, padded}
+use Rattle.as5506.specs.Groups.{depthLimit}
+use Rattle.as5506.specs.Groups.{Feature as TheFeature}
+use Rattle.as5506.specs.Layout.{featureNumbers, featureBlock}
+use Rattle.as5506.proofs.Laws.{All, all-map, even-length, padded-length}
+use Rattle.lent.specs.Append.{Filled, append}
+use Rattle.lent.proofs.Sets.{sets-append, sets-step, sets-past-head}
+use Rattle.lent.proofs.Padded.{padded-is}
 use Rattle.sink.specs.declared.Feature.{Feature}
 use Rattle.sink.specs.Take.{featureOf, matchBlock}
 
--- a block written past the first number leaves it
-sets-past-head : (vs l : List ℕ) (x i : ℕ) → sets (x ∷ l) (suc i) vs ≡ x ∷ sets l i vs
-sets-past-head [] l x i = refl
-sets-past-head (v ∷ vs) l x i = sets-past-head vs (set l i v) x (suc i)
-
 -- ---- a feature's block
+
+pub block-length : (f : TheFeature) → length (f .prefix) ≤ depthLimit → length (featureBlock f) ≡ featureNumbers
+unfolding featureBlock
+block-length f h = omega (arith, padded-length depthLimit (f .prefix) h)
+
+pub blocks-length : (fs : List TheFeature) → All (λ f. length (f .prefix) ≤ depthLimit) fs → length (each featureBlock fs) ≡ length fs * featureNumbers
+blocks-length fs t = even-length featureNumbers featureBlock fs (all-map (λ (f : TheFeature). length (f .prefix) ≤ depthLimit) (λ (f : TheFeature). length (featureBlock f) ≡ featureNumbers) block-length fs t)
 
 -- the names of a prefix, from place k on, are still to be written
 pub record Blocking (prefix : List ℕ) (len : ℕ) (block₀ block : List ℕ) (k : ℕ) : Type 0 where
@@ -63,9 +67,8 @@ module _ (f : Feature) (few : f .len ≤ 10) (whole : length (f .prefix) ≡ 11)
       ∙ ap (λ (l : List ℕ). f .name ∷ f .kind ∷ f .direction ∷ l) (sets-past-head names (zeros 10) (f .len) 0)
       ∙ ap₂ (λ (n : ℕ) (l : List ℕ). f .name ∷ f .kind ∷ f .direction ∷ n ∷ l) (sym prefix-length) (padded-is 10 names (omega (arith, prefix-length, few)))
 
-  pub block-length : length (featureBlock (featureOf f)) ≡ 14
-  unfolding featureBlock
-  block-length = omega (arith, padded-length 10 (take (f .len) (f .prefix)) (omega (arith, prefix-length, few)))
+  pub written-length : length (featureBlock (featureOf f)) ≡ 14
+  written-length = block-length (featureOf f) (omega (arith, prefix-length, few))
 
 -- ---- a match's block
 
@@ -90,10 +93,6 @@ module _ (conn src dst : ℕ) (s d : List ℕ) (p : length s ≡ 14) (q : length
       → a ≡ append (matchBlock conn src dst s d) b
   match-put block r₁ r₂ a b k e f g =
       g ∙ ap (λ (r : List ℕ). append r b) (f ∙ ap (λ (r : List ℕ). sets r 17 d) (e ∙ ap (sets (conn ∷ src ∷ dst ∷ zeros 46) 3) k) ∙ match-is)
-
--- an output that is full stays so
-pub append-past : (piece out : List ℕ) (used : ℕ) → length out < used → filled out (length out + 1) ≡ append piece (filled out used)
-append-past piece out used h = sym (append-full piece (filled out used) (omega (arith, h)))
 
 -- a kept feature's block is whole
 pub kept-length : (kept : List ℕ) (i : ℕ) → i * 14 + 14 ≤ length kept → length (take 14 (drop (i * 14) kept)) ≡ 14

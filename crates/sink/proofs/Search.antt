@@ -13,10 +13,11 @@ use Rattle.as5506.specs.Tables.{nameIn}
 use Rattle.as5506.specs.Names.{key, sameFolded}
 use Rattle.as5506.proofs.Laws.{all-keep, all-first, upTo-below}
 use Rattle.as5506.proofs.Scans.{keep-hit, keep-miss, keep-done}
+use Rattle.lent.specs.Lent.{namesIn}
 use Rattle.name.proofs.Compare.{keys-folded}
 use Rattle.sink.specs.declared.Place.{Place}
 use Rattle.sink.specs.declared.Place.the-variants.{At, Nowhere}
-use Rattle.sink.specs.Take.{namesIn, keptName, partnerOf, codeOf, Remembered, Memory}
+use Rattle.sink.specs.Take.{keptName, partnerOf, codeOf, Remembered, Memory}
 use Rattle.sink.specs.Place.{placeOf}
 
 -- ---- the loop: no feature before place i is the partner

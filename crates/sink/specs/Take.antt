@@ -2,17 +2,17 @@
 use mathlib.Core.Bool.{Bool, true, false}
 use mathlib.Core.Option.{Option, none, some}
 use mathlib.Core.Path.{_≡_}
-use mathlib.Core.List.{List, [], _∷_, _++_}
+use mathlib.Core.List.{List, _∷_, _++_}
 use Prim.Native.Nat.{ℕ, zero, suc, _+_, _*_, _≤_}
 use lib.Dec.{eqb}
 use lib.ListN.{length, getD, take, drop, set}
 use Rattle.as5506.specs.Lists.{keep, firstOf, upTo, zeros, sameBytes}
-use Rattle.as5506.specs.Tables.{Tables, tablesOf}
 use Rattle.as5506.specs.Names.{key}
 use Rattle.as5506.specs.Groups.{Feature as Meant}
 use Rattle.as5506.specs.Rows.{diag}
 use Rattle.as5506.specs.Layout.{featureNumbers, featureBlock, diagBlock}
 use Rattle.lent.specs.Append.{Filled, filled, append}
+use Rattle.lent.specs.Lent.{namesIn}
 use Rattle.sink.specs.declared.Feature.{Feature}
 use Rattle.sink.specs.declared.Tally.{Tally}
 use Rattle.sink.specs.declared.Purpose.{Purpose}
@@ -38,10 +38,6 @@ firstBy true f h = record { memo = set (h .memo) (f .name) 1; out = append (feat
 firstBy false f h = h
 
 -- ---- matching against the features that were kept: `kept` holds a block for each
-
--- tables that have names only
-abbrev pub namesIn : List ℕ → List ℕ → Tables
-namesIn bytes n = tablesOf bytes n [] [] [] [] [] [] [] [] [] []
 
 -- the name of the feature that was kept at place i
 abbrev pub keptName : List ℕ → ℕ → ℕ

@@ -1,5 +1,5 @@
--- What acceptance says of tables, for later proofs: the record `Facts`, and `facts`, by which accepted tables have it.
--- Whoever needs a fact of accepted tables takes it from here and never looks into the checks. Assumes nothing.
+-- What acceptance says of tables: the record `Facts`, and `facts`, by which accepted tables have it. The record is the whole of it, field by field, so
+-- that it can be read beside document 01; whoever needs a fact of accepted tables takes it from here and never looks into the checks. Assumes nothing.
 use mathlib.Core.Bool.{Bool, true, false, not, _&&_, _||_, cond}
 use mathlib.Core.Logic.{_⊎_, inl, inr}
 use mathlib.Core.Path.{_≡_, refl, sym, subst}

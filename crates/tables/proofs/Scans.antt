@@ -1,12 +1,12 @@
 -- Laws of the loops: what is left of a scan of rows 0 to n, from row i on; and refusals one after the other. Assumes nothing.
 use mathlib.Core.Bool.{Bool, true, false}
-use mathlib.Core.Path.{_≡_, refl, sym, ap, subst, _∙_}
+use mathlib.Core.Path.{_≡_, refl, sym, ap, _∙_}
 use mathlib.Core.List.{List, [], _∷_}
 use Prim.Native.Nat.{ℕ, _+_, _-_, _≤_, _<_}
 use native.Mathlib.Omega.{arith}
-use lib.Dec.{T}
 use lib.ListN.{getD}
 use Rattle.as5506.specs.Lists.{span, upTo, keep, allOf, anyOf}
+use Rattle.as5506.proofs.Laws.{false-true}
 use Rattle.as5506.proofs.Scans.{span-next, span-done, keep-hit, keep-done}
 use Rattle.tables.specs.declared.Checked.{Checked}
 use Rattle.tables.specs.declared.Checked.the-variants.{Accepted, Refused}
@@ -40,9 +40,6 @@ module _ (p : ℕ → Bool) (i n : ℕ) (h : n ≤ i) where
   any-end = rw (span-done i n h)
 
 -- ---- refusals one after the other
-pub false-true : false ≡ true → ⊥
-false-true h = subst T (sym h) tt
-
 pub refused-stays : (a b : Checked) → isRefused a ≡ true → a ≡ orElse a b
 refused-stays (Refused r) b h = refl
 refused-stays Accepted b h = absurd (false-true h)

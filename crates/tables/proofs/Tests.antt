@@ -38,9 +38,9 @@ pub row-start : (k i : ℕ) → k < 11 → i ≤ 4096 → i * getD widths k 0 �
 row-start k i h l = le-trans (mul-le-mul-left i (width-cap k h)) (mul-le-mul-right 9 l)
 
 -- ---- tests
-not-not : (a : Bool) → a ≡ not (not a)
-not-not true = refl
-not-not false = refl
+not-twice : (a : Bool) → a ≡ not (not a)
+not-twice true = refl
+not-twice false = refl
 
 pub leb-is : (a b : ℕ) → leb a b ≡ not (ltb b a)
 leb-is a b = go (ltb b a) refl
@@ -130,7 +130,7 @@ module _ (t : List ℕ) (at s : ℕ) (es : s ≡ getD t at 0) where
 
   pub end-some : (f : ℕ) → (s ≡ missing → ⊥) → f ≡ getD t (at + 1) 0 → eqb f missing ≡ endBad t at
   unfolding endBad
-  end-some f h ef = rw (← es, ← ef, ne-eqb s missing h) (not-not (eqb f missing))
+  end-some f h ef = rw (← es, ← ef, ne-eqb s missing h) (not-twice (eqb f missing))
 
 module _ (t : List ℕ) (at y : ℕ) (ey : y ≡ getD t (at + 1) 0) where
   pub reference-typed : (y ≡ missing → ⊥) → false ≡ referenceBad t at
@@ -152,7 +152,7 @@ module _ (t : List ℕ) (at w o : ℕ) (ew : w ≡ getD t (at + 1) 0) (eo : o �
 
   pub rename-other : (w ≡ 0 → ⊥) → eqb o missing ≡ renameBad t at
   unfolding renameBad
-  rename-other h = rw (← ew, ← eo, ne-eqb w 0 h) (not-not (eqb o missing))
+  rename-other h = rw (← ew, ← eo, ne-eqb w 0 h) (not-twice (eqb o missing))
 
 pub or-first : (a b : Bool) → a ≡ true → true ≡ a || b
 or-first a b h = rw h

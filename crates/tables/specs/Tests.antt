@@ -1,20 +1,21 @@
 -- The code's tests of a row, for the contracts of private functions; proofs/ shows that they are the definition's. A letter goes by its rank `k`,
 -- `lens` has the length of each letter's table, and `at` is where a row starts in its table `t`. Assumes nothing.
 use mathlib.Core.Bool.{Bool, true, not, _&&_, _||_, cond}
-use mathlib.Core.List.{List, [], _∷_, _++_}
+use mathlib.Core.List.{List, _++_, map}
 use Prim.Native.Nat.{ℕ, _+_, _-_, _*_, _/_, _%_}
 use lib.ListN.{length, getD}
 use lib.Dec.{eqb, ltb}
 use Rattle.as5506.specs.Lists.{upTo, allOf, anyOf, bytesOf}
-use Rattle.as5506.specs.Tables.{present, ref, nStart, nLength, nameIn}
+use Rattle.as5506.specs.Tables.{width, present, ref, nStart, nLength, nameIn}
+use Rattle.as5506.specs.Columns.{order, letterByte}
 use Rattle.as5506.specs.Names.{goodName, sameFolded}
 use Rattle.as5506.specs.Refusals.{badRef}
 
 abbrev pub letters : List ℕ
-letters = bytesOf "NCFXPITQUER"
+letters = map letterByte order
 
 abbrev pub widths : List ℕ
-widths = 2 ∷ 6 ∷ 3 ∷ 7 ∷ 1 ∷ 2 ∷ 3 ∷ 4 ∷ 9 ∷ 8 ∷ 5 ∷ []
+widths = map width order
 
 -- FIELDS of the code
 abbrev pub fields : List ℕ

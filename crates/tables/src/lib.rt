@@ -9,9 +9,6 @@ ghost use Rattle.tables.specs.Answer.{checked};
 ghost use Rattle.tables.specs.Tests.{farthest, rowsOf, broken, limitOf, mayMiss, fieldFits, fieldsFit, nameBad, parentBad, endBad, referenceBad, renameBad, endsBad, samePart, sameKey, keyTaken};
 ghost use Rattle.tables.specs.Order.{isRefused, orElse, asked, spanOf, badRow, numberOf, checkTable, checkRule};
 
-// The letters in their order.
-const LETTERS: [u8; 11] = *b"NCFXPITQUER";
-
 // Letters by their place.
 const N: usize = 0;
 
@@ -399,7 +396,7 @@ fn check_table(
         if bad_row(bytes, n, t, lens, rule, k, i) {
             let number = number_of(rule);
             let place = i as u32;
-            let letter = LETTERS[k];
+            let letter = as5506::LETTERS[k];
             return Checked::Refused(as5506::Refusal {
                 number: number,
                 place: place,

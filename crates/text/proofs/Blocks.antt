@@ -12,8 +12,9 @@ use Rattle.as5506.specs.Tables.{Tables, nameIn}
 use Rattle.as5506.specs.Layout.{rowBack, rowsBack, groupBack, groupRowsBack, namesBehind, diagBack, diagsBack}
 use Rattle.as5506.specs.Text.{column, numberLine, textLine, rowText, diagText}
 use Rattle.text.specs.Added.{rowNamed}
-use Rattle.text.specs.Printing.{printingIn, listOf, refusalOf}
+use Rattle.text.specs.Printing.{listOf, refusalOf}
 use Rattle.as5506.specs.declared.Refusal.{Refusal}
+use Rattle.lent.specs.Lent.{namesIn, wiringIn}
 
 -- ---- blocks
 
@@ -26,26 +27,26 @@ module _ (count i : ℕ) (h : i < count) where
 part-is : (l : List ℕ) (i w : ℕ) → take w (drop i l) ≡ take (i + w - i) (drop i l)
 part-is l i w = ap (λ (k : ℕ). take k (drop i l)) (sym (add-sub-cancel-left i w))
 
-pub block-length : (l : List ℕ) (i w : ℕ) → i + w ≤ length l → length (take (i + w - i) (drop i l)) ≡ w
-block-length l i w h =
+pub part-length : (l : List ℕ) (i w : ℕ) → i + w ≤ length l → length (take (i + w - i) (drop i l)) ≡ w
+part-length l i w h =
     ap length (sym (part-is l i w)) ∙ length-take-le w (drop i l) (rw (length-drop i l) (omega (arith, h)))
 
 -- ---- traced rows
 
-pub rows-next : (bytes n out : List ℕ) (count i : ℕ) → i < count
-    → each rowText (rowsBack (printingIn bytes n [] []) (count - i) (drop (i * 49) out))
-    ≡ rowText (rowBack (printingIn bytes n [] []) (take (i * 49 + 49 - i * 49) (drop (i * 49) out)))
-    ++ each rowText (rowsBack (printingIn bytes n [] []) (count - (i + 1)) (drop ((i + 1) * 49) out))
+pub traced-text-next : (bytes n out : List ℕ) (count i : ℕ) → i < count
+    → each rowText (rowsBack (namesIn bytes n) (count - i) (drop (i * 49) out))
+    ≡ rowText (rowBack (namesIn bytes n) (take (i * 49 + 49 - i * 49) (drop (i * 49) out)))
+    ++ each rowText (rowsBack (namesIn bytes n) (count - (i + 1)) (drop ((i + 1) * 49) out))
 unfolding rowsBack
-rows-next bytes n out count i h =
+traced-text-next bytes n out count i h =
     let e : i * 49 + 49 ≡ (i + 1) * 49 = omega arith in rw (count-next count i h, drop-drop 49 (i * 49) out, part-is out (i * 49) 49, e)
 
-pub rows-done : (bytes n out : List ℕ) (count i : ℕ) → count ≤ i → each rowText (rowsBack (printingIn bytes n [] []) (count - i) (drop (i * 49) out)) ≡ []
+pub traced-text-done : (bytes n out : List ℕ) (count i : ℕ) → count ≤ i → each rowText (rowsBack (namesIn bytes n) (count - i) (drop (i * 49) out)) ≡ []
 unfolding rowsBack
-rows-done bytes n out count i h = let e : count - i ≡ 0 = omega (arith, h) in rw e
+traced-text-done bytes n out count i h = let e : count - i ≡ 0 = omega (arith, h) in rw e
 
 -- they ask for names only
-pub rows-same : (m : Tables) (out : List ℕ) (count : ℕ) → rowsBack m count out ≡ rowsBack (printingIn (m .bytes) (m .n) [] []) count out
+pub rows-same : (m : Tables) (out : List ℕ) (count : ℕ) → rowsBack m count out ≡ rowsBack (namesIn (m .bytes) (m .n)) count out
 unfolding rowsBack rowBack
 rows-same m out zero = refl
 rows-same m out (suc k) = ap (λ (l : List Row). rowBack m (take 49 out) ∷ l) (rows-same m (drop 49 out) k)
@@ -57,17 +58,17 @@ rows-count m out (suc k) = ap suc (rows-count m (drop 49 out) k)
 
 -- ---- group rows
 
-pub group-next : (out names : List ℕ) (count i at : ℕ) (at′ : ℕ) → i < count → drop at′ names ≡ namesBehind (take (i * 49 + 49 - i * 49) (drop (i * 49) out)) (drop at names)
+pub group-text-next : (out names : List ℕ) (count i at : ℕ) (at′ : ℕ) → i < count → drop at′ names ≡ namesBehind (take (i * 49 + 49 - i * 49) (drop (i * 49) out)) (drop at names)
     → each rowText (groupRowsBack (count - i) (drop (i * 49) out) (drop at names))
     ≡ rowText (groupBack (take (i * 49 + 49 - i * 49) (drop (i * 49) out)) (drop at names))
     ++ each rowText (groupRowsBack (count - (i + 1)) (drop ((i + 1) * 49) out) (drop at′ names))
 unfolding groupRowsBack
-group-next out names count i at at′ h g =
+group-text-next out names count i at at′ h g =
     let e : i * 49 + 49 ≡ (i + 1) * 49 = omega arith in rw (g, count-next count i h, drop-drop 49 (i * 49) out, part-is out (i * 49) 49, e)
 
-pub group-done : (out names : List ℕ) (count i at : ℕ) → count ≤ i → each rowText (groupRowsBack (count - i) (drop (i * 49) out) (drop at names)) ≡ []
+pub group-text-done : (out names : List ℕ) (count i at : ℕ) → count ≤ i → each rowText (groupRowsBack (count - i) (drop (i * 49) out) (drop at names)) ≡ []
 unfolding groupRowsBack
-group-done out names count i at h = let e : count - i ≡ 0 = omega (arith, h) in rw e
+group-text-done out names count i at h = let e : count - i ≡ 0 = omega (arith, h) in rw e
 
 group-count : (out names : List ℕ) (count : ℕ) → length (groupRowsBack count out names) ≡ count
 unfolding groupRowsBack
@@ -76,17 +77,17 @@ group-count out names (suc k) = ap suc (group-count (drop 49 out) (namesBehind (
 
 -- ---- diagnostics
 
-pub diags-next : (bytes n c x out : List ℕ) (count i : ℕ) → i < count
-    → each (diagText (printingIn bytes n c x)) (diagsBack (count - i) (drop (i * 4) out))
-    ≡ diagText (printingIn bytes n c x) (diagBack (take (i * 4 + 4 - i * 4) (drop (i * 4) out)))
-    ++ each (diagText (printingIn bytes n c x)) (diagsBack (count - (i + 1)) (drop ((i + 1) * 4) out))
+pub diag-text-next : (bytes n c x out : List ℕ) (count i : ℕ) → i < count
+    → each (diagText (wiringIn bytes n c x)) (diagsBack (count - i) (drop (i * 4) out))
+    ≡ diagText (wiringIn bytes n c x) (diagBack (take (i * 4 + 4 - i * 4) (drop (i * 4) out)))
+    ++ each (diagText (wiringIn bytes n c x)) (diagsBack (count - (i + 1)) (drop ((i + 1) * 4) out))
 unfolding diagsBack
-diags-next bytes n c x out count i h =
+diag-text-next bytes n c x out count i h =
     let e : i * 4 + 4 ≡ (i + 1) * 4 = omega arith in rw (count-next count i h, drop-drop 4 (i * 4) out, part-is out (i * 4) 4, e)
 
-pub diags-done : (bytes n c x out : List ℕ) (count i : ℕ) → count ≤ i → each (diagText (printingIn bytes n c x)) (diagsBack (count - i) (drop (i * 4) out)) ≡ []
+pub diag-text-done : (bytes n c x out : List ℕ) (count i : ℕ) → count ≤ i → each (diagText (wiringIn bytes n c x)) (diagsBack (count - i) (drop (i * 4) out)) ≡ []
 unfolding diagsBack
-diags-done bytes n c x out count i h = let e : count - i ≡ 0 = omega (arith, h) in rw e
+diag-text-done bytes n c x out count i h = let e : count - i ≡ 0 = omega (arith, h) in rw e
 
 -- ---- the places of names
 
@@ -114,7 +115,7 @@ module _ (b names : List ℕ) (at second third : ℕ) (e : drop second names ≡
 
 -- a traced row by its names
 pub traced-named : (bytes n b name source destination : List ℕ) → name ≡ nameIn bytes n (getD b 4 0) → source ≡ nameIn bytes n (getD b 5 0)
-    → destination ≡ nameIn bytes n (getD b 6 0) → rowText (rowBack (printingIn bytes n [] []) b) ≡ rowText (rowNamed b name source destination)
+    → destination ≡ nameIn bytes n (getD b 6 0) → rowText (rowBack (namesIn bytes n) b) ≡ rowText (rowNamed b name source destination)
 unfolding rowBack rowNamed
 traced-named bytes n b name source destination p q r = rw (p, q, r)
 
@@ -156,12 +157,12 @@ counts-pieces a b = simp append-assoc
 
 -- the pieces that the list is printed in
 pub list-pieces : (bytes n c x traced group names : List ℕ) (j k : ℕ) (diags groupDiags : List Diag)
-    → listOf (printingIn bytes n c x) (rowsBack (printingIn bytes n c x) j traced) (groupRowsBack k group names) diags groupDiags
-    ≡ each rowText (rowsBack (printingIn bytes n [] []) j traced) ++ each rowText (groupRowsBack k group names)
-    ++ each (diagText (printingIn bytes n c x)) diags ++ each (diagText (printingIn bytes n c x)) groupDiags ++ numberLine (bytesOf "Z") (j ∷ k ∷ [])
+    → listOf (wiringIn bytes n c x) (rowsBack (wiringIn bytes n c x) j traced) (groupRowsBack k group names) diags groupDiags
+    ≡ each rowText (rowsBack (namesIn bytes n) j traced) ++ each rowText (groupRowsBack k group names)
+    ++ each (diagText (wiringIn bytes n c x)) diags ++ each (diagText (wiringIn bytes n c x)) groupDiags ++ numberLine (bytesOf "Z") (j ∷ k ∷ [])
 unfolding listOf
 list-pieces bytes n c x traced group names j k diags groupDiags =
-    rw (rows-count (printingIn bytes n c x) traced j, group-count group names k, rows-same (printingIn bytes n c x) traced j)
+    rw (rows-count (wiringIn bytes n c x) traced j, group-count group names k, rows-same (wiringIn bytes n c x) traced j)
 
 pub refusal-pieces : (r : Refusal) → refusalOf r ≡ bytesOf "R" ++ column (r .number) ++ column (r .place) ++ (32 ∷ r .letter ∷ 10 ∷ [])
 unfolding refusalOf

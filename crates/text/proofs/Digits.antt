@@ -47,12 +47,13 @@ digits-more (suc k) h =
 
 -- ---- a number over the end of columns
 
-fewer : (cs : List ℕ) → take (length cs) (drop 1 cs) ≡ drop 1 cs
-fewer cs = let e : length (drop 1 cs) ≤ length cs = rw (length-drop 1 cs) (omega arith) in take-all (length cs) (drop 1 cs) e
+-- the columns behind the first, as a part of the columns' length
+rest-whole : (cs : List ℕ) → take (length cs) (drop 1 cs) ≡ drop 1 cs
+rest-whole cs = let e : length (drop 1 cs) ≤ length cs = rw (length-drop 1 cs) (omega arith) in take-all (length cs) (drop 1 cs) e
 
 pub decimal-one : (n : ℕ) (cs rest : List ℕ) → n < 10 → rest ≡ take (length cs) (drop 1 cs)
     → drop (length (digits n)) cs ++ digits n ≡ rest ++ ((48 + n % 10) ∷ [])
-decimal-one n cs rest h e = rw (digits-one n h, e, fewer cs)
+decimal-one n cs rest h e = rw (digits-one n h, e, rest-whole cs)
 
 -- a list of numbers with one more behind it takes one column more
 over-more : (d cs : List ℕ) (v : ℕ) → drop (length (d ++ (v ∷ []))) cs ++ (d ++ (v ∷ [])) ≡ drop (length d) (drop 1 cs) ++ d ++ (v ∷ [])
@@ -64,11 +65,11 @@ pub decimal-more : (n : ℕ) (cs rest : List ℕ) → 10 ≤ n → rest ≡ take
     → drop (length (digits n)) cs ++ digits n ≡ drop (length (digits (n / 10))) rest ++ digits (n / 10) ++ ((48 + n % 10) ∷ [])
 decimal-more n cs rest h e =
     ap (λ (d : List ℕ). drop (length d) cs ++ d) (digits-more n h) ∙ over-more (digits (n / 10)) cs (48 + n % 10)
-    ∙ ap (λ (r : List ℕ). drop (length (digits (n / 10))) r ++ digits (n / 10) ++ ((48 + n % 10) ∷ [])) (sym (e ∙ fewer cs))
+    ∙ ap (λ (r : List ℕ). drop (length (digits (n / 10))) r ++ digits (n / 10) ++ ((48 + n % 10) ∷ [])) (sym (e ∙ rest-whole cs))
 
 -- over no columns
-pub decimal-plain : (n : ℕ) → digits n ≡ drop (length (digits n)) [] ++ digits n
-decimal-plain n = rw (drop-nil {A = ℕ} (length (digits n)))
+pub decimal-bare : (n : ℕ) → digits n ≡ drop (length (digits n)) [] ++ digits n
+decimal-bare n = rw (drop-nil {A = ℕ} (length (digits n)))
 
 drop-replicate : (k n : ℕ) (a : ℕ) → drop k (replicate n a) ≡ replicate (n - k) a
 drop-replicate zero n a = rw (sub-zero n)

@@ -13,7 +13,7 @@ use Rattle.as5506.specs.Lists.{each, bytesOf}
 use Rattle.as5506.specs.Tables.{Tables, nameIn, nameOf, cName, xName, xOwner}
 use Rattle.as5506.specs.Layout.{diagBack}
 use Rattle.as5506.specs.Text.{digits, column, numberLine, textLine, quoted, message, pathNames, diagText}
-use Rattle.text.specs.Printing.{printingIn}
+use Rattle.lent.specs.Lent.{namesIn, connectionsIn, wiringIn}
 use Rattle.text.proofs.Blocks.{first-four}
 
 -- ---- the message, by its code
@@ -78,7 +78,7 @@ message-unmatched m conn name (suc (suc (suc (suc (suc k))))) a b e h =
     ∙ ap (λ (s : List ℕ). bytesOf "feature group connection '" ++ conn ++ bytesOf "': source feature '" ++ ([] ++ s ++ bytesOf "' has no matching destination feature (STPA-REQ-011)")) (sym e)
 
 -- it asks for names only
-pub message-same : (m : Tables) (conn : List ℕ) (code a b : ℕ) → message m conn code a b ≡ message (printingIn (m .bytes) (m .n) [] []) conn code a b
+pub message-same : (m : Tables) (conn : List ℕ) (code a b : ℕ) → message m conn code a b ≡ message (namesIn (m .bytes) (m .n)) conn code a b
 unfolding message
 message-same m conn zero a b = refl
 message-same m conn (suc zero) a b = refl
@@ -90,7 +90,7 @@ message-same m conn (suc (suc (suc (suc (suc k))))) a b = refl
 -- ---- the path names
 
 pub connection-named : (bytes n x : List ℕ) (i k : ℕ) (r : List ℕ) → k ≡ getD x (i * 7) 0 → r ≡ nameIn bytes n k
-    → r ≡ nameOf (printingIn bytes n [] x) (xName (printingIn bytes n [] x) i)
+    → r ≡ nameOf (connectionsIn bytes n x) (xName (connectionsIn bytes n x) i)
 connection-named bytes n x i k r e f = f ∙ ap (nameIn bytes n) (e ∙ ap (λ (j : ℕ). getD x j 0) (sym (add-zero (i * 7))))
 
 abbrev atLine : List ℕ → List ℕ
@@ -101,26 +101,26 @@ unfolding textLine
 two-lines s t = ap (λ (l : List ℕ). atLine s ++ l) (append-nil (atLine t))
 
 module _ (bytes n c x b : List ℕ) (code conn : ℕ) (name : List ℕ) (e : code ≡ getD b 0 0) (f : conn ≡ getD b 1 0)
-    (g : name ≡ nameOf (printingIn bytes n [] x) (xName (printingIn bytes n [] x) conn)) where
-  connection-is : name ≡ nameOf (printingIn bytes n c x) (xName (printingIn bytes n c x) (getD b 1 0))
-  connection-is = g ∙ ap (λ (i : ℕ). nameOf (printingIn bytes n c x) (xName (printingIn bytes n c x) i)) f
+    (g : name ≡ nameOf (connectionsIn bytes n x) (xName (connectionsIn bytes n x) conn)) where
+  connection-is : name ≡ nameOf (wiringIn bytes n c x) (xName (wiringIn bytes n c x) (getD b 1 0))
+  connection-is = g ∙ ap (λ (i : ℕ). nameOf (wiringIn bytes n c x) (xName (wiringIn bytes n c x) i)) f
 
   owner-is : (owner k : ℕ) → owner ≡ getD x (conn * 7 + 1) 0 → k ≡ getD c (owner * 6) 0
-      → k ≡ cName (printingIn bytes n c x) (xOwner (printingIn bytes n c x) (getD b 1 0))
+      → k ≡ cName (wiringIn bytes n c x) (xOwner (wiringIn bytes n c x) (getD b 1 0))
   owner-is owner k p q = rw (q, p, f, add-zero (getD x (getD b 1 0 * 7 + 1) 0 * 6))
 
   pub path-owner : (owner k : ℕ) (above : List ℕ) → code < 5 → owner ≡ getD x (conn * 7 + 1) 0 → k ≡ getD c (owner * 6) 0 → above ≡ nameIn bytes n k
-      → each (textLine (bytesOf "@")) (pathNames (printingIn bytes n c x) (diagBack b) (ltb (getD b 0 0) 5)) ≡ atLine above ++ atLine name
+      → each (textLine (bytesOf "@")) (pathNames (wiringIn bytes n c x) (diagBack b) (ltb (getD b 0 0) 5)) ≡ atLine above ++ atLine name
   unfolding pathNames diagBack
   path-owner owner k above h p q r =
-      ap (λ (v : Bool). each (textLine (bytesOf "@")) (pathNames (printingIn bytes n c x) (diagBack b) v)) (lt-ltb (getD b 0 0) 5 (omega (arith, h, e)))
+      ap (λ (v : Bool). each (textLine (bytesOf "@")) (pathNames (wiringIn bytes n c x) (diagBack b) v)) (lt-ltb (getD b 0 0) 5 (omega (arith, h, e)))
       ∙ two-lines _ _ ∙ ap₂ (λ (s t : List ℕ). atLine s ++ atLine t) (sym (r ∙ ap (nameIn bytes n) (owner-is owner k p q))) (sym connection-is)
 
   pub path-feature : (k : ℕ) (feature : List ℕ) → 5 ≤ code → k ≡ getD b 2 0 → feature ≡ nameIn bytes n k
-      → each (textLine (bytesOf "@")) (pathNames (printingIn bytes n c x) (diagBack b) (ltb (getD b 0 0) 5)) ≡ atLine name ++ atLine feature
+      → each (textLine (bytesOf "@")) (pathNames (wiringIn bytes n c x) (diagBack b) (ltb (getD b 0 0) 5)) ≡ atLine name ++ atLine feature
   unfolding pathNames diagBack
   path-feature k feature h p q =
-      ap (λ (v : Bool). each (textLine (bytesOf "@")) (pathNames (printingIn bytes n c x) (diagBack b) v)) (le-ltb (getD b 0 0) 5 (omega (arith, h, e)))
+      ap (λ (v : Bool). each (textLine (bytesOf "@")) (pathNames (wiringIn bytes n c x) (diagBack b) v)) (le-ltb (getD b 0 0) 5 (omega (arith, h, e)))
       ∙ two-lines _ _ ∙ ap₂ (λ (s t : List ℕ). atLine s ++ atLine t) (sym connection-is) (sym (q ∙ ap (nameIn bytes n) p))
 
 -- ---- a diagnostic
@@ -133,20 +133,20 @@ begun-line d feed mark s rest = simp append-assoc
 
 -- the pieces that it is printed in
 pub diag-pieces : (bytes n c x b name : List ℕ) → length b ≡ 4
-    → name ≡ nameOf (printingIn bytes n [] x) (xName (printingIn bytes n [] x) (getD b 1 0))
-    → diagText (printingIn bytes n c x) (diagBack b)
-    ≡ bytesOf "D" ++ each column b ++ bytesOf "\n! " ++ message (printingIn bytes n [] []) name (getD b 0 0) (getD b 2 0) (getD b 3 0) ++ bytesOf "\n"
-    ++ each (textLine (bytesOf "@")) (pathNames (printingIn bytes n c x) (diagBack b) (ltb (getD b 0 0) 5))
+    → name ≡ nameOf (connectionsIn bytes n x) (xName (connectionsIn bytes n x) (getD b 1 0))
+    → diagText (wiringIn bytes n c x) (diagBack b)
+    ≡ bytesOf "D" ++ each column b ++ bytesOf "\n! " ++ message (namesIn bytes n) name (getD b 0 0) (getD b 2 0) (getD b 3 0) ++ bytesOf "\n"
+    ++ each (textLine (bytesOf "@")) (pathNames (wiringIn bytes n c x) (diagBack b) (ltb (getD b 0 0) 5))
 unfolding diagText diagBack numberLine textLine
 diag-pieces bytes n c x b name h e =
     begun-line
     (bytesOf "D" ++ each column (getD b 0 0 ∷ getD b 1 0 ∷ getD b 2 0 ∷ getD b 3 0 ∷ []))
     (bytesOf "\n")
     (bytesOf "! ")
-    (message (printingIn bytes n c x) (nameOf (printingIn bytes n c x) (xName (printingIn bytes n c x) (getD b 1 0))) (getD b 0 0) (getD b 2 0) (getD b 3 0))
-    (each (textLine (bytesOf "@")) (pathNames (printingIn bytes n c x) (diagBack b) (ltb (getD b 0 0) 5)))
+    (message (wiringIn bytes n c x) (nameOf (wiringIn bytes n c x) (xName (wiringIn bytes n c x) (getD b 1 0))) (getD b 0 0) (getD b 2 0) (getD b 3 0))
+    (each (textLine (bytesOf "@")) (pathNames (wiringIn bytes n c x) (diagBack b) (ltb (getD b 0 0) 5)))
     ∙ ap₂
     (λ (l s : List ℕ). bytesOf "D" ++ each column l ++ bytesOf "\n! " ++ s ++ bytesOf "\n"
-    ++ each (textLine (bytesOf "@")) (pathNames (printingIn bytes n c x) (diagBack b) (ltb (getD b 0 0) 5)))
+    ++ each (textLine (bytesOf "@")) (pathNames (wiringIn bytes n c x) (diagBack b) (ltb (getD b 0 0) 5)))
     (whole-block b h)
-    (message-same (printingIn bytes n c x) _ (getD b 0 0) (getD b 2 0) (getD b 3 0) ∙ ap (λ (s : List ℕ). message (printingIn bytes n [] []) s (getD b 0 0) (getD b 2 0) (getD b 3 0)) (sym e))
+    (message-same (wiringIn bytes n c x) _ (getD b 0 0) (getD b 2 0) (getD b 3 0) ∙ ap (λ (s : List ℕ). message (namesIn bytes n) s (getD b 0 0) (getD b 2 0) (getD b 3 0)) (sym e))

@@ -1,6 +1,6 @@
 -- Laws of the printed list for callers: the list of the definition is the one that is printed, and it asks for four of the tables only. Assumes nothing.
 use mathlib.Core.Bool.{Bool, true, false}
-use mathlib.Core.Path.{_≡_, refl, sym, ap, ap₂, _∙_}
+use mathlib.Core.Path.{_≡_, refl, sym, ap₂, _∙_}
 use mathlib.Core.List.{List, [], _∷_, _++_, map}
 use Prim.Native.Nat.{ℕ}
 use lib.Dec.{ltb}
@@ -9,22 +9,19 @@ use Rattle.as5506.specs.Lists.{each, bytesOf}
 use Rattle.as5506.specs.Tables.{Tables}
 use Rattle.as5506.specs.Answers.{Refusal, told}
 use Rattle.as5506.specs.Rows.{Row, Diag}
-use Rattle.as5506.specs.Tracing.{Traced, shown}
+use Rattle.as5506.specs.Tracing.{shown}
 use Rattle.as5506.specs.Listing.{BothLists}
 use Rattle.as5506.specs.Layout.{rowsBack}
 use Rattle.as5506.specs.Text.{rowText, textLine, pathNames, diagText, numberLine, listText, refusalText}
-use Rattle.as5506.proofs.Laws.{all-of, each-same}
-use Rattle.text.specs.Printing.{printingIn, listOf, refusalOf}
+use Rattle.as5506.proofs.Laws.{all-of, each-same, each-map}
+use Rattle.lent.specs.Lent.{wiringIn}
+use Rattle.text.specs.Printing.{listOf, refusalOf}
 use Rattle.text.proofs.Blocks.{rows-same}
 use Rattle.text.proofs.Messages.{message-same}
 
-each-map : (m : Tables) (l : List Traced) → each (λ r. rowText (shown m r)) l ≡ each rowText (map (shown m) l)
-each-map m [] = refl
-each-map m (r ∷ l) = ap (λ (t : List ℕ). rowText (shown m r) ++ t) (each-map m l)
-
 pub list-printed : (m : Tables) (b : BothLists) → listText m b ≡ listOf m (map (shown m) (b .traced .rows)) (b .group .rows) (b .traced .diags) (b .group .diags)
 unfolding listText listOf
-list-printed m b = rw (each-map m (b .traced .rows), length-map (b .traced .rows) (shown m))
+list-printed m b = rw (each-map rowText (shown m) (b .traced .rows), length-map (b .traced .rows) (shown m))
 
 pub refusal-printed : (r : Refusal) → refusalText r ≡ refusalOf (told r)
 unfolding refusalText refusalOf
@@ -33,7 +30,7 @@ refusal-printed r = refl
 -- ---- of the tables only names, components and connections are asked for
 
 abbrev pub four : Tables → Tables
-four m = printingIn (m .bytes) (m .n) (m .c) (m .x)
+four m = wiringIn (m .bytes) (m .n) (m .c) (m .x)
 
 paths-same : (m : Tables) (d : Diag) (b : Bool) → pathNames m d b ≡ pathNames (four m) d b
 unfolding pathNames

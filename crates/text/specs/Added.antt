@@ -6,7 +6,8 @@ use lib.ListN.{length, getD, take, drop}
 use lib.Seq.{sets}
 use Rattle.as5506.specs.Rows.{Row}
 
--- a text t behind the first `used` bytes of an output, z of which are used then: all of it stands there, or the output is told to be full
+-- a text t is printed behind the first `used` bytes of an output: all of it stands there, and z bytes are used then; or z is one more than the output
+-- has, which tells that it is full
 pub record Added (t out : List ℕ) (used : ℕ) (out′ : List ℕ) (z : ℕ) : Type 0 where
   pub size : length out′ ≡ length out
   pub fits : used + length t ≤ length out → (z ≡ used + length t) × (out′ ≡ sets out used t)

@@ -5,28 +5,25 @@ use Prim.Native.Nat.{ℕ, _+_, _≤_, _<_}
 use lib.ListN.{length}
 use lib.Seq.{sets}
 use Rattle.as5506.specs.Lists.{each, bytesOf}
-use Rattle.as5506.specs.Tables.{Tables, tablesOf}
+use Rattle.as5506.specs.Tables.{Tables}
 use Rattle.as5506.specs.Fields.{space}
 use Rattle.as5506.specs.Sheet.{lineFeed}
 use Rattle.as5506.specs.Rows.{Row, Diag}
 use Rattle.as5506.specs.Text.{column, numberLine, rowText, diagText}
 use Rattle.as5506.specs.declared.Refusal.{Refusal}
 
--- tables that have names, components and connections only
-abbrev pub printingIn : List ℕ → List ℕ → List ℕ → List ℕ → Tables
-printingIn bytes n c x = tablesOf bytes n c [] x [] [] [] [] [] [] []
-
--- rows and diagnostics of both listings
+-- the list of the rows and diagnostics of both listings
 unfoldable pub listOf : Tables → List Row → List Row → List Diag → List Diag → List ℕ
 listOf m traced group diags groupDiags =
     each rowText traced ++ each rowText group ++ each (diagText m) diags ++ each (diagText m) groupDiags
     ++ numberLine (bytesOf "Z") (length traced ∷ length group ∷ [])
 
--- a refusal as it is handed over
+-- the line of a refusal, as it is handed over
 unfoldable pub refusalOf : Refusal → List ℕ
 refusalOf r = bytesOf "R" ++ column (r .number) ++ column (r .place) ++ (space ∷ r .letter ∷ lineFeed ∷ [])
 
--- a text t printed into an output: it stands there from the front, or the output is told to be too short
+-- a text t is printed into an output: it stands there from the front, and z is its length; or z is one more than the output has, which tells that it is
+-- too short
 pub record Printed (t out : List ℕ) (z : ℕ) (out′ : List ℕ) : Type 0 where
   pub fits : length t ≤ length out → (z ≡ length t) × (out′ ≡ sets out 0 t)
   pub spills : length out < length t → z ≡ length out + 1

@@ -1,14 +1,14 @@
 // A diagnostic: its numbers, the Rust's message and its path names.
 ghost use mathlib.Core.Path.{_≡_};
-ghost use mathlib.Core.List.{_++_, []};
+ghost use mathlib.Core.List.{_++_};
 ghost use lib.Dec.{ltb};
 ghost use lib.ListN.{length, getD};
 ghost use Rattle.as5506.specs.Lists.{each, bytesOf};
 ghost use Rattle.as5506.specs.Layout.{diagBack};
 ghost use Rattle.as5506.specs.Tables.{nameOf, xName};
 ghost use Rattle.as5506.specs.Text.{digits, textLine, message, pathNames, diagText};
+ghost use Rattle.lent.specs.Lent.{namesIn, connectionsIn, wiringIn};
 ghost use Rattle.text.specs.Added.{Added};
-ghost use Rattle.text.specs.Printing.{printingIn};
 use super::lines;
 use super::numbers;
 
@@ -39,7 +39,7 @@ fn put_message(
     text: &mut [u8],
     used: usize,
 ) -> usize
-    ensures { λ z. ⌜ Added (message (printingIn (now (bytes .entry)) (now (n .entry)) [] []) (now (conn .entry)) code a b) (now (text .entry)) used (now (text .exit)) z ⌝ }
+    ensures { λ z. ⌜ Added (message (namesIn (now (bytes .entry)) (now (n .entry))) (now (conn .entry)) code a b) (now (text .entry)) used (now (text .exit)) z ⌝ }
 {
     if code == 0 {
         return used;
@@ -82,7 +82,7 @@ fn put_message(
 
 // The name of connection i.
 fn connection_name<'a>(bytes: &'a [u8], n: &[u32], x: &[u32], i: u32) -> &'a [u8]
-    ensures { λ r. ⌜ now r ≡ nameOf (printingIn (now (bytes .entry)) (now (n .entry)) [] (now (x .entry))) (xName (printingIn (now (bytes .entry)) (now (n .entry)) [] (now (x .entry))) i) ⌝ }
+    ensures { λ r. ⌜ now r ≡ nameOf (connectionsIn (now (bytes .entry)) (now (n .entry)) (now (x .entry))) (xName (connectionsIn (now (bytes .entry)) (now (n .entry)) (now (x .entry))) i) ⌝ }
 {
     let row = (i as usize) * 7;
     name::name_of(bytes, n, lent::number_at(x, row))
@@ -98,7 +98,7 @@ fn put_path_names(
     text: &mut [u8],
     used: usize,
 ) -> usize
-    ensures { λ z. ⌜ Added (each (textLine (bytesOf "@")) (pathNames (printingIn (now (bytes .entry)) (now (n .entry)) (now (c .entry)) (now (x .entry))) (diagBack (now (block .entry))) (ltb (getD (now (block .entry)) 0 0) 5)))
+    ensures { λ z. ⌜ Added (each (textLine (bytesOf "@")) (pathNames (wiringIn (now (bytes .entry)) (now (n .entry)) (now (c .entry)) (now (x .entry))) (diagBack (now (block .entry))) (ltb (getD (now (block .entry)) 0 0) 5)))
         (now (text .entry)) used (now (text .exit)) z ⌝ }
 {
     let conn = lent::number_at(block, 1);
@@ -126,7 +126,7 @@ pub fn put_diagnostic(
     used: usize,
 ) -> usize
     requires { ⌜ length (now block) ≡ 4 ⌝ }
-    ensures { λ z. ⌜ Added (diagText (printingIn (now (bytes .entry)) (now (n .entry)) (now (c .entry)) (now (x .entry))) (diagBack (now (block .entry)))) (now (text .entry)) used (now (text .exit)) z ⌝ }
+    ensures { λ z. ⌜ Added (diagText (wiringIn (now (bytes .entry)) (now (n .entry)) (now (c .entry)) (now (x .entry))) (diagBack (now (block .entry)))) (now (text .entry)) used (now (text .exit)) z ⌝ }
 {
     let name = connection_name(bytes, n, x, block[1]);
     let marked = lent::append_bytes(text, used, b"D");

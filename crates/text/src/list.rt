@@ -1,13 +1,13 @@
 // The whole list, and a refusal.
 ghost use mathlib.Core.Path.{_≡_};
-ghost use mathlib.Core.List.{[]};
 ghost use Prim.Native.Nat.{_*_, _≤_};
 ghost use lib.ListN.{length, drop};
 ghost use Rattle.as5506.specs.Lists.{each};
 ghost use Rattle.as5506.specs.Layout.{rowBack, rowsBack, groupBack, groupRowsBack, namesBehind, diagsBack};
 ghost use Rattle.as5506.specs.Text.{rowText, diagText};
+ghost use Rattle.lent.specs.Lent.{namesIn, wiringIn};
 ghost use Rattle.text.specs.Added.{Added};
-ghost use Rattle.text.specs.Printing.{printingIn, listOf, refusalOf, Printed};
+ghost use Rattle.text.specs.Printing.{listOf, refusalOf, Printed};
 use super::diagnostics;
 use super::lines;
 use super::numbers;
@@ -18,7 +18,7 @@ use as5506::Refusal;
 // Prints a traced row from its block, whose names stand in the tables.
 fn put_traced_row(bytes: &[u8], n: &[u32], block: &[u32], text: &mut [u8], used: usize) -> usize
     requires { ⌜ length (now block) ≡ 49 ⌝ }
-    ensures { λ z. ⌜ Added (rowText (rowBack (printingIn (now (bytes .entry)) (now (n .entry)) [] []) (now (block .entry)))) (now (text .entry)) used (now (text .exit)) z ⌝ }
+    ensures { λ z. ⌜ Added (rowText (rowBack (namesIn (now (bytes .entry)) (now (n .entry))) (now (block .entry)))) (now (text .entry)) used (now (text .exit)) z ⌝ }
 {
     let name = name::name_of(bytes, n, block[4]);
     let source = name::name_of(bytes, n, block[5]);
@@ -36,7 +36,7 @@ fn put_traced(
     used: usize,
 ) -> usize
     requires { ⌜ count * 49 ≤ length (now rows) ⌝ }
-    ensures { λ z. ⌜ Added (each rowText (rowsBack (printingIn (now (bytes .entry)) (now (n .entry)) [] []) count (now (rows .entry)))) (now (text .entry)) used (now (text .exit)) z ⌝ }
+    ensures { λ z. ⌜ Added (each rowText (rowsBack (namesIn (now (bytes .entry)) (now (n .entry))) count (now (rows .entry)))) (now (text .entry)) used (now (text .exit)) z ⌝ }
 {
     let mut z = used;
     let mut i: usize = 0;
@@ -117,7 +117,7 @@ fn put_diagnostics(
     used: usize,
 ) -> usize
     requires { ⌜ count * 4 ≤ length (now list) ⌝ }
-    ensures { λ z. ⌜ Added (each (diagText (printingIn (now (bytes .entry)) (now (n .entry)) (now (c .entry)) (now (x .entry)))) (diagsBack count (now (list .entry)))) (now (text .entry)) used (now (text .exit)) z ⌝ }
+    ensures { λ z. ⌜ Added (each (diagText (wiringIn (now (bytes .entry)) (now (n .entry)) (now (c .entry)) (now (x .entry)))) (diagsBack count (now (list .entry)))) (now (text .entry)) used (now (text .exit)) z ⌝ }
 {
     let mut z = used;
     let mut i: usize = 0;
@@ -150,8 +150,8 @@ pub fn print_list(
 ) -> usize
     requires { ⌜ («traced_count» * 49 ≤ length (now traced)) × («group_count» * 49 ≤ length (now group)) × («diagnostic_count» * 4 ≤ length (now diagnostics)) × («group_diagnostic_count» * 4 ≤ length (now «group_diagnostics»)) ⌝ }
     ensures { λ z. ⌜ Printed
-        (listOf (printingIn (now (bytes .entry)) (now (n .entry)) (now (c .entry)) (now (x .entry)))
-        (rowsBack (printingIn (now (bytes .entry)) (now (n .entry)) (now (c .entry)) (now (x .entry))) «traced_count» (now (traced .entry)))
+        (listOf (wiringIn (now (bytes .entry)) (now (n .entry)) (now (c .entry)) (now (x .entry)))
+        (rowsBack (wiringIn (now (bytes .entry)) (now (n .entry)) (now (c .entry)) (now (x .entry))) «traced_count» (now (traced .entry)))
         (groupRowsBack «group_count» (now (group .entry)) (now (names .entry)))
         (diagsBack «diagnostic_count» (now (diagnostics .entry)))
         (diagsBack «group_diagnostic_count» (now («group_diagnostics» .entry))))

@@ -10,7 +10,8 @@ use lib.Seq.{drop-cons, length-take-le, getD-take, take-suc, take-suc-set}
 use borrow.Author.Tests.{eq-eqb, ne-eqb}
 use Rattle.as5506.specs.Lists.{has, padded}
 use Rattle.as5506.specs.Tracing.{appendNew}
-use Rattle.lent.proofs.Padded.{padded-put, padded-length, padded-front}
+use Rattle.as5506.proofs.Laws.{padded-length}
+use Rattle.lent.proofs.Padded.{padded-put, padded-front}
 
 -- ---- the first len entries of p, one by one
 
@@ -38,9 +39,9 @@ module _ (p : List ℕ) (len i : ℕ) (h : len ≤ i) (g : len ≤ length p) whe
   pub has-past : (v : ℕ) → has v (drop i (take len p)) ≡ false
   has-past v = rw past
 
-  append-past : (q : List ℕ) → appendNew q (drop i (take len p)) ≡ q
+  append-done : (q : List ℕ) → appendNew q (drop i (take len p)) ≡ q
   unfolding appendNew
-  append-past q = rw past
+  append-done q = rw past
 
 -- ---- places: the first i of s are written, and zeros behind
 
@@ -114,5 +115,5 @@ module _ (all rows : List ℕ) (len : ℕ) (d : List ℕ) (dlen k slen : ℕ) (j
 
   pub joins-end : dlen ≤ k → len ≤ 41 → (rows ≡ padded 41 all) × (len ≡ length all)
   joins-end h b =
-      let e : all ≡ take len rows = j .left ∙ append-past d dlen k h g (take len rows) in
+      let e : all ≡ take len rows = j .left ∙ append-done d dlen k h g (take len rows) in
       (j .zeros ∙ ap (padded 41) (sym e), sym (length-take-le len rows (omega (arith, j .size))) ∙ ap length (sym e))

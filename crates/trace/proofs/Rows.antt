@@ -9,25 +9,22 @@ use lib.Seq.{sets, take-suc-set}
 use Rattle.as5506.specs.Lists.{each, padded}
 use Rattle.as5506.specs.Tables.{Tables, source, destination, xName, xKind}
 use Rattle.as5506.specs.Tables.{Side as TheSide}
-use Rattle.as5506.specs.Tracing.{Step as TheStep, Chain, Traced, stop, push, chains, steps, appendNew}
+use Rattle.as5506.specs.Tracing.{Step as TheStep, Chain, Traced, stop, push, chains, appendNew}
 use Rattle.as5506.specs.Layout.{tracedBlock}
 use Rattle.lent.proofs.Sets.{sets-append}
-use Rattle.lent.proofs.Padded.{padded-length}
 use Rattle.trace.specs.declared.Side.{Side}
 use Rattle.trace.specs.declared.Side.the-variants.{Source, Destination}
 use Rattle.trace.specs.declared.Wrote.{Wrote}
 use Rattle.trace.specs.declared.Wrote.the-variants.{Count, Full}
-use Rattle.trace.specs.Steps.{tracingIn, sideOf, stepsFrom, step}
-use Rattle.trace.specs.Ends.{behind, rowAlong, rowsAtEnd, rowsBehind, Fit}
+use Rattle.trace.specs.Steps.{sideOf, stepsFrom, step}
+use Rattle.trace.specs.Ends.{theEnd, behind, rowAlong, rowsAtEnd, rowsBehind, Fit}
 use Rattle.trace.specs.Writing.{Written}
-use Rattle.as5506.proofs.Laws.{each-append}
+use Rattle.as5506.proofs.Laws.{each-append, padded-length}
+use Rattle.lent.specs.Lent.{connectionsIn, wiringIn}
 use Rattle.trace.proofs.Writing.{Remains, remains-start, remains-turn, remains-full, remains-end}
 use Rattle.trace.proofs.Chains.{via, chains-on}
 
 -- ---- one row
-
-abbrev theEnd : ℕ → ℕ → List ℕ → Chain
-theEnd c f p = record { comp = c; feat = f; path = p }
 
 -- the eight numbers in front of a row's places
 abbrev pub head : ℕ → ℕ → ℕ → ℕ → ℕ → ℕ → ℕ → ℕ → List ℕ
@@ -54,19 +51,19 @@ module _ (m : Tables) (x : ℕ) (s d : Chain) (kind name len : ℕ) (places : Li
       )
 
 pub row-same : (bytes n c x : List ℕ) (v : ℕ) (s d : Chain) (out : List ℕ) (count : ℕ) (q : Wrote) (out′ : List ℕ)
-    → Written 49 (tracedBlock (tracingIn [] [] [] x)) (rowAlong (tracingIn [] [] [] x) v s d ∷ []) out count q out′
-    → Written 49 (tracedBlock (tracingIn bytes n c x)) (rowAlong (tracingIn bytes n c x) v s d ∷ []) out count q out′
+    → Written 49 (tracedBlock (connectionsIn [] [] x)) (rowAlong (connectionsIn [] [] x) v s d ∷ []) out count q out′
+    → Written 49 (tracedBlock (wiringIn bytes n c x)) (rowAlong (wiringIn bytes n c x) v s d ∷ []) out count q out′
 unfolding tracedBlock rowAlong
 row-same bytes n c x v s d out count q out′ w = w
 
 -- ---- chains behind a path
 
 module _ (m : Tables) (s : TheSide) (x k : ℕ) (o : Chain) where
-  pub rows-append : (p : List ℕ) (a b : List Chain) → rowsBehind m s x k o p (a ++ b) ≡ rowsBehind m s x k o p a ++ rowsBehind m s x k o p b
+  rows-append : (p : List ℕ) (a b : List Chain) → rowsBehind m s x k o p (a ++ b) ≡ rowsBehind m s x k o p a ++ rowsBehind m s x k o p b
   unfolding rowsBehind
   rows-append p a b = each-append (λ e. rowsAtEnd m s x k o (behind p e)) a b
 
-  pub rows-along : (p : List ℕ) (i : ℕ) (l : List Chain) → rowsBehind m s x k o p (map (push i) l) ≡ rowsBehind m s x k o (p ++ (i ∷ [])) l
+  rows-along : (p : List ℕ) (i : ℕ) (l : List Chain) → rowsBehind m s x k o p (map (push i) l) ≡ rowsBehind m s x k o (p ++ (i ∷ [])) l
   unfolding rowsBehind
   rows-along p i [] = refl
   rows-along p i (e ∷ l) =
@@ -118,7 +115,7 @@ module _ (m : Tables) (s : TheSide) (x k : ℕ) (o : Chain) (c f left : ℕ) whe
     pub trace-end : (out : List ℕ) (done : ℕ) (todo : List TheStep) → Remains 49 (tracedBlock m) (rowsBehind m s x k o p (chains m s left c f)) out₀ count out done (leftRows m s x k o p left todo)
         → todo ≡ [] → Written 49 (tracedBlock m) (rowsBehind m s x k o p (chains m s left c f)) out₀ count (Count done) out
     unfolding rowsBehind
-    trace-end out done todo r e = remains-end 49 (tracedBlock m) _ out₀ count out done (rw e at r)
+    trace-end out done todo r e = remains-end 49 (tracedBlock m) _ out₀ count out done _ r (ap (leftRows m s x k o p left) e)
 
   module _ (path : List ℕ) (len : ℕ) (out₀ : List ℕ) (count : ℕ) (out : List ℕ) (done : ℕ) (todo l : List TheStep) (st : TheStep)
       (r : Remains 49 (tracedBlock m) (rowsBehind m s x k o (take len path) (chains m s left c f)) out₀ count out done (leftRows m s x k o (take len path) left todo))
@@ -136,10 +133,10 @@ module _ (m : Tables) (s : TheSide) (x k : ℕ) (o : Chain) (c f left : ℕ) whe
         ∙ ap (λ (p : List ℕ). rowsBehind m s x k o p (chains m s (left - 1) (st .child) (st .feat))) (sym (ap (λ (n : ℕ). take n (set path len (st .conn))) (add-one len) ∙ take-suc-set path len (st .conn) h)))
 
     pub trace-turn : (n : ℕ) → q ≡ Count n → Remains 49 (tracedBlock m) (rowsBehind m s x k o (take len path) (chains m s left c f)) out₀ count out′ n (leftRows m s x k o (take len path) left l)
-    trace-turn = remains-turn 49 (tracedBlock m) _ out₀ count out done _ _ (rw split at r) q out′ w
+    trace-turn = remains-turn 49 (tracedBlock m) _ out₀ count out done _ r _ _ split q out′ w
 
     pub trace-full : q ≡ Full → (o′ : List ℕ) → Written 49 (tracedBlock m) (rowsBehind m s x k o (take len path) (chains m s left c f)) out₀ count Full o′
-    trace-full = remains-full 49 (tracedBlock m) _ out₀ count out done _ _ (rw split at r) q out′ w
+    trace-full = remains-full 49 (tracedBlock m) _ out₀ count out done _ r _ _ split q out′ w
 
 -- ---- the tracer ends: the source's steps, then the destination's
 

@@ -9,35 +9,20 @@ use native.Mathlib.Omega.{arith}
 use lib.Dec.{eqb}
 use lib.ListN.{length}
 use borrow.Author.Tests.{eq-eqb, ne-eqb, lt-ltb, le-ltb}
-use Rattle.as5506.specs.Lists.{span, upTo, putIf, keep, each, isNil, has, sameBytes}
+use Rattle.as5506.specs.Lists.{span, upTo, putIf, keep, each, sameBytes}
 use Rattle.as5506.specs.Tables.{Tables, missing, nameOf, rowsNaming, Side, other, xCount, xOwner, xSub, xFeat}
-use Rattle.as5506.specs.Tracing.{Step as TheStep, stepTo, leads, stepsOver, steps, isNamed, isElement}
-use Rattle.as5506.specs.Names.{bracket}
-use Rattle.children.specs.declared.Rule.{Rule}
-use Rattle.children.specs.declared.Rule.the-variants.{Exact, Base}
+use Rattle.as5506.specs.Tracing.{Step as TheStep, stepTo, leads, stepsOver, steps}
 use Rattle.children.specs.declared.Child.{Child}
-use Rattle.children.specs.declared.Child.the-variants.{At as ChildAt, Nothing}
-use Rattle.children.specs.Found.{componentsIn, fits, childrenFrom, ruleBy, ruleFor, foundFrom, afterChild}
-use Rattle.children.proofs.Scan.{found-from-start}
+use Rattle.children.specs.Found.{foundFrom, afterChild}
+use Rattle.children.proofs.Scan.{found-from-start, after-same}
 use Rattle.as5506.proofs.Scans.{span-next, span-done, keep-put}
+use Rattle.lent.specs.Lent.{connectionsIn, wiringIn}
 use Rattle.trace.specs.declared.Step.{Step}
 use Rattle.trace.specs.declared.Step.the-variants.{At, Done}
-use Rattle.trace.specs.Steps.{tracingIn, isStep, listIf, leadsTo, stepsAt, stepsFrom, step, afterStep, Within}
+use Rattle.trace.specs.Steps.{isStep, listIf, leadsTo, stepsAt, stepsFrom, step, afterStep, Within}
 
--- ---- tables that agree where something looks
-
-rule-same : (bytes n c x : List ℕ) (rule : Rule) (p : ℕ) (w : List ℕ) (j : ℕ) → childrenFrom (componentsIn bytes n c) rule p w j ≡ childrenFrom (tracingIn bytes n c x) rule p w j
-unfolding childrenFrom fits isNamed isElement
-rule-same bytes n c x Exact p w j = refl
-rule-same bytes n c x Base p w j = refl
-
-pub found-same : (bytes n c x : List ℕ) (p : ℕ) (w : List ℕ) (j : ℕ) → foundFrom (componentsIn bytes n c) p w j ≡ foundFrom (tracingIn bytes n c x) p w j
-unfolding foundFrom ruleFor
-found-same bytes n c x p w j =
-    rule-same bytes n c x (ruleFor (componentsIn bytes n c) p w) p w j
-    ∙ ap (λ (l : List ℕ). childrenFrom (tracingIn bytes n c x) (ruleBy (isNil l) (has bracket w)) p w j) (rule-same bytes n c x Exact p w 0)
-
-pub step-same : (bytes n c x : List ℕ) (s : Side) (p f i : ℕ) → isStep (tracingIn bytes n [] x) s p f i ≡ isStep (tracingIn bytes n c x) s p f i
+-- whether a connection is a step asks for no component
+pub step-same : (bytes n c x : List ℕ) (s : Side) (p f i : ℕ) → isStep (connectionsIn bytes n x) s p f i ≡ isStep (wiringIn bytes n c x) s p f i
 unfolding isStep leads
 step-same bytes n c x s p f i = refl
 
@@ -59,9 +44,9 @@ module _ (m : Tables) (s : Side) (p f i v : ℕ) (e : v ≡ xOwner m i) where
       near-sub b = rw (eq-eqb (xOwner m i) p (sym e ∙ h), ne-eqb (xSub m s i) missing (λ z. k (g ∙ z)), ne-eqb (xSub m (other s) i) missing (λ z. b (a ∙ z)))
 
       module _ (b : near ≡ missing) (own : ℕ) (c : own ≡ xFeat m (other s) i) where
-        pub no-feature : own ≡ missing → false ≡ isStep m s p f i
+        pub no-near-feature : own ≡ missing → false ≡ isStep m s p f i
         unfolding isStep leads
-        no-feature d =
+        no-near-feature d =
             rw (eq-eqb (xOwner m i) p (sym e ∙ h), ne-eqb (xSub m s i) missing (λ z. k (g ∙ z)), eq-eqb (xSub m (other s) i) missing (sym a ∙ b), eq-eqb (xFeat m (other s) i) missing (sym c ∙ d))
 
         pub by-feature : (own ≡ missing → ⊥) → (r : Bool) → r ≡ sameBytes (nameOf m own) (nameOf m f) → r ≡ isStep m s p f i
@@ -72,12 +57,8 @@ module _ (m : Tables) (s : Side) (p f i v : ℕ) (e : v ≡ xOwner m i) where
 
 -- ---- the children to which a connection leads
 
-pub after-same : (g h : ℕ → List ℕ) (q : Child) → ((j : ℕ) → g j ≡ h j) → afterChild g q ≡ afterChild h q
-after-same g h Nothing t = refl
-after-same g h (ChildAt i) t = ap (λ (r : List ℕ). i ∷ r) (t (i + 1))
-
 module _ (m : Tables) (s : Side) (p f i : ℕ) where
-  pub leads-found : (b : Bool) (j : ℕ) → b ≡ true → b ≡ isStep m s p f i → leadsTo m s p f i j ≡ foundFrom m p (nameOf m (xSub m s i)) j
+  leads-found : (b : Bool) (j : ℕ) → b ≡ true → b ≡ isStep m s p f i → leadsTo m s p f i j ≡ foundFrom m p (nameOf m (xSub m s i)) j
   unfolding leadsTo
   leads-found b j e g = rw (sym g ∙ e)
 
@@ -138,11 +119,11 @@ module _ (m : Tables) (s : Side) (p f : ℕ) where
 
   -- ---- an answer
 
-  pub after-at : (i j : ℕ) (q : Step) → stepsFrom m s p f i j ≡ afterStep m s p f q → (i′ j′ g : ℕ) → q ≡ At i′ j′ g → stepsFrom m s p f i j ≡ step i′ j′ g ∷ stepsFrom m s p f i′ (j′ + 1)
-  after-at i j q e i′ j′ g h = e ∙ ap (afterStep m s p f) h
+  pub step-at : (i j : ℕ) (q : Step) → stepsFrom m s p f i j ≡ afterStep m s p f q → (i′ j′ g : ℕ) → q ≡ At i′ j′ g → stepsFrom m s p f i j ≡ step i′ j′ g ∷ stepsFrom m s p f i′ (j′ + 1)
+  step-at i j q e i′ j′ g h = e ∙ ap (afterStep m s p f) h
 
-  pub after-done : (i j : ℕ) (q : Step) → stepsFrom m s p f i j ≡ afterStep m s p f q → q ≡ Done → stepsFrom m s p f i j ≡ []
-  after-done i j q e h = e ∙ ap (afterStep m s p f) h
+  pub step-done : (i j : ℕ) (q : Step) → stepsFrom m s p f i j ≡ afterStep m s p f q → q ≡ Done → stepsFrom m s p f i j ≡ []
+  step-done i j q e h = e ∙ ap (afterStep m s p f) h
 
 pub within-at : (c x : List ℕ) (q : Step) → Within c x q → (i j g : ℕ) → q ≡ At i j g → Within c x (At i j g)
 within-at c x q w i j g e = subst (Within c x) e w

@@ -1,25 +1,16 @@
 -- Tracing sees four tables: with the other tables the definition finds the same children. Assumes nothing.
-use mathlib.Core.Bool.{Bool, true, false}
-use mathlib.Core.Path.{_≡_, refl}
-use mathlib.Core.List.{List, [], _∷_}
+use mathlib.Core.Path.{_≡_, sym, _∙_}
+use mathlib.Core.List.{List}
 use Prim.Native.Nat.{ℕ}
-use Rattle.as5506.specs.Lists.{keep, has}
-use Rattle.as5506.specs.Tables.{Tables, rowsNaming, childrenOf}
-use Rattle.as5506.specs.Names.{bracket}
-use Rattle.as5506.specs.Tracing.{isNamed, isElement, orElements, foundChildren}
-use Rattle.trace.specs.Steps.{tracingIn}
+use Rattle.as5506.specs.Tables.{Tables}
+use Rattle.as5506.specs.Tracing.{foundChildren}
+use Rattle.lent.specs.Lent.{wiringIn}
+use Rattle.children.proofs.Scan.{found-from-start, found-same}
 
 module _ (m : Tables) where
   -- what tracing sees of the tables
   abbrev pub seen : Tables
-  seen = tracingIn (m .bytes) (m .n) (m .c) (m .x)
-
-  or-seen : (b : Bool) (p : ℕ) (w l : List ℕ) → orElements b seen p w l ≡ orElements b m p w l
-  unfolding orElements isElement rowsNaming
-  or-seen b p w (i ∷ l) = refl
-  or-seen true p w [] = refl
-  or-seen false p w [] = refl
+  seen = wiringIn (m .bytes) (m .n) (m .c) (m .x)
 
   pub found-seen : (p : ℕ) (w : List ℕ) → foundChildren seen p w ≡ foundChildren m p w
-  unfolding foundChildren isNamed rowsNaming
-  found-seen p w = or-seen (has bracket w) p w (keep (isNamed m w) (childrenOf m p))
+  found-seen p w = sym (found-from-start seen p w) ∙ sym (found-same seen p w 0) ∙ found-same m p w 0 ∙ found-from-start m p w

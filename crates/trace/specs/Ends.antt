@@ -10,15 +10,19 @@ use Rattle.trace.specs.declared.Side.{Side}
 use Rattle.trace.specs.declared.Side.the-variants.{Source, Destination}
 use Rattle.trace.specs.declared.End.{End}
 
+-- the end at feature f of component c, over the connections p
+abbrev pub theEnd : ℕ → ℕ → List ℕ → TheEnd
+theEnd c f p = record { comp = c; feat = f; path = p }
+
 -- the end that a value of the code stands for
 abbrev pub endOf : End → TheEnd
-endOf e = record { comp = e .component; feat = e .feature; path = take (e .len) (e .path) }
+endOf e = theEnd (e .component) (e .feature) (take (e .len) (e .path))
 
 -- a chain behind the connections p
 abbrev pub behind : List ℕ → TheEnd → TheEnd
-behind p e = record { comp = e .comp; feat = e .feat; path = p ++ e .path }
+behind p e = theEnd (e .comp) (e .feat) (p ++ e .path)
 
--- the row of connection x from s to d, where the path of s begins with x (the definition's rowOf adds it)
+-- the row of connection x from s to d. The path of s begins with x here (the definition's rowOf puts it there)
 unfoldable pub rowAlong : Tables → ℕ → TheEnd → TheEnd → Traced
 rowAlong m x s d =
     record { conn = x; kind = xKind m x; src = s .comp; dst = d .comp; srcFeat = s .feat; dstFeat = d .feat; path = appendNew (s .path) (d .path) }

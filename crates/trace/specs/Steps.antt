@@ -5,20 +5,17 @@ use mathlib.Core.List.{List, [], _∷_, _++_, map}
 use Prim.Native.Nat.{ℕ, _+_, _-_, _<_}
 use lib.Dec.{eqb, ltb}
 use Rattle.as5506.specs.Lists.{span, each}
-use Rattle.as5506.specs.Tables.{Tables, tablesOf, nameOf, cCount, xCount, xOwner, xSub, source, destination}
+use Rattle.as5506.specs.Tables.{Tables, nameOf, cCount, xCount, xOwner, xSub, source, destination}
 use Rattle.as5506.specs.Tables.{Side as TheSide}
-use Rattle.as5506.specs.Tracing.{Step as TheStep, stepTo, leads, steps, chains, stop}
+use Rattle.as5506.specs.Tracing.{Step as TheStep, stepTo, leads, chains, stop}
+use Rattle.lent.specs.Lent.{componentsIn, connectionsIn}
 use Rattle.children.specs.Found.{foundFrom}
 use Rattle.trace.specs.declared.Side.{Side}
 use Rattle.trace.specs.declared.Side.the-variants.{Source, Destination}
 use Rattle.trace.specs.declared.Step.{Step}
 use Rattle.trace.specs.declared.Step.the-variants.{At, Done}
 
--- the tables of names, components and connections, as far as tracing goes
-abbrev pub tracingIn : List ℕ → List ℕ → List ℕ → List ℕ → Tables
-tracingIn bytes n c x = tablesOf bytes n c [] x [] [] [] [] [] [] []
-
--- a side of the code
+-- the side that a value of the code stands for
 abbrev pub sideOf : Side → TheSide
 sideOf Source = source
 sideOf Destination = destination
@@ -27,6 +24,7 @@ sideOf Destination = destination
 unfoldable pub isStep : Tables → TheSide → ℕ → ℕ → ℕ → Bool
 isStep m s p f i = eqb (xOwner m i) p && leads m s (nameOf m f) i
 
+-- the list, where the test holds
 abbrev pub listIf : Bool → List ℕ → List ℕ
 listIf true l = l
 listIf false l = []
@@ -35,6 +33,7 @@ listIf false l = []
 unfoldable pub leadsTo : Tables → TheSide → ℕ → ℕ → ℕ → ℕ → List ℕ
 leadsTo m s p f i j = listIf (isStep m s p f i) (foundFrom m p (nameOf m (xSub m s i)) j)
 
+-- the steps over connection i from (p, f), to children from row j on
 unfoldable pub stepsAt : Tables → TheSide → ℕ → ℕ → ℕ → ℕ → List TheStep
 stepsAt m s p f i j = map (stepTo m s i) (leadsTo m s p f i j)
 
@@ -43,10 +42,11 @@ unfoldable pub stepsFrom : Tables → TheSide → ℕ → ℕ → ℕ → ℕ �
 stepsFrom m s p f i j =
     cond (ltb i (xCount m)) (stepsAt m s p f i j ++ each (λ k. stepsAt m s p f k 0) (span (i + 1) (xCount m - (i + 1)))) []
 
+-- the step over connection x to child i and its feature f
 abbrev pub step : ℕ → ℕ → ℕ → TheStep
 step x i f = record { conn = x; child = i; feat = f }
 
--- an answer stands for no step, or for its own and those behind it
+-- the steps that an answer stands for: none, or its own and those behind it
 abbrev pub afterStep : Tables → TheSide → ℕ → ℕ → Step → List TheStep
 afterStep m s p f Done = []
 afterStep m s p f (At i j g) = step i j g ∷ stepsFrom m s p f i (j + 1)
@@ -54,9 +54,9 @@ afterStep m s p f (At i j g) = step i j g ∷ stepsFrom m s p f i (j + 1)
 -- an answer's connection and child are rows
 abbrev pub Within : List ℕ → List ℕ → Step → Type 0
 Within c x Done = Unit {0}
-Within c x (At i j g) = (i < xCount (tracingIn [] [] [] x)) × (j < cCount (tracingIn [] [] c []))
+Within c x (At i j g) = (i < xCount (connectionsIn [] [] x)) × (j < cCount (componentsIn [] [] c))
 
--- how the chains of at most k steps begin: there is no step to make, or a first one
+-- how the chains of at most k steps from (p, f) begin: there is no step to make, or a first one
 unfoldable pub Begins : Tables → TheSide → ℕ → ℕ → ℕ → Step → Type 0
 Begins m s k p f Done = chains m s k p f ≡ stop p f ∷ []
 Begins m s k p f (At i j g) = (k ≡ 0 → ⊥) × (stepsFrom m s p f 0 0 ≡ step i j g ∷ stepsFrom m s p f i (j + 1))

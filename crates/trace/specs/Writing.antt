@@ -9,8 +9,8 @@ use Rattle.trace.specs.declared.Wrote.{Wrote}
 use Rattle.trace.specs.declared.Wrote.the-variants.{Count, Full}
 
 module _ {A : Type 0} where
-  -- of the entries l, each a block f of w numbers, to be written behind the first `count` blocks of out: the number of blocks then and what
-  -- the output holds then; or no room, whatever it holds
+  -- the entries l, each as a block f of w numbers, are written behind the first `count` blocks of out: r blocks stand in it then, and out′ is what
+  -- it holds. Or they find no room, and nothing is said of what it holds
   unfoldable pub Written : ℕ → (A → List ℕ) → List A → List ℕ → ℕ → Wrote → List ℕ → Type 0
   Written w f l out count (Count r) out′ =
       (r ≡ count + length l) × (r ≤ length out / w) × (length (each f l) ≡ length l * w) × (out′ ≡ sets out (count * w) (each f l))

@@ -1,4 +1,5 @@
-// Tracing connections through the components (instance.rs, `trace_sources` and `trace_destinations`): one tracer over the side.
+// Tracing connections through the components (instance.rs, `trace_sources` and `trace_destinations`): one tracer for both sides. A row of X has its
+// name, owner and kind, then the subcomponent and the feature of its source, then those of its destination.
 ghost use mathlib.Core.Path.{_≡_};
 ghost use mathlib.Core.List.{[], _∷_};
 ghost use Prim.Native.Nat.{_+_, _*_, _/_, _<_, _≤_};
@@ -7,33 +8,34 @@ ghost use Rattle.as5506.specs.Lists.{has, padded, sameBytes};
 ghost use Rattle.as5506.specs.Tables.{nameIn, other, xSub, xFeat};
 ghost use Rattle.as5506.specs.Tracing.{appendNew, chains};
 ghost use Rattle.as5506.specs.Layout.{tracedBlock};
+ghost use Rattle.lent.specs.Lent.{connectionsIn, wiringIn};
 ghost use Rattle.children.specs.Found.{afterChild, Inside};
-ghost use Rattle.trace.specs.Steps.{tracingIn, sideOf, isStep, leadsTo, stepsFrom, afterStep, Within, Begins};
+ghost use Rattle.trace.specs.Steps.{sideOf, isStep, leadsTo, stepsFrom, afterStep, Within, Begins};
 ghost use Rattle.trace.specs.Ends.{endOf, rowAlong, rowsBehind, Fit};
 ghost use Rattle.trace.specs.Writing.{Written};
 use as5506::MISSING;
 use as5506::ROW_NUMBERS;
 use children::Child;
 
-// The end of a connection towards which a chain runs.
+// The side of a connection towards which a chain of steps runs.
 pub enum Side {
     Source,
     Destination,
 }
 
-// A step: the X row, and the C row and the feature's name that it leads to.
+// The next step of a chain: the X row that it goes over, and the C row and the feature's name that it leads to; or there is none.
 pub enum Step {
     At(usize, usize, u32),
     Done,
 }
 
-// How many blocks an output holds after writing, or that there was no room for all.
+// What writing blocks into an output comes to: how many stand in it then, or that there was no room for all.
 pub enum Wrote {
     Count(usize),
     Full,
 }
 
-// Where a chain stands, and the connections that it went over, at most 21.
+// Where a chain stands, and the connections that it went over: the first `len` of `path`.
 pub struct End {
     pub component: u32,
     pub feature: u32,
@@ -41,7 +43,7 @@ pub struct End {
     pub len: usize,
 }
 
-// A row's path.
+// A row's path: the first `len` of `rows`.
 pub struct Trail {
     pub rows: [u32; 41],
     pub len: usize,
@@ -60,7 +62,7 @@ fn opposite(side: Side) -> Side
 // The subcomponent that X row i names on a side.
 pub fn subcomponent_of(x: &[u32], side: Side, i: usize) -> u32
     requires { ⌜ i < length (now x) / 7 ⌝ }
-    ensures { λ r. ⌜ r ≡ xSub (tracingIn [] [] [] (now (x .entry))) (sideOf side) i ⌝ }
+    ensures { λ r. ⌜ r ≡ xSub (connectionsIn [] [] (now (x .entry))) (sideOf side) i ⌝ }
 {
     match side {
         Side::Source => lent::number_at(x, i * 7 + 3),
@@ -71,7 +73,7 @@ pub fn subcomponent_of(x: &[u32], side: Side, i: usize) -> u32
 // The feature that X row i names on a side.
 pub fn feature_of(x: &[u32], side: Side, i: usize) -> u32
     requires { ⌜ i < length (now x) / 7 ⌝ }
-    ensures { λ r. ⌜ r ≡ xFeat (tracingIn [] [] [] (now (x .entry))) (sideOf side) i ⌝ }
+    ensures { λ r. ⌜ r ≡ xFeat (connectionsIn [] [] (now (x .entry))) (sideOf side) i ⌝ }
 {
     match side {
         Side::Source => lent::number_at(x, i * 7 + 4),
@@ -97,7 +99,7 @@ fn leads(
     i: usize,
 ) -> bool
     requires { ⌜ i < length (now x) / 7 ⌝ }
-    ensures { λ r. ⌜ r ≡ isStep (tracingIn (now (bytes .entry)) (now (n .entry)) [] (now (x .entry))) (sideOf side) component feature i ⌝ }
+    ensures { λ r. ⌜ r ≡ isStep (connectionsIn (now (bytes .entry)) (now (n .entry)) (now (x .entry))) (sideOf side) component feature i ⌝ }
 {
     if lent::number_at(x, i * 7 + 1) != component {
         return false;
@@ -116,7 +118,7 @@ fn leads(
     same_feature(bytes, n, own, feature)
 }
 
-// The first child from row `from` on to which X row i leads.
+// The first child from row `from` on to which X row i leads, if it is a connection of the component that leads from its feature towards the side.
 fn next_child(
     bytes: &[u8],
     n: &[u32],
@@ -129,8 +131,8 @@ fn next_child(
     from: usize,
 ) -> Child
     requires { ⌜ i < length (now x) / 7 ⌝ }
-    ensures { λ r. ⌜ leadsTo (tracingIn (now (bytes .entry)) (now (n .entry)) (now (c .entry)) (now (x .entry))) (sideOf side) component feature i from
-        ≡ afterChild (leadsTo (tracingIn (now (bytes .entry)) (now (n .entry)) (now (c .entry)) (now (x .entry))) (sideOf side) component feature i) r ⌝ }
+    ensures { λ r. ⌜ leadsTo (wiringIn (now (bytes .entry)) (now (n .entry)) (now (c .entry)) (now (x .entry))) (sideOf side) component feature i from
+        ≡ afterChild (leadsTo (wiringIn (now (bytes .entry)) (now (n .entry)) (now (c .entry)) (now (x .entry))) (sideOf side) component feature i) r ⌝ }
     ensures { λ r. ⌜ Inside (now (c .entry)) r ⌝ }
 {
     if leads(bytes, n, x, side, component, feature, i) {
@@ -158,8 +160,8 @@ pub fn next_step(
     row: usize,
     child: usize,
 ) -> Step
-    ensures { λ r. ⌜ stepsFrom (tracingIn (now (bytes .entry)) (now (n .entry)) (now (c .entry)) (now (x .entry))) (sideOf side) component feature row child
-        ≡ afterStep (tracingIn (now (bytes .entry)) (now (n .entry)) (now (c .entry)) (now (x .entry))) (sideOf side) component feature r ⌝ }
+    ensures { λ r. ⌜ stepsFrom (wiringIn (now (bytes .entry)) (now (n .entry)) (now (c .entry)) (now (x .entry))) (sideOf side) component feature row child
+        ≡ afterStep (wiringIn (now (bytes .entry)) (now (n .entry)) (now (c .entry)) (now (x .entry))) (sideOf side) component feature r ⌝ }
     ensures { λ r. ⌜ Within (now (c .entry)) (now (x .entry)) r ⌝ }
 {
     let count = x.len() / 7;
@@ -175,7 +177,7 @@ pub fn next_step(
     Step::Done
 }
 
-// The first step of a chain of at most `left` steps.
+// The first step of a chain of at most `left` steps from (component, feature).
 fn first_step(
     bytes: &[u8],
     n: &[u32],
@@ -186,7 +188,7 @@ fn first_step(
     feature: u32,
     left: usize,
 ) -> Step
-    ensures { λ r. ⌜ Begins (tracingIn (now (bytes .entry)) (now (n .entry)) (now (c .entry)) (now (x .entry))) (sideOf side) left component feature r ⌝ }
+    ensures { λ r. ⌜ Begins (wiringIn (now (bytes .entry)) (now (n .entry)) (now (c .entry)) (now (x .entry))) (sideOf side) left component feature r ⌝ }
 {
     if left == 0 {
         return Step::Done;
@@ -209,7 +211,7 @@ fn contains(p: [u32; 41], len: usize, v: u32) -> bool
     false
 }
 
-// The 41 places of a row with a source path in front.
+// The 41 places of a row's path: the first `len` connections of a source path, and zeros behind.
 fn places(s: [u32; 21], len: usize) -> [u32; 41]
     requires { ⌜ len ≤ 21 ⌝ }
     ensures { λ r. ⌜ r ≡ padded 41 (take len s) ⌝ }
@@ -247,10 +249,10 @@ fn join(s: [u32; 21], slen: usize, d: [u32; 21], dlen: usize) -> Trail
     }
 }
 
-// Writes the row of a connection from a source end to a destination end.
+// Writes the row of a connection from a source end to a destination end, behind the first `count` rows of the output.
 fn put_row(out: &mut [u32], x: &[u32], conn: u32, s: End, d: End, count: usize) -> Wrote
     requires { ⌜ (s .len ≤ 21) × (d .len ≤ 20) × (length (s .path) ≡ 21) × (length (d .path) ≡ 21) ⌝ }
-    ensures { λ r. ⌜ Written 49 (tracedBlock (tracingIn [] [] [] (now (x .entry)))) (rowAlong (tracingIn [] [] [] (now (x .entry))) conn (endOf s) (endOf d) ∷ []) (now (out .entry)) count r (now (out .exit)) ⌝ }
+    ensures { λ r. ⌜ Written 49 (tracedBlock (connectionsIn [] [] (now (x .entry)))) (rowAlong (connectionsIn [] [] (now (x .entry))) conn (endOf s) (endOf d) ∷ []) (now (out .entry)) count r (now (out .exit)) ⌝ }
 {
     if out.len() / ROW_NUMBERS <= count {
         return Wrote::Full;
@@ -278,8 +280,9 @@ fn put_row(out: &mut [u32], x: &[u32], conn: u32, s: End, d: End, count: usize) 
     Wrote::Count(count + 1)
 }
 
-// Writes the rows of all chains of at most `left` steps that go on from `here` towards the side, behind its path. Where a source chain has ended,
-// `other` is the destination's start, and at most `limit` steps are made from there; where a destination chain has, `other` is the source's end.
+// Writes the rows of all chains of at most `left` steps that go on from `here` towards the side, behind its path, and behind the first `count` rows of
+// the output. The source comes first: then `other` is where the destination starts, and where a source chain has ended, at most `limit` steps are made
+// from there. Of the destination `other` is the source's end, and where a destination chain has ended, its row is written.
 pub fn trace(
     bytes: &[u8],
     n: &[u32],
@@ -296,9 +299,9 @@ pub fn trace(
 ) -> Wrote
     requires { ⌜ (length (now c) / 6 ≤ 4096) × (length (now x) / 7 ≤ 4096) × (count ≤ length (now out) / 49) ⌝ }
     requires { ⌜ (length (here .path) ≡ 21) × (length (other .path) ≡ 21) × Fit side (here .len) left (other .len) limit ⌝ }
-    ensures { λ r. ⌜ Written 49 (tracedBlock (tracingIn (now (bytes .entry)) (now (n .entry)) (now (c .entry)) (now (x .entry))))
-        (rowsBehind (tracingIn (now (bytes .entry)) (now (n .entry)) (now (c .entry)) (now (x .entry))) (sideOf side) conn limit (endOf other) (take (here .len) (here .path))
-        (chains (tracingIn (now (bytes .entry)) (now (n .entry)) (now (c .entry)) (now (x .entry))) (sideOf side) left (here .component) (here .feature)))
+    ensures { λ r. ⌜ Written 49 (tracedBlock (wiringIn (now (bytes .entry)) (now (n .entry)) (now (c .entry)) (now (x .entry))))
+        (rowsBehind (wiringIn (now (bytes .entry)) (now (n .entry)) (now (c .entry)) (now (x .entry))) (sideOf side) conn limit (endOf other) (take (here .len) (here .path))
+        (chains (wiringIn (now (bytes .entry)) (now (n .entry)) (now (c .entry)) (now (x .entry))) (sideOf side) left (here .component) (here .feature)))
         (now (out .entry)) count r (now (out .exit)) ⌝ }
 {
     let component = here.component;

@@ -1,7 +1,9 @@
+-- `children::count_children` meets its contract. The invariant: those that were found and those from row i on are as many as all. The measure: the rows that are left. Assumes nothing.
 use Rattle.children.proofs.Scan.{children-end, children-hit, children-miss, count-hit, count-miss, count-done, found-from-start}
-use Rattle.children.specs.Found.{componentsIn, childrenFrom, foundFrom}
+use Rattle.children.specs.Found.{childrenFrom, foundFrom}
 use Rattle.children.specs.declared.Rule.{Rule}
 use Rattle.as5506.specs.Tables.{nameIn}
+use Rattle.lent.specs.Lent.{componentsIn}
 use lib.ListN.{length}
 use native.Mathlib.Omega.{arith}
 use native.Mathlib.Nat.{zero-add}
@@ -10,10 +12,6 @@ use mathlib.Core.Path.{_≡_, sym, ap, _∙_}
 use Prim.Native.Nat.{_-_, _≤_, _+_}
 use Rattle.children.proofs.count_children.Statement.{statement}
 use Rattle.children.proofs.count_children.Tie as tie
-use Rattle.children.proofs.count_children.Reads as reads
-use Rattle.children.proofs.count_children.Lts as lts
-use Rattle.children.proofs.is_found.Reads as is-found-reads
-use Rattle.children.proofs.rule_for.Reads as rule-for-reads
 
 abbrev Inv-loop : tie.InvT-loop
 Inv-loop bytes n c owner wanted rule rows i₀ found₀ i found =

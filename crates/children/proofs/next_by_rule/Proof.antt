@@ -1,14 +1,13 @@
+-- `children::next_by_rule` meets its contract. The invariant: the children from row `from` on are those from row i on. The measure: the rows that are left. Assumes nothing.
 use Rattle.children.proofs.Scan.{children-end, children-hit, children-miss}
-use Rattle.children.specs.Found.{componentsIn, childrenFrom}
+use Rattle.children.specs.Found.{childrenFrom}
 use Rattle.as5506.specs.Tables.{nameIn}
+use Rattle.lent.specs.Lent.{componentsIn}
 use native.Mathlib.Omega.{arith}
 use mathlib.Core.Path.{_≡_, refl, sym, _∙_}
 use Prim.Native.Nat.{_-_}
 use Rattle.children.proofs.next_by_rule.Statement.{statement}
 use Rattle.children.proofs.next_by_rule.Tie as tie
-use Rattle.children.proofs.next_by_rule.Reads as reads
-use Rattle.children.proofs.next_by_rule.Lts as lts
-use Rattle.children.proofs.is_found.Reads as is-found-reads
 
 abbrev Inv-loop : tie.InvT-loop
 Inv-loop bytes n c rule owner wanted from count i₀ i =

@@ -8,7 +8,8 @@ use Rattle.as5506.specs.Tables.{Tables}
 use Rattle.as5506.specs.Names.{key}
 use Rattle.as5506.specs.GroupList.{declaredGroup}
 use Rattle.as5506.proofs.Scans.{keep-hit, keep-miss, keep-done}
-use Rattle.endpoint.specs.Ends.{declaredIn, isDeclared}
+use Rattle.lent.specs.Lent.{declaredIn}
+use Rattle.endpoint.specs.Ends.{isDeclared}
 use Rattle.endpoint.proofs.Scan.{declared-scan}
 use Rattle.endpoint.proofs.declared_group.Statement.{statement}
 use Rattle.endpoint.proofs.declared_group.Tie as tie

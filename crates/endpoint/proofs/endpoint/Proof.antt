@@ -10,8 +10,9 @@ use Rattle.as5506.specs.GroupList.{isGroupFeature, typeOf, declaredGroup, typed
 use Rattle.as5506.specs.Names.{key}
 use Rattle.resolver.proofs.Answers.{meant}
 use Rattle.resolver.specs.declared.Resolved.{Resolved}
-use Rattle.endpoint.specs.Ends.{rowOf}
-use Rattle.endpoint.proofs.Scan.{feature-same, declared-same, declared-row, at-row, no-row}
+use Rattle.resolver.specs.Found.{rowOf}
+use Rattle.resolver.proofs.Scan.{at-row, no-row}
+use Rattle.endpoint.proofs.Scan.{feature-same, declared-same, declared-row}
 use Rattle.endpoint.proofs.Steps.{type-is, no-feature, no-type, not-declared, by-classifier}
 use Rattle.endpoint.proofs.endpoint.Statement.{statement}
 use Rattle.endpoint.proofs.endpoint.Tie as tie

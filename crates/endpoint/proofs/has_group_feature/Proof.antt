@@ -8,7 +8,8 @@ use Rattle.as5506.specs.Tables.{Tables}
 use Rattle.as5506.specs.Names.{key}
 use Rattle.as5506.specs.GroupList.{isGroupFeature}
 use Rattle.as5506.proofs.Scans.{keep-hit, keep-miss, keep-done}
-use Rattle.endpoint.specs.Ends.{featuresIn, isGroup}
+use Rattle.lent.specs.Lent.{featuresIn}
+use Rattle.endpoint.specs.Ends.{isGroup}
 use Rattle.endpoint.proofs.Scan.{some-of, feature-scan}
 use Rattle.endpoint.proofs.has_group_feature.Statement.{statement}
 use Rattle.endpoint.proofs.has_group_feature.Tie as tie

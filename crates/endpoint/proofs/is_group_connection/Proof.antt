@@ -3,7 +3,8 @@ use mathlib.Core.Path.{ap}
 use borrow.Author.Needs.{needs}
 use Rattle.as5506.specs.Tables.{present}
 use Rattle.as5506.specs.GroupList.{isGroupConnection}
-use Rattle.endpoint.proofs.Tests.{fails, holds, equal, other}
+use Rattle.resolver.proofs.Tests.{part-fails, part-holds}
+use Rattle.endpoint.proofs.Tests.{equal, other}
 use Rattle.as5506.proofs.Laws.{missing-is, present-is}
 use Rattle.endpoint.proofs.is_group_connection.Statement.{statement}
 use Rattle.endpoint.proofs.is_group_connection.Tie as tie
@@ -19,7 +20,7 @@ number-at-requires c κs = search needs
 
 returns : tie.Need-returns
 unfolding isGroupConnection
-returns c = fails _ _ (other _ _ (c .before .number-at .ensures) 2 (c .if1 .taken))
+returns c = part-fails _ _ (other _ _ (c .before .number-at .ensures) 2 (c .if1 .taken))
 
 feature-of-requires : tie.Need-feature-of-requires
 feature-of-requires c κs = search needs
@@ -27,8 +28,8 @@ feature-of-requires c κs = search needs
 returns-2 : tie.Need-returns-2
 unfolding isGroupConnection
 returns-2 c =
-    holds _ _ _ (equal _ _ (c .before .before .before .number-at .ensures) 2 (c .before .before .if1 .left))
-    (fails _ _ (missing-is _ _ (c .before .feature-of .ensures) (c .if2 .taken)))
+    part-holds _ _ _ (equal _ _ (c .before .before .before .number-at .ensures) 2 (c .before .before .if1 .left))
+    (part-fails _ _ (missing-is _ _ (c .before .feature-of .ensures) (c .if2 .taken)))
 
 feature-of-requires-2 : tie.Need-feature-of-requires-2
 feature-of-requires-2 c κs = search needs
@@ -36,8 +37,8 @@ feature-of-requires-2 c κs = search needs
 returns-3 : tie.Need-returns-3
 unfolding isGroupConnection
 returns-3 c =
-    holds _ _ _ (equal _ _ (c .before .before .before .before .number-at .ensures) 2 (c .before .before .before .if1 .left))
-    (holds _ _ _ (present-is _ _ (c .before .before .feature-of .ensures) (c .before .if2 .left)) (ap present (c .feature-of2 .ensures)))
+    part-holds _ _ _ (equal _ _ (c .before .before .before .before .number-at .ensures) 2 (c .before .before .before .if1 .left))
+    (part-holds _ _ _ (present-is _ _ (c .before .before .feature-of .ensures) (c .before .if2 .left)) (ap present (c .feature-of2 .ensures)))
 
 pub is-group-connection-spec : {M : Type 1} → statement M
 is-group-connection-spec =

@@ -2,8 +2,10 @@
 use Prim.Native.Nat.{_*_}
 use borrow.Author.Needs.{needs}
 use Rattle.as5506.specs.Groups.{featureKindGroup}
-use Rattle.endpoint.specs.Ends.{isGroup, featuresIn}
-use Rattle.endpoint.proofs.Tests.{fails, holds, equal, other, first-field, same-key}
+use Rattle.lent.specs.Lent.{featuresIn}
+use Rattle.endpoint.specs.Ends.{isGroup}
+use Rattle.resolver.proofs.Tests.{part-fails, part-holds}
+use Rattle.endpoint.proofs.Tests.{equal, other, first-field, same-key}
 use Rattle.endpoint.proofs.is_group_feature.Statement.{statement}
 use Rattle.endpoint.proofs.is_group_feature.Tie as tie
 
@@ -18,7 +20,7 @@ number-at-requires c κs = search needs
 
 returns : tie.Need-returns
 unfolding isGroup
-returns c = fails _ _ (other _ _ (c .before .number-at .ensures) _ (c .if1 .taken))
+returns c = part-fails _ _ (other _ _ (c .before .number-at .ensures) _ (c .if1 .taken))
 
 add-number-at-2 : tie.Need-add-number-at-2
 add-number-at-2 c = search needs
@@ -29,8 +31,8 @@ number-at-requires-2 c κs = search needs
 returns-2 : tie.Need-returns-2
 unfolding isGroup
 returns-2 c =
-    holds _ _ _ (equal _ _ (c .before .before .before .number-at .ensures) _ (c .before .before .if1 .left))
-    (fails _ _ (other _ _ (c .before .number-at2 .ensures) featureKindGroup (c .if2 .taken)))
+    part-holds _ _ _ (equal _ _ (c .before .before .before .number-at .ensures) _ (c .before .before .if1 .left))
+    (part-fails _ _ (other _ _ (c .before .number-at2 .ensures) featureKindGroup (c .if2 .taken)))
 
 number-at-requires-3 : tie.Need-number-at-requires-3
 number-at-requires-3 c κs = search needs
@@ -42,8 +44,8 @@ returns-3 : tie.Need-returns-3
 unfolding isGroup
 returns-3 c =
     let s = c .before .before .before .before .before .before .before .before .before .args in
-    holds _ _ _ (equal _ _ (c .before .before .before .before .before .number-at .ensures) _ (c .before .before .before .before .if1 .left))
-    (holds _ _ _ (equal _ _ (c .before .before .before .number-at2 .ensures) featureKindGroup (c .before .before .if2 .left))
+    part-holds _ _ _ (equal _ _ (c .before .before .before .before .before .number-at .ensures) _ (c .before .before .before .before .if1 .left))
+    (part-holds _ _ _ (equal _ _ (c .before .before .before .number-at2 .ensures) featureKindGroup (c .before .before .if2 .left))
     (same-key (featuresIn (s .bytes .now) (s .n .now) (s .f .now)) _ _ _ _ (first-field (s .f .now) (s .i * 3) _ (c .before .number-at3 .ensures)) (c .same-feature .ensures)))
 
 pub is-group-feature-spec : {M : Type 1} → statement M

@@ -1,6 +1,8 @@
 -- `feature_group::expand` meets its contract: tables that are refused, or the walk over the links of those that are accepted. Assumes nothing.
-use Rattle.feature_group.proofs.Answers.{accepted-is, few-types, few-features, tables-refused, expands}
-use Rattle.as5506.specs.Tables.{tablesOf}
+use Rattle.feature_group.proofs.Answers.{tables-refused, expands}
+use Rattle.as5506.specs.Tables.{tablesOf, letterU, letterE}
+use Rattle.tables.proofs.Answers.{accepted-is}
+use Rattle.tables.proofs.Facts.{facts}
 use borrow.Author.Needs.{needs}
 use Rattle.feature_group.proofs.expand.Statement.{statement}
 use Rattle.feature_group.proofs.expand.Tie as tie
@@ -21,7 +23,7 @@ returns : tie.Need-returns
 returns c =
     let a = c .before .before .before .before .before .before .before .before .before .before .before .before .before .before .before .before .before .args in
     let m = tablesOf (a .bytes .now) (a .n .now) (a .c .now) (a .f .now) (a .x .now) (a .p .now) (a .i .now) (a .t .now) (a .q .now) (a .u .now) (a .e .now) (a .r .now) in
-    tables-refused m (a .from) (a .type-name) (a .turned) (a .out .now) _ _ (c .before .before .before .check-tables .ensures) (c .before .reason .given .1) _
+    tables-refused m (a .from) (a .type-name) (a .inverse) (a .out .now) _ _ (c .before .before .before .check-tables .ensures) (c .before .reason .given .1) _
 
 enum-told : tie.Need-enum-told
 enum-told c = search needs
@@ -40,13 +42,15 @@ link-groups-requires c κs =
     let a = c .before .before .before .before .before .before .before .before .before .before .before .before .before .before .before .before .before .before .before .args in
     let m = tablesOf (a .bytes .now) (a .n .now) (a .c .now) (a .f .now) (a .x .now) (a .p .now) (a .i .now) (a .t .now) (a .q .now) (a .u .now) (a .e .now) (a .r .now) in
     let ok = accepted-is m _ (c .before .before .before .before .before .check-tables .ensures) (c .before .before .before .enum-told .given .1) in
-    (few-types m ok, few-features m ok, few-types m ok, few-types m ok)
+    let few = facts m ok .few in
+    (few letterU, few letterE, few letterU, few letterU)
 
 link-requires : tie.Need-link-requires
 link-requires c κs =
     let a = c .before .before .before .before .before .before .before .before .before .before .before .before .before .before .before .before .before .before .before .before .before .before .before .args in
     let m = tablesOf (a .bytes .now) (a .n .now) (a .c .now) (a .f .now) (a .x .now) (a .p .now) (a .i .now) (a .t .now) (a .q .now) (a .u .now) (a .e .now) (a .r .now) in
-    few-types m (accepted-is m _ (c .before .before .before .before .before .before .before .before .before .check-tables .ensures) (c .before .before .before .before .before .before .before .enum-told .given .1))
+    let ok = accepted-is m _ (c .before .before .before .before .before .before .before .before .before .check-tables .ensures) (c .before .before .before .before .before .before .before .enum-told .given .1) in
+    facts m ok .few letterU
 
 slice-aggregate-write-features : tie.Need-slice-aggregate-write-features
 slice-aggregate-write-features c = search needs
@@ -68,7 +72,7 @@ returns-2 c =
     let a = c .before .before .before .before .before .before .before .before .before .before .before .before .before .before .before .before .before .before .before .before .before .before .before .before .before .before .before .before .before .before .before .args in
     let m = tablesOf (a .bytes .now) (a .n .now) (a .c .now) (a .f .now) (a .x .now) (a .p .now) (a .i .now) (a .t .now) (a .q .now) (a .u .now) (a .e .now) (a .r .now) in
     let ok = accepted-is m _ (c .before .before .before .before .before .before .before .before .before .before .before .before .before .before .before .before .before .check-tables .ensures) (c .before .before .before .before .before .before .before .before .before .before .before .before .before .before .before .enum-told .given .1) in
-    expands m (a .from) (a .type-name) (a .turned) (a .out .now) ok _ _ _ (c .before .before .before .before .before .before .before .before .before .before .before .link-groups .ensures (a .c .now) (a .f .now) (a .x .now)) _ (c .before .before .before .before .before .before .before .link .ensures (a .c .now) (a .f .now) (a .x .now) (a .e .now)) _ _ (c .before .before .write-features .ensures)
+    expands m (a .from) (a .type-name) (a .inverse) (a .out .now) ok _ _ _ (c .before .before .before .before .before .before .before .before .before .before .before .link-groups .ensures (a .c .now) (a .f .now) (a .x .now)) _ (c .before .before .before .before .before .before .before .link .ensures (a .c .now) (a .f .now) (a .x .now) (a .e .now)) _ _ (c .before .before .write-features .ensures)
 
 pub expand-spec : {M : Type 1} → statement M
 expand-spec =

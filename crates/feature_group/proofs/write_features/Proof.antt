@@ -9,7 +9,7 @@ use Rattle.feature_group.proofs.write_features.Statement.{statement}
 use Rattle.feature_group.proofs.write_features.Tie as tie
 use Rattle.feature_group.proofs.write_features.Reads as reads
 use Rattle.feature_group.proofs.write_features.Lts as lts
-use Rattle.feature_group.proofs.refused.Reads as refused-reads
+use Rattle.as5506.proofs.unplaced.Reads as unplaced-reads
 use Rattle.group_walk.proofs.visit.Reads as visit-reads
 
 slice-aggregate-visit : tie.Need-slice-aggregate-visit
@@ -30,14 +30,14 @@ visit-requires c κs = ((ready-all _ _ _ _, refl, omega arith), passable-zeros _
 enum-told : tie.Need-enum-told
 enum-told c = search needs
 
-refused-requires : tie.Need-refused-requires
-refused-requires c κs = search needs
+unplaced-requires : tie.Need-unplaced-requires
+unplaced-requires c κs = search needs
 
 enum-known-tally : tie.Need-enum-known-tally
 enum-known-tally c = search needs
 
-refused-requires-2 : tie.Need-refused-requires-2
-refused-requires-2 c κs = search needs
+unplaced-requires-2 : tie.Need-unplaced-requires-2
+unplaced-requires-2 c κs = search needs
 
 same-length : tie.Need-same-length
 same-length c = search needs
@@ -47,7 +47,7 @@ returns c =
     let a = c .before .before .before .before .before .before .before .before .before .before .before .before .before .before .before .before .before .before .before .before .before .before .before .before .args in
     let w = c .before .before .before .before .before .before .before .before .before .before .before .visit in
     let d = c .before .before .before .before .tally .given in
-    writes-11 (groupsIn (a .e .now) (a .nested .now) (a .extends .now) (a .inverse .now)) (a .to) (a .turned) _ _ _ _ (a .out .now) _ _ _ _ (w .result) _ (w .ensures .0) refl (d .0 .0) (d .0 .1 .0) (d .1) (c .before .if1 .taken) _ (c .refused2 .ensures) _
+    writes-11 (groupsIn (a .e .now) (a .nested .now) (a .extends .now) (a .inverses .now)) (a .to) (a .inverse) _ _ _ _ (a .out .now) _ _ _ _ (w .result) _ (w .ensures .0) refl (d .0 .0) (d .0 .1 .0) (d .1) (c .before .if1 .taken) _ (c .unplaced2 .ensures) _
 
 same-length-2 : tie.Need-same-length-2
 same-length-2 c = search needs
@@ -56,7 +56,7 @@ returns-2 : tie.Need-returns-2
 returns-2 c =
     let a = c .before .before .before .before .before .before .before .before .before .before .before .before .before .before .before .before .before .before .before .before .before .args in
     let w = c .before .before .before .before .before .before .before .before .visit in
-    writes-13 (groupsIn (a .e .now) (a .nested .now) (a .extends .now) (a .inverse .now)) (a .to) (a .turned) _ _ _ _ (a .out .now) _ _ _ _ (w .result) _ (w .ensures .0) refl (c .before .enum-told .given .1) _ (c .refused .ensures) _
+    writes-13 (groupsIn (a .e .now) (a .nested .now) (a .extends .now) (a .inverses .now)) (a .to) (a .inverse) _ _ _ _ (a .out .now) _ _ _ _ (w .result) _ (w .ensures .0) refl (c .before .enum-told .given .1) _ (c .unplaced .ensures) _
 
 same-length-3 : tie.Need-same-length-3
 same-length-3 c = search needs
@@ -66,7 +66,7 @@ returns-3 c =
     let a = c .before .before .before .before .before .before .before .before .before .before .before .before .before .before .before .before .before .before .before .before .before .before .before .before .args in
     let w = c .before .before .before .before .before .before .before .before .before .before .before .visit in
     let d = c .before .before .before .before .tally .given in
-    writes-all (groupsIn (a .e .now) (a .nested .now) (a .extends .now) (a .inverse .now)) (a .to) (a .turned) _ _ _ _ (a .out .now) _ _ _ _ (w .result) _ (w .ensures .0) refl (d .0 .0) (d .0 .1 .0) (d .1) (c .before .if1 .left)
+    writes-all (groupsIn (a .e .now) (a .nested .now) (a .extends .now) (a .inverses .now)) (a .to) (a .inverse) _ _ _ _ (a .out .now) _ _ _ _ (w .result) _ (w .ensures .0) refl (d .0 .0) (d .0 .1 .0) (d .1) (c .before .if1 .left)
 
 pub write-features-spec : {M : Type 1} → statement M
 write-features-spec =
@@ -78,9 +78,9 @@ write-features-spec =
     slice-aggregate-visit-4
     visit-requires
     enum-told
-    refused-requires
+    unplaced-requires
     enum-known-tally
-    refused-requires-2
+    unplaced-requires-2
     same-length
     returns
     same-length-2

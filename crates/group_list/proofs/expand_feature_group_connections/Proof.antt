@@ -1,7 +1,8 @@
 -- `group_list::expand_feature_group_connections` meets its contract. Each way out is a law of proofs/Answers.antt. Assumes nothing.
 use mathlib.Core.Path.{_∙_}
-use Rattle.group_list.proofs.Answers.{accepted-is, tables-refused, given-call, refused-call}
 use Rattle.as5506.specs.Tables.{tablesOf}
+use Rattle.tables.proofs.Answers.{accepted-is}
+use Rattle.group_list.proofs.Answers.{tables-refused, given-call, refused-call}
 use borrow.Author.Needs.{needs}
 use Rattle.group_list.proofs.expand_feature_group_connections.Statement.{statement}
 use Rattle.group_list.proofs.expand_feature_group_connections.Tie as tie
@@ -61,7 +62,7 @@ returns-2 : tie.Need-returns-2
 returns-2 c =
     let a = c .before .before .before .before .before .before .before .before .before .before .before .before .before .before .before .before .before .before .before .before .before .before .before .before .before .before .before .before .before .before .before .before .before .before .before .before .before .before .before .before .args in
     let m = tablesOf (a .bytes .now) (a .n .now) (a .c .now) (a .f .now) (a .x .now) (a .p .now) (a .i .now) (a .t .now) (a .q .now) (a .u .now) (a .e .now) (a .r .now) in
-    given-call m (a .rows .now) (a .names .now) (a .diagnostics .now) _ _ _ (c .before .before .before .before .before .before .before .before .before .before .before .before .before .before .before .before .before .before .before .before .before .clear .ensures .0) (c .before .before .before .before .before .before .before .before .before .before .before .before .before .before .before .before .before .before .before .before .before .clear .ensures .1 .0) (c .before .before .before .before .before .before .before .before .before .before .before .before .before .before .before .before .before .before .before .before .before .clear .ensures .1 .1) (accepted-is m _ (c .before .before .before .before .before .before .before .before .before .before .before .before .before .before .check-tables .ensures) (c .before .before .before .before .before .before .before .before .before .before .before .before .enum-told .given .1)) _ (c .before .before .before .before .before .before .before .before .list-accepted .ensures .0) _ _ _ _ _ (c .enum-told2 .given .1) (c .before .before .before .before .before .before .before .before .list-accepted .ensures .1)
+    given-call m (a .rows .now) (a .names .now) (a .diagnostics .now) _ _ _ (c .before .before .before .before .before .before .before .before .before .before .before .before .before .before .before .before .before .before .before .before .before .clear .ensures .0) (c .before .before .before .before .before .before .before .before .before .before .before .before .before .before .before .before .before .before .before .before .before .clear .ensures .1 .0) (c .before .before .before .before .before .before .before .before .before .before .before .before .before .before .before .before .before .before .before .before .before .clear .ensures .1 .1) (accepted-is m _ (c .before .before .before .before .before .before .before .before .before .before .before .before .before .before .check-tables .ensures) (c .before .before .before .before .before .before .before .before .before .before .before .before .enum-told .given .1)) _ (c .before .before .before .before .before .before .before .before .list-accepted .ensures .0) _ _ _ _ _ (c .enum-told2 .given .1) (c .before .before .before .before .before .before .before .before .list-accepted .ensures .1 .0) (c .before .before .before .before .before .before .before .before .list-accepted .ensures .1 .1 .0) (c .before .before .before .before .before .before .before .before .list-accepted .ensures .1 .1 .1)
 
 same-length-7 : tie.Need-same-length-7
 same-length-7 c = c .before .before .before .before .before .before .clear2 .kept .0 ∙ c .before .before .before .before .before .before .before .before .before .before .before .before .before .before .before .before .before .before .list-accepted .kept .1 .1 .1 .1 .1 .1 .1 .1 .1 .1 .1 .1 .0 ∙ c .before .before .before .before .before .before .before .before .before .before .before .before .before .before .before .before .before .before .before .before .before .before .before .before .before .before .before .before .before .before .before .clear .kept .0

@@ -1,3 +1,4 @@
+-- `group_match::group_link` meets its contract: the link of the group that an end asks for, or of none. Assumes nothing.
 use Rattle.group_match.proofs.Groups.{link-none, link-some}
 use borrow.Author.Needs.{needs}
 use Rattle.group_match.proofs.group_link.Statement.{statement}

@@ -1,9 +1,11 @@
+-- `group_match::match_connection` meets its contract. One law of Connections for each return. Assumes nothing.
 use mathlib.Core.Path.{_∙_}
 use native.Mathlib.Omega.{arith}
-use Rattle.as5506.specs.Tables.{Tables, tablesOf, source, destination}
+use Rattle.as5506.specs.Tables.{Tables, tablesOf, letterU, source, destination}
+use Rattle.tables.proofs.Facts.{facts}
 use Rattle.children.specs.declared.Child.the-variants.{At, Nothing}
 use Rattle.group_match.specs.Matching.{listsOf}
-use Rattle.group_match.proofs.Connections.{end-means, end-below, row-below, few-types, row-other, row-sourceless, row-destinationless, row-matched}
+use Rattle.group_match.proofs.Connections.{end-means, end-below, row-below, row-other, row-sourceless, row-destinationless, row-matched}
 use borrow.Author.Needs.{needs}
 use Rattle.group_match.proofs.match_connection.Statement.{statement}
 use Rattle.group_match.proofs.match_connection.Tie as tie
@@ -86,13 +88,13 @@ feature-of-requires : tie.Need-feature-of-requires
 feature-of-requires c κs = c .before .before .before .before .before .before .before .before .before .before .before .before .before .before .before .before .before .before .before .before .before .before .before .before .before .before .before .before .before .before .pre .1 .1 .1
 
 group-link-requires : tie.Need-group-link-requires
-group-link-requires c κs = let s = c .before .before .before .before .before .before .before .before .before .before .before .before .before .before .before .before .before .before .before .before .before .before .before .before .before .before .before .before .before .before .before in few-types (model s) (s .pre .0)
+group-link-requires c κs = let s = c .before .before .before .before .before .before .before .before .before .before .before .before .before .before .before .before .before .before .before .before .before .before .before .before .before .before .before .before .before .before .before in facts (model s) (s .pre .0) .few letterU
 
 feature-of-requires-2 : tie.Need-feature-of-requires-2
 feature-of-requires-2 c κs = c .before .before .before .before .before .before .before .before .before .before .before .before .before .before .before .before .before .before .before .before .before .before .before .before .before .before .before .before .before .before .before .before .pre .1 .1 .1
 
 group-link-requires-2 : tie.Need-group-link-requires-2
-group-link-requires-2 c κs = let s = c .before .before .before .before .before .before .before .before .before .before .before .before .before .before .before .before .before .before .before .before .before .before .before .before .before .before .before .before .before .before .before .before .before in few-types (model s) (s .pre .0)
+group-link-requires-2 c κs = let s = c .before .before .before .before .before .before .before .before .before .before .before .before .before .before .before .before .before .before .before .before .before .before .before .before .before .before .before .before .before .before .before .before .before in facts (model s) (s .pre .0) .few letterU
 
 cast-match-groups : tie.Need-cast-match-groups
 cast-match-groups c = let s = c .before .before .before .before .before .before .before .before .before .before .before .before .before .before .before .before .before .before .before .before .before .before .before .before .before .before .before .before .before .before .before .before .before .before .before .before .before .before .before in omega (arith, row-below (model s) (s .pre .0) (s .args .row) (s .pre .1 .1 .1))

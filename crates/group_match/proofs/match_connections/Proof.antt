@@ -1,3 +1,4 @@
+-- `group_match::match_connections` meets its contract. The invariant: the connections that are left, from the outputs that are there, give what all give. The measure: the X rows that are left. Assumes nothing.
 use mathlib.Core.Path.{_≡_, refl, _∙_}
 use Prim.Native.Nat.{_-_}
 use native.Mathlib.Omega.{arith}

@@ -1,3 +1,4 @@
+-- `group_match::match_groups` meets its contract: the destination has too many visits, there is no source, or it is walked after the destination. Assumes nothing.
 use mathlib.Core.Path.{_∙_}
 use lib.ListN.{length}
 use Rattle.group_match.specs.Matching.{listsOf}

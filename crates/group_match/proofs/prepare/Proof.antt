@@ -1,3 +1,4 @@
+-- `group_match::prepare` meets its contract: there is no destination, or the first appearances of its names are kept. Assumes nothing.
 use mathlib.Core.Path.{refl}
 use native.Mathlib.Omega.{arith}
 use Rattle.group_match.proofs.Groups.{ready-first, prepares-none, prepares-over, prepares-done}

@@ -1,3 +1,4 @@
+-- `group_match::walk` meets its contract: what a walk starts with is zeros. Assumes nothing.
 use mathlib.Core.Path.{refl, _∙_}
 use native.Mathlib.Omega.{arith}
 use lib.ListN.{length}

@@ -5,10 +5,11 @@ use Prim.Native.Nat.{_-_, _≤_}
 use native.Mathlib.Omega.{arith}
 use borrow.Author.Needs.{needs}
 use lib.ListN.{length}
-use Rattle.group_names.specs.Compose.{connectionsIn, Pair, Holds}
+use Rattle.group_names.specs.Compose.{Pair, Holds}
 use Rattle.group_names.proofs.Composing.{Left, left-start, left-turn, left-full, left-end}
 use Rattle.group_names.proofs.compose_names.Statement.{statement}
 use Rattle.group_names.proofs.compose_names.Tie as tie
+use Rattle.lent.specs.Lent.{connectionsIn}
 
 abbrev Inv-loop : tie.InvT-loop
 Inv-loop bytes n x rows₀ count names₀ used₀ i₀ rows names used i =

@@ -7,8 +7,9 @@ use borrow.Author.Needs.{needs}
 use lib.ListN.{length, drop}
 use Rattle.as5506.specs.Tables.{Tables}
 use Rattle.lent.specs.Append.{filled, appendAll}
+use Rattle.lent.specs.Lent.{connectionsIn}
 use Rattle.group_names.specs.Pieces.{ownPieces, sourcePieces, partnerPieces, pairPieces, pairBack}
-use Rattle.group_names.specs.Compose.{connectionsIn, Pair}
+use Rattle.group_names.specs.Compose.{Pair}
 use Rattle.group_names.proofs.Composing.{own-is, source-is, partner-is, Ends, named, named-ends, row-named, own-short, source-short, partner-short}
 use Rattle.group_names.proofs.compose_row.Statement.{statement}
 use Rattle.group_names.proofs.compose_row.Tie as tie

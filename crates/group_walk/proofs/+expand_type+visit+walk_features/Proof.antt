@@ -11,7 +11,7 @@ use lib.ListN.{length, length-set, take, set, getD}
 use Rattle.as5506.specs.Groups.{Feature, Expansion}
 use Rattle.as5506.specs.Tables.{missing, eName}
 use Rattle.links.specs.Links.{unfound}
-use Rattle.links.specs.Walk.{Groups, groupsIn, declaredIn, Visit, featureAt, walk, rowsIn, visitLink}
+use Rattle.links.specs.Walk.{Groups, groupsIn, Visit, featureAt, walk, rowsIn, visitLink}
 use Rattle.sink.specs.declared.Tally.{Tally}
 use Rattle.sink.specs.Take.{Held, held, taken, Ready}
 use Rattle.sink.specs.Dull.{Dull}
@@ -37,6 +37,7 @@ use Rattle.group_walk.proofs.belongs.Reads as belongs-reads
 use Rattle.group_walk.proofs.turn.Reads as turn-reads
 use Rattle.lent.proofs.number_at.Reads as number-at-reads
 use Rattle.lent.proofs.put_number.Reads as put-number-reads
+use Rattle.lent.specs.Lent.{declaredIn}
 use Rattle.sink.proofs.take_feature.Reads as take-feature-reads
 use Rattle.group_walk.proofs.+expand_type+visit+walk_features.{statement}
 use Rattle.group_walk.proofs.+expand_type+visit+walk_features.Tie.{close}
@@ -527,10 +528,10 @@ module _ (t : ℕ) (c : walk-features-lts.After-belongs (walk-claims t) (walk-fe
           subst (λ (h : Held). Passable groups-here dulls-here h (at-row .loop .calm)) (sym d)
           (passable-stays does dulls-here (passing (top .args .purpose) (top .args .bytes .now) (top .args .n .now) (top .args .kept .now)) groups-here f carried (at-row .loop .calm) (at-row .loop .inv .8))
 
-    module _ (m : to ≡ missing → ⊥) (name : ℕ) (is : name ≡ eName (declaredIn (top .args .e .now)) row) (r : Walked) (memo out notes calm : List ℕ)
+    module _ (m : to ≡ missing → ⊥) (name : ℕ) (is : name ≡ eName (declaredIn [] [] (top .args .e .now)) row) (r : Walked) (memo out notes calm : List ℕ)
         (e : (stateOf r memo out notes ≡ run does (going carried (at-row .loop .seen)) (deeper to (top .args .turned) (take (top .args .len + 1) (set (top .args .prefix) (top .args .len) name))))
         × CalmAfter r groups-here dulls-here memo out notes calm) where
-      longer : take (top .args .len + 1) (set (top .args .prefix) (top .args .len) name) ≡ names-here ++ eName (declaredIn (top .args .e .now)) row ∷ []
+      longer : take (top .args .len + 1) (set (top .args .prefix) (top .args .len) name) ≡ names-here ++ eName (declaredIn [] [] (top .args .e .now)) row ∷ []
       longer = prefix-more (top .args .prefix) (top .args .len) name (omega (arith, top .pre .1 .0 .1, top .pre .1 .0 .2)) ∙ ap (λ (x : ℕ). names-here ++ x ∷ []) is
 
       stopped : r ≡ Over → over ≡ here

@@ -1,12 +1,9 @@
+-- `instance::compute_semantic_connections` meets its contract: what it gives stands in outputs that were zeros, and after a refusal they are cleared. Assumes nothing.
 use Rattle.instance.proofs.Answers.{given-call, refused-call}
 use Rattle.as5506.specs.Tables.{tablesOf}
 use borrow.Author.Needs.{needs}
 use Rattle.instance.proofs.compute_semantic_connections.Statement.{statement}
 use Rattle.instance.proofs.compute_semantic_connections.Tie as tie
-use Rattle.instance.proofs.compute_semantic_connections.Reads as reads
-use Rattle.instance.proofs.compute_semantic_connections.Lts as lts
-use Rattle.instance.proofs.list.Reads as list-reads
-use Rattle.lent.proofs.clear_numbers.Reads as clear-numbers-reads
 
 clear-numbers-requires : tie.Need-clear-numbers-requires
 clear-numbers-requires c κs = search needs
@@ -39,8 +36,7 @@ returns : tie.Need-returns
 returns c =
     let a = c .before .before .before .before .before .before .before .before .before .before .before .before .before .before .before .before .before .before .before .before .before .before .before .before .before .before .before .before .before .before .before .args in
     let m = tablesOf (a .bytes .now) (a .n .now) (a .c .now) (a .f .now) (a .x .now) (a .p .now) (a .i .now) (a .t .now) (a .q .now) (a .u .now) (a .e .now) (a .r .now) in
-    given-call m (a .rows .now) (a .diagnostics .now) _ _ _ _ _ (c .before .before .before .before .before .before .before .before .before .before .before .before .before .before .before .clear-numbers .ensures) (c .before .before .before .before .before .before .before .before .before .before .before .clear-numbers2 .ensures)
-    (c .before .before .before .before .before .before .list .ensures .0) _ _ (c .enum-told .given .1) (c .before .before .before .before .before .before .list .ensures .1)
+    given-call m (a .rows .now) (a .diagnostics .now) _ _ (c .before .before .before .before .before .before .before .before .before .before .before .before .before .before .before .clear-numbers .ensures) (c .before .before .before .before .before .before .before .before .before .before .before .clear-numbers2 .ensures) _ (c .before .before .before .before .before .before .list .last .1 .1 .1 .1 .1 .1 .1 .1 .1 .1 .1 .1 .0) (c .before .before .before .before .before .before .list .last .1 .1 .1 .1 .1 .1 .1 .1 .1 .1 .1 .1 .1 .0) (c .before .before .before .before .before .before .list .ensures) _ _ (c .enum-told .given .1)
 
 same-length-3 : tie.Need-same-length-3
 same-length-3 c = search needs
@@ -52,9 +48,8 @@ returns-2 : tie.Need-returns-2
 returns-2 c =
     let a = c .before .before .before .before .before .before .before .before .before .before .before .before .before .before .before .before .before .before .before .before .before .before .before .before .before .before .before .before .before .before .before .before .before .before .before .before .before .before .before .args in
     let m = tablesOf (a .bytes .now) (a .n .now) (a .c .now) (a .f .now) (a .x .now) (a .p .now) (a .i .now) (a .t .now) (a .q .now) (a .u .now) (a .e .now) (a .r .now) in
-    refused-call m (a .rows .now) (a .diagnostics .now) _ _ (c .before .before .before .before .before .before .before .before .before .before .before .before .before .before .list .last .1 .1 .1 .1 .1 .1 .1 .1 .1 .1 .1 .1 .0) (c .before .before .before .before .before .before .before .before .before .before .before .before .before .before .list .last .1 .1 .1 .1 .1 .1 .1 .1 .1 .1 .1 .1 .1 .0) _ (c .before .before .before .before .before .before .before .before .before .before .before .before .before .before .before .before .before .before .before .before .before .before .before .clear-numbers .ensures) (c .before .before .before .before .before .before .before .before .before .before .before .before .before .before .before .before .before .before .before .clear-numbers2 .ensures)
-    (c .before .before .before .before .before .before .before .before .before .before .before .before .before .before .list .ensures .0) _ (c .before .before .before .before .before .before .before .before .enum-told2 .given .1) (c .before .before .before .before .before .before .before .before .before .before .before .before .before .before .list .kept .1 .1 .1 .1 .1 .1 .1 .1 .1 .1 .1 .1 .0) (c .before .before .before .before .before .before .before .before .before .before .before .before .before .before .list .kept .1 .1 .1 .1 .1 .1 .1 .1 .1 .1 .1 .1 .1 .0)
-    _ _ (c .before .before .before .before .before .before .clear-numbers3 .ensures) (c .before .before .clear-numbers4 .ensures)
+    refused-call m (a .rows .now) (a .diagnostics .now) _ _ (c .before .before .before .before .before .before .before .before .before .before .before .before .before .before .before .before .before .before .before .before .before .before .before .clear-numbers .ensures) (c .before .before .before .before .before .before .before .before .before .before .before .before .before .before .before .before .before .before .before .clear-numbers2 .ensures) _ (c .before .before .before .before .before .before .before .before .before .before .before .before .before .before .list .last .1 .1 .1 .1 .1 .1 .1 .1 .1 .1 .1 .1 .0) (c .before .before .before .before .before .before .before .before .before .before .before .before .before .before .list .last .1 .1 .1 .1 .1 .1 .1 .1 .1 .1 .1 .1 .1 .0) (c .before .before .before .before .before .before .before .before .before .before .before .before .before .before .list .ensures)
+    _ (c .before .before .before .before .before .before .before .before .enum-told2 .given .1) (c .before .before .before .before .before .before .before .before .before .before .before .before .before .before .list .kept .1 .1 .1 .1 .1 .1 .1 .1 .1 .1 .1 .1 .0) (c .before .before .before .before .before .before .before .before .before .before .before .before .before .before .list .kept .1 .1 .1 .1 .1 .1 .1 .1 .1 .1 .1 .1 .1 .0) _ _ (c .before .before .before .before .before .before .clear-numbers3 .ensures) (c .before .before .clear-numbers4 .ensures)
 
 pub compute-semantic-connections-spec : {M : Type 1} → statement M
 compute-semantic-connections-spec =

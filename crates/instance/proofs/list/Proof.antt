@@ -1,14 +1,11 @@
-use Rattle.instance.proofs.Answers.{accepted-is, few-components, few-connections, tables-refused, lists-11, lists-12, lists-both}
-use Rattle.as5506.specs.Tables.{tablesOf}
+-- `instance::list` meets its contract. Each way out is a law of proofs/Answers.antt. Assumes nothing.
+use Rattle.instance.proofs.Answers.{tables-refused, lists-11, lists-12, lists-both}
+use Rattle.tables.proofs.Answers.{accepted-is}
+use Rattle.tables.proofs.Facts.{facts}
+use Rattle.as5506.specs.Tables.{tablesOf, letterC, letterX}
 use borrow.Author.Needs.{needs}
 use Rattle.instance.proofs.list.Statement.{statement}
 use Rattle.instance.proofs.list.Tie as tie
-use Rattle.instance.proofs.list.Reads as reads
-use Rattle.instance.proofs.list.Lts as lts
-use Rattle.instance.proofs.refused.Reads as refused-reads
-use Rattle.semantic.proofs.diagnose_connections.Reads as diagnose-connections-reads
-use Rattle.semantic.proofs.trace_connections.Reads as trace-connections-reads
-use Rattle.tables.proofs.check_tables.Reads as check-tables-reads
 
 check-tables-requires : tie.Need-check-tables-requires
 check-tables-requires c κs = search needs
@@ -20,8 +17,7 @@ returns : tie.Need-returns
 returns c =
     let a = c .before .before .before .before .before .before .before .before .before .before .before .before .before .before .before .before .before .before .args in
     let m = tablesOf (a .bytes .now) (a .n .now) (a .c .now) (a .f .now) (a .x .now) (a .p .now) (a .i .now) (a .t .now) (a .q .now) (a .u .now) (a .e .now) (a .r .now) in
-    let t = tables-refused _ m _ _ (c .before .before .before .check-tables .ensures) (c .before .reason .given .1) in
-    (t .0, t .1 _ _ _ _)
+    tables-refused m (a .rows .now) (a .diagnostics .now) _ (c .before .before .before .check-tables .ensures) _ (c .before .reason .given .1) _ _
 
 enum-told : tie.Need-enum-told
 enum-told c = search needs
@@ -31,7 +27,7 @@ trace-connections-requires c κs =
     let a = c .before .before .before .before .before .before .before .before .before .before .before .before .before .before .before .before .before .before .args in
     let m = tablesOf (a .bytes .now) (a .n .now) (a .c .now) (a .f .now) (a .x .now) (a .p .now) (a .i .now) (a .t .now) (a .q .now) (a .u .now) (a .e .now) (a .r .now) in
     let ok = accepted-is m _ (c .before .before .before .check-tables .ensures) (c .before .enum-told .given .1) in
-    (few-components m ok, few-connections m ok)
+    (facts m ok .few letterC, facts m ok .few letterX)
 
 enum-known-k : tie.Need-enum-known-k
 enum-known-k c = search needs
@@ -39,8 +35,8 @@ enum-known-k c = search needs
 enum-told-2 : tie.Need-enum-told-2
 enum-told-2 c = search needs
 
-refused-requires : tie.Need-refused-requires
-refused-requires c κs = search needs
+unplaced-requires : tie.Need-unplaced-requires
+unplaced-requires c κs = search needs
 
 same-length : tie.Need-same-length
 same-length c = search needs
@@ -50,14 +46,14 @@ returns-2 c =
     let a = c .before .before .before .before .before .before .before .before .before .before .before .before .before .before .before .before .before .before .before .before .before .before .before .before .args in
     let m = tablesOf (a .bytes .now) (a .n .now) (a .c .now) (a .f .now) (a .x .now) (a .p .now) (a .i .now) (a .t .now) (a .q .now) (a .u .now) (a .e .now) (a .r .now) in
     let ok = accepted-is m _ (c .before .before .before .before .before .before .before .before .before .check-tables .ensures) (c .before .before .before .before .before .before .before .enum-told .given .1) in
-    lists-11 m ok (a .rows .now) (a .diagnostics .now) _ _ _ (c .before .before .before .before .before .trace-connections .ensures) (c .before .enum-told2 .given .1) (c .refused .ensures) _ _
+    lists-11 m (a .rows .now) (a .diagnostics .now) ok _ _ (c .before .before .before .before .before .trace-connections .ensures) (c .before .enum-told2 .given .1) _ (c .unplaced .ensures) _ _
 
 diagnose-connections-requires : tie.Need-diagnose-connections-requires
 diagnose-connections-requires c κs =
     let a = c .before .before .before .before .before .before .before .before .before .before .before .before .before .before .before .before .before .before .before .before .before .before .before .before .before .args in
     let m = tablesOf (a .bytes .now) (a .n .now) (a .c .now) (a .f .now) (a .x .now) (a .p .now) (a .i .now) (a .t .now) (a .q .now) (a .u .now) (a .e .now) (a .r .now) in
     let ok = accepted-is m _ (c .before .before .before .before .before .before .before .before .before .before .check-tables .ensures) (c .before .before .before .before .before .before .before .before .enum-told .given .1) in
-    (few-components m ok, few-connections m ok)
+    (facts m ok .few letterC, facts m ok .few letterX)
 
 enum-known-d : tie.Need-enum-known-d
 enum-known-d c = search needs
@@ -65,8 +61,8 @@ enum-known-d c = search needs
 enum-told-3 : tie.Need-enum-told-3
 enum-told-3 c = search needs
 
-refused-requires-2 : tie.Need-refused-requires-2
-refused-requires-2 c κs = search needs
+unplaced-requires-2 : tie.Need-unplaced-requires-2
+unplaced-requires-2 c κs = search needs
 
 same-length-2 : tie.Need-same-length-2
 same-length-2 c = search needs
@@ -79,8 +75,8 @@ returns-3 c =
     let a = c .before .before .before .before .before .before .before .before .before .before .before .before .before .before .before .before .before .before .before .before .before .before .before .before .before .before .before .before .before .before .before .args in
     let m = tablesOf (a .bytes .now) (a .n .now) (a .c .now) (a .f .now) (a .x .now) (a .p .now) (a .i .now) (a .t .now) (a .q .now) (a .u .now) (a .e .now) (a .r .now) in
     let ok = accepted-is m _ (c .before .before .before .before .before .before .before .before .before .before .before .before .before .before .before .before .check-tables .ensures) (c .before .before .before .before .before .before .before .before .before .before .before .before .before .before .enum-told .given .1) in
-    lists-12 m ok (a .rows .now) (a .diagnostics .now) _ _ _ (c .before .before .before .before .before .before .before .before .before .before .before .before .trace-connections .ensures) (c .before .before .before .before .before .before .before .before .k .given .1)
-    _ _ _ (c .before .before .before .before .before .diagnose-connections .ensures) (c .before .enum-told3 .given .1) (c .refused2 .ensures) _ _
+    lists-12 m (a .rows .now) (a .diagnostics .now) ok _ _ (c .before .before .before .before .before .before .before .before .before .before .before .before .trace-connections .ensures) _ (c .before .before .before .before .before .before .before .before .k .given .1)
+    _ _ (c .before .before .before .before .before .diagnose-connections .ensures) (c .before .enum-told3 .given .1) _ (c .unplaced2 .ensures) _ _
 
 same-length-4 : tie.Need-same-length-4
 same-length-4 c = search needs
@@ -93,8 +89,8 @@ returns-4 c =
     let a = c .before .before .before .before .before .before .before .before .before .before .before .before .before .before .before .before .before .before .before .before .before .before .before .before .before .before .before .before .before .before .before .args in
     let m = tablesOf (a .bytes .now) (a .n .now) (a .c .now) (a .f .now) (a .x .now) (a .p .now) (a .i .now) (a .t .now) (a .q .now) (a .u .now) (a .e .now) (a .r .now) in
     let ok = accepted-is m _ (c .before .before .before .before .before .before .before .before .before .before .before .before .before .before .before .before .check-tables .ensures) (c .before .before .before .before .before .before .before .before .before .before .before .before .before .before .enum-told .given .1) in
-    lists-both m ok (a .rows .now) (a .diagnostics .now) _ _ _ (c .before .before .before .before .before .before .before .before .before .before .before .before .trace-connections .ensures) (c .before .before .before .before .before .before .before .before .k .given .1)
-    _ _ _ (c .before .before .before .before .before .diagnose-connections .ensures) (c .before .d .given .1)
+    lists-both m (a .rows .now) (a .diagnostics .now) ok _ _ (c .before .before .before .before .before .before .before .before .before .before .before .before .trace-connections .ensures) _ (c .before .before .before .before .before .before .before .before .k .given .1)
+    _ _ (c .before .before .before .before .before .diagnose-connections .ensures) _ (c .before .d .given .1)
 
 pub list-spec : {M : Type 1} → statement M
 list-spec =
@@ -107,13 +103,13 @@ list-spec =
     trace-connections-requires
     enum-known-k
     enum-told-2
-    refused-requires
+    unplaced-requires
     same-length
     returns-2
     diagnose-connections-requires
     enum-known-d
     enum-told-3
-    refused-requires-2
+    unplaced-requires-2
     same-length-2
     same-length-3
     returns-3

@@ -7,7 +7,7 @@ use borrow.Author.Tests.{not-true, not-false}
 use lib.ListN.{length, drop}
 use Rattle.as5506.specs.Lists.{allOf}
 use Rattle.as5506.specs.Names.{nameByte}
-use Rattle.name.proofs.Scan.{all-turn, all-stop, all-end, good-short, good-long, good-is}
+use Rattle.name.proofs.Scan.{all-turn, all-stop, all-end, good-empty, good-long, good-is}
 use Rattle.name.proofs.good_name.Statement.{statement}
 use Rattle.name.proofs.good_name.Tie as tie
 
@@ -18,7 +18,7 @@ abbrev μ-loop : tie.MeasureT-loop
 μ-loop s i₀ i = length s - i
 
 returns : tie.Need-returns Inv-loop μ-loop
-returns c = good-short (c .before .before .args .s .now) (omega arith)
+returns c = good-empty (c .before .before .args .s .now) (omega arith)
 
 returns-2 : tie.Need-returns-2 Inv-loop μ-loop
 returns-2 c = good-long (c .before .before .before .args .s .now) (omega arith) (omega arith)

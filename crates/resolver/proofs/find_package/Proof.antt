@@ -6,7 +6,8 @@ use borrow.Author.Needs.{needs}
 use Rattle.as5506.specs.Lists.{firstOf}
 use Rattle.as5506.specs.Tables.{Tables, tablesOf}
 use Rattle.resolver.specs.declared.Part.the-variants.{Name, Any}
-use Rattle.resolver.specs.Keys.{rowOf, rowsWithKey}
+use Rattle.resolver.specs.Keys.{rowsWithKey}
+use Rattle.resolver.specs.Found.{rowOf}
 use Rattle.resolver.proofs.Keys.{package-found}
 use Rattle.resolver.proofs.find_package.Statement.{statement}
 use Rattle.resolver.proofs.find_package.Tie as tie

@@ -12,10 +12,10 @@ use Rattle.as5506.specs.Lists.{firstOf}
 use Rattle.as5506.specs.Tables.{Tables, tablesOf, Ref, ref}
 use Rattle.as5506.specs.Resolve.{packageNamed, inFound, firstFound, fromImports}
 use Rattle.resolver.specs.declared.Resolved.{Resolved}
-use Rattle.resolver.specs.Found.{found}
-use Rattle.resolver.specs.Keys.{rowOf}
+use Rattle.resolver.specs.Found.{rowOf, found}
 use Rattle.resolver.proofs.Keys.{import-rows}
-use Rattle.resolver.proofs.Steps.{at-row, no-row, imported, importsFrom, imports-start, imports-end, import-row, import-hit, import-miss}
+use Rattle.resolver.proofs.Scan.{at-row, no-row}
+use Rattle.resolver.proofs.Steps.{imported, importsFrom, imports-start, imports-end, import-row, import-hit, import-miss}
 use Rattle.resolver.proofs.from_imports.Statement.{statement}
 use Rattle.resolver.proofs.from_imports.Tie as tie
 

@@ -9,7 +9,7 @@ use borrow.Author.Needs.{needs}
 use borrow.Author.Tests.{not-true, not-false}
 use Rattle.resolver.specs.Keys.{hasPart, hasKey}
 use Rattle.resolver.specs.declared.Part.{Part}
-use Rattle.resolver.proofs.Keys.{part-fails, part-holds}
+use Rattle.resolver.proofs.Tests.{part-fails, part-holds}
 use Rattle.resolver.proofs.has_key.Statement.{statement}
 use Rattle.resolver.proofs.has_key.Tie as tie
 
@@ -33,7 +33,7 @@ has-part-requires c κs = search needs
 
 returns : tie.Need-returns
 unfolding hasKey
-returns c = part-fails _ _ _ (part-1 (c .before)) (not-true _ (c .if1 .taken))
+returns c = part-fails _ _ (sym (part-1 (c .before)) ∙ not-true _ (c .if1 .taken))
 
 add-number-at : tie.Need-add-number-at
 add-number-at c = search needs
@@ -47,8 +47,8 @@ has-part-requires-2 c κs = search needs
 returns-2 : tie.Need-returns-2
 unfolding hasKey
 returns-2 c =
-    part-holds _ _ _ _ (part-1 (c .before .before .before .before)) (not-false _ (c .before .before .before .if1 .left))
-    (part-fails _ _ _ (read _ _ _ _ _ _ (c .before .has-part2 .ensures) (c .before .before .number-at2 .ensures)) (not-true _ (c .if2 .taken)))
+    part-holds _ _ _ (sym (part-1 (c .before .before .before .before)) ∙ not-false _ (c .before .before .before .if1 .left))
+    (part-fails _ _ (sym (read _ _ _ _ _ _ (c .before .has-part2 .ensures) (c .before .before .number-at2 .ensures)) ∙ not-true _ (c .if2 .taken)))
 
 add-number-at-2 : tie.Need-add-number-at-2
 add-number-at-2 c = search needs
@@ -62,8 +62,8 @@ has-part-requires-3 c κs = search needs
 returns-3 : tie.Need-returns-3
 unfolding hasKey
 returns-3 c =
-    part-holds _ _ _ _ (part-1 (c .before .before .before .before .before .before)) (not-false _ (c .before .before .before .before .before .if1 .left))
-    (part-holds _ _ _ _ (read _ _ _ _ _ _ (c .before .before .before .has-part2 .ensures) (c .before .before .before .before .number-at2 .ensures)) (not-false _ (c .before .before .if2 .left))
+    part-holds _ _ _ (sym (part-1 (c .before .before .before .before .before .before)) ∙ not-false _ (c .before .before .before .before .before .if1 .left))
+    (part-holds _ _ _ (sym (read _ _ _ _ _ _ (c .before .before .before .has-part2 .ensures) (c .before .before .before .before .number-at2 .ensures)) ∙ not-false _ (c .before .before .if2 .left))
     (read _ _ _ _ _ _ (c .has-part3 .ensures) (c .before .number-at3 .ensures)))
 
 pub has-key-spec : {M : Type 1} → statement M

@@ -8,7 +8,8 @@ use borrow.Author.Needs.{needs}
 use Rattle.as5506.specs.Names.{key}
 use Rattle.as5506.specs.Tables.{Tables, tablesOf, Ref, ref}
 use Rattle.as5506.specs.Resolve.{implNamed, typeNamed, groupNamed}
-use Rattle.resolver.proofs.Steps.{at-row, no-row, impl-none, impl-some, type-some, group-none, group-some}
+use Rattle.resolver.proofs.Scan.{at-row, no-row}
+use Rattle.resolver.proofs.Steps.{impl-none, impl-some, type-some, group-none, group-some}
 use Rattle.resolver.proofs.Rows.{impl-row, type-row, group-row}
 use Rattle.resolver.proofs.in_package.Statement.{statement}
 use Rattle.resolver.proofs.in_package.Tie as tie

@@ -4,8 +4,9 @@ use mathlib.Core.List.{List}
 use Prim.Native.Nat.{ℕ}
 use borrow.Author.Needs.{needs}
 use Rattle.as5506.specs.Tables.{Tables, tablesOf, Ref, ref}
-use Rattle.resolver.specs.Keys.{rowOf}
-use Rattle.resolver.proofs.Steps.{at-row, no-row, classifier-rename, no-rename, group-rename}
+use Rattle.resolver.specs.Found.{rowOf}
+use Rattle.resolver.proofs.Scan.{at-row, no-row}
+use Rattle.resolver.proofs.Steps.{classifier-rename, no-rename, group-rename}
 use Rattle.resolver.proofs.rename_for.Statement.{statement}
 use Rattle.resolver.proofs.rename_for.Tie as tie
 

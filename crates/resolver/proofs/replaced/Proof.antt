@@ -9,7 +9,8 @@ use Rattle.as5506.specs.Names.{key}
 use Rattle.as5506.specs.Tables.{Tables, tablesOf}
 use Rattle.as5506.specs.Lists.{firstOf}
 use Rattle.as5506.specs.Resolve.{renamesNamed, replacedBy}
-use Rattle.resolver.proofs.Steps.{at-row, no-row, not-renamed, renamed}
+use Rattle.resolver.proofs.Scan.{at-row, no-row}
+use Rattle.resolver.proofs.Steps.{not-renamed, renamed}
 use Rattle.resolver.proofs.Rows.{rename-row}
 use Rattle.resolver.proofs.replaced.Statement.{statement}
 use Rattle.resolver.proofs.replaced.Tie as tie

@@ -3,7 +3,8 @@ use mathlib.Core.List.{List}
 use Prim.Native.Nat.{ℕ}
 use borrow.Author.Needs.{needs}
 use Rattle.as5506.specs.Tables.{Tables, tablesOf, Ref, ref}
-use Rattle.resolver.proofs.Steps.{at-row, no-row, by-package, no-asker, by-asker}
+use Rattle.resolver.proofs.Scan.{at-row, no-row}
+use Rattle.resolver.proofs.Steps.{by-package, no-asker, by-asker}
 use Rattle.resolver.proofs.resolve_classifier.Statement.{statement}
 use Rattle.resolver.proofs.resolve_classifier.Tie as tie
 

@@ -4,7 +4,8 @@ use Prim.Native.Nat.{ℕ}
 use borrow.Author.Needs.{needs}
 use Rattle.as5506.specs.Names.{key}
 use Rattle.as5506.specs.Tables.{Tables, tablesOf, Ref, ref}
-use Rattle.resolver.proofs.Steps.{at-row, no-row, package-none, package-some}
+use Rattle.resolver.proofs.Scan.{at-row, no-row}
+use Rattle.resolver.proofs.Steps.{package-none, package-some}
 use Rattle.resolver.proofs.resolve_in_package.Statement.{statement}
 use Rattle.resolver.proofs.resolve_in_package.Tie as tie
 

@@ -11,7 +11,8 @@ use Rattle.as5506.specs.Lists.{firstOf}
 use Rattle.as5506.specs.Tables.{Tables, tablesOf, Ref, ref}
 use Rattle.as5506.specs.Resolve.{inPackage, renamesFor}
 use Rattle.resolver.specs.Found.{found}
-use Rattle.resolver.proofs.Steps.{at-row, no-row, in-own, by-imports, by-rename}
+use Rattle.resolver.proofs.Scan.{at-row, no-row}
+use Rattle.resolver.proofs.Steps.{in-own, by-imports, by-rename}
 use Rattle.resolver.proofs.Rows.{rename-for-row}
 use Rattle.resolver.proofs.without_package.Statement.{statement}
 use Rattle.resolver.proofs.without_package.Tie as tie

@@ -1,66 +1,132 @@
 -- `sheet::put_rows`: the rows that are left, written from here on, give the table with all of them. Assumes nothing.
-use Prim.Native.Nat.{_-_}
+use mathlib.Core.Path.{_≡_, refl, sym, ap, subst, _∙_}
+use Prim.Native.Nat.{ℕ, _+_, _-_, _*_, _≤_, _<_}
+use native.Mathlib.Omega.{arith}
 use borrow.Author.Needs.{needs}
-use lib.ListN.{length, drop}
-use Rattle.as5506.specs.Sheet.{rowsRead}
-use Rattle.as5506.specs.Tables.{table}
-use Rattle.sheet.proofs.Put.{Turn, turn, Writing, writing-start, rows-room, rows-turn, writing-end, no-rows}
+use lib.ListN.{length, drop, getD}
+use lib.Seq.{sets}
+use Rattle.as5506.specs.Columns.{letterByte}
+use Rattle.as5506.specs.Lists.{each}
+use Rattle.as5506.specs.Sheet.{rowsRead, lineRow}
+use Rattle.sheet.proofs.Letters.{widths, width-at, byte-at, rank-at, width-small}
+use Rattle.sheet.proofs.Order.{lineFrom, Turn, row-turn}
+use Rattle.sheet.proofs.Put.{row-written, row-count, Writing, writing-start, rows-room, rows-turn, left-from, writing-end, rows-of}
 use Rattle.sheet.proofs.put_rows.Statement.{statement}
-use Rattle.sheet.specs.Steps.{letterAt, texts}
+use Rattle.sheet.specs.Steps.{letterAt, texts, LeftFrom}
 use Rattle.sheet.proofs.put_rows.Tie as tie
 
 abbrev Inv-loop : tie.InvT-loop
-Inv-loop sheet k table₀ from₀ at₀ table from at = Writing sheet from table₀ table (rowsRead (letterAt k) (texts (drop from sheet))) (rowsRead (letterAt k) (texts sheet)) at
+Inv-loop sheet start k table₀ w₀ from₀ at₀ table from at =
+    Writing (letterAt k) sheet from table₀ table (rowsRead (letterAt k) (texts (drop from sheet))) (rowsRead (letterAt k) (texts sheet)) at
 
 abbrev μ-loop : tie.MeasureT-loop
-μ-loop sheet k table₀ from₀ at₀ table from at = length sheet - from
+μ-loop sheet start k table₀ w₀ from₀ at₀ table from at = length sheet - from
+
+mul-w : tie.Need-mul-w Inv-loop μ-loop
+mul-w c = search needs
+
+array-read-w : tie.Need-array-read-w Inv-loop μ-loop
+array-read-w c = search needs
 
 loop-holds : tie.Need-loop-holds Inv-loop μ-loop
-loop-holds c = let p = c .before .before .pre in writing-start _ _ _ (p .2) (p .3)
+loop-holds c =
+    let a = c .before .before .args in
+    let p = c .before .before .pre in
+    let k = subst (λ (j : ℕ). LeftFrom (a .sheet .now) j (a .start)) (sym (rank-at (a .k) (p .1))) (p .2) in
+    writing-start (letterAt (a .k)) (a .sheet .now) (a .start) _ _ _ k
+    (rows-of (letterAt (a .k)) (texts (drop (a .start) (a .sheet .now))) ∙ ap (each (lineRow (letterAt (a .k)))) (p .2 .lines (letterAt (a .k)) (omega (arith, rank-at (a .k) (p .1)))) ∙ sym (rows-of (letterAt (a .k)) (texts (a .sheet .now)))) (p .3)
+
+byte-at-requires : tie.Need-byte-at-requires Inv-loop μ-loop
+byte-at-requires c κs = tt
+
+array-read-if1 : tie.Need-array-read-if1 Inv-loop μ-loop
+array-read-if1 c = search needs
+
+-- a row has few numbers
+small : (c : tie.Then1 Inv-loop μ-loop) → getD widths (c .before .before .before .before .before .args .k) 0 < 10
+small c = let k = c .before .before .before .before .before .args .k in omega (arith, width-at k (c .before .before .before .before .before .pre .1), width-small (letterAt k))
 
 -- the line of this turn
-here : (c : tie.After-index-from Inv-loop μ-loop) → Turn (c .before .before .before .before .before .args .sheet .now) (c .before .before .loop .from) (c .index-from .result)
+here : (c : tie.Then1 Inv-loop μ-loop) →
+    let a = c .before .before .before .before .before .args in
+    let from = c .before .before .loop .from in
+    Turn (letterAt (a .k)) (a .sheet .now) from (from + (1 + 6 * getD widths (a .k) 0))
 here c =
-    turn _ (c .before .before .loop .from) _ (c .before .loop-test .taken) (c .index-from .ensures .0) (c .index-from .ensures .1) (c .before .before .loop .inv .well)
+    let a = c .before .before .before .before .before .args in
+    let p = c .before .before .before .before .before .pre in
+    let l = c .before .before .loop in
+    rw (width-at (a .k) (p .1))
+    (row-turn (letterAt (a .k)) (a .sheet .now) (l .from) (λ z. omega (arith, z, rank-at (a .k) (p .1), p .0)) (sym (c .before .byte-at .ensures) ∙ c .if1 .taken ∙ byte-at (a .k) (p .1)) (l .inv .order))
 
-index-from-requires : tie.Need-index-from-requires Inv-loop μ-loop
-index-from-requires c κs = search needs
+mul-end : tie.Need-mul-end Inv-loop μ-loop
+mul-end c = omega (arith, small c)
 
-sub-put-row : tie.Need-sub-put-row Inv-loop μ-loop
-sub-put-row c = search needs
+add-end : tie.Need-add-end Inv-loop μ-loop
+add-end c = omega (arith, small c)
 
-part-put-row-start : tie.Need-part-put-row-start Inv-loop μ-loop
-part-put-row-start c = search needs
+add-end-2 : tie.Need-add-end-2 Inv-loop μ-loop
+add-end-2 c = omega (arith, here c .inside)
 
-part-put-row-end : tie.Need-part-put-row-end Inv-loop μ-loop
-part-put-row-end c = search needs
+sub-put-fields : tie.Need-sub-put-fields Inv-loop μ-loop
+sub-put-fields c = omega arith
 
-put-row-requires : tie.Need-put-row-requires Inv-loop μ-loop
-put-row-requires c κs =
-    let p = c .before .before .before .before .before .before .before .pre in
-    let l = c .before .before .before .before .loop in
-    let h = here (c .before .before) in
-    (p .0, p .1, h .line, rows-room _ (l .from) _ h _ _ _ (l .at) _ (l .inv))
+part-put-fields-start : tie.Need-part-put-fields-start Inv-loop μ-loop
+part-put-fields-start c = omega (arith, here c .inside)
+
+part-put-fields-end : tie.Need-part-put-fields-end Inv-loop μ-loop
+part-put-fields-end c = omega (arith, here c .inside)
+
+-- its row has its place
+room : (c : tie.Then1 Inv-loop μ-loop) → let l = c .before .before .loop in l .at + getD widths (c .before .before .before .before .before .args .k) 0 ≤ length (l .table)
+room c =
+    let a = c .before .before .before .before .before .args in
+    let p = c .before .before .before .before .before .pre in
+    let l = c .before .before .loop in
+    let stop = l .from + (1 + 6 * getD widths (a .k) 0) in
+    omega (arith, row-count (lineFrom (a .sheet .now) (l .from) stop) (a .k) (p .0) (p .1), rows-room (letterAt (a .k)) (a .sheet .now) (l .from) stop (here c) (a .table .now) (l .table) (rowsRead (letterAt (a .k)) (texts (a .sheet .now))) (l .at) (l .inv))
+
+put-fields-requires : tie.Need-put-fields-requires Inv-loop μ-loop
+put-fields-requires c κs = (omega (arith, here (c .before .before) .size), room (c .before .before))
+
+add-at : tie.Need-add-at Inv-loop μ-loop
+add-at c = omega (arith, room (c .before .before .before .before .before), c .before .before .before .before .before .before .before .loop .inv .size)
+
+mul-from : tie.Need-mul-from Inv-loop μ-loop
+mul-from c = omega (arith, small (c .before .before .before .before .before))
 
 add-from : tie.Need-add-from Inv-loop μ-loop
-add-from c = search needs
+add-from c = omega (arith, small (c .before .before .before .before .before))
+
+add-from-2 : tie.Need-add-from-2 Inv-loop μ-loop
+add-from-2 c = omega (arith, here (c .before .before .before .before .before) .inside)
 
 loop-less : tie.Need-loop-less Inv-loop μ-loop
-loop-less c = search needs
+loop-less c = omega (arith, here (c .before .before .before .before .before) .inside)
 
 loop-again : tie.Need-loop-again Inv-loop μ-loop
 loop-again c =
+    let a = c .before .before .before .before .before .before .before .before .before .before .args in
+    let p = c .before .before .before .before .before .before .before .before .before .before .pre in
     let l = c .before .before .before .before .before .before .before .loop in
-    let w = c .before .before .put-row .ensures in
-    rows-turn _ (l .from) _ (here (c .before .before .before .before .before)) _ _ _ (l .at) _ (l .inv) _ _ (w .1) (w .0)
+    let stop = l .from + (1 + 6 * getD widths (a .k) 0) in
+    let line = lineFrom (a .sheet .now) (l .from) stop in
+    rows-turn (letterAt (a .k)) (a .sheet .now) (l .from) stop (here (c .before .before .before .before .before)) _ (l .table) _ (l .at) (l .inv) _ _ _
+    (c .before .before .put-fields .ensures ∙ ap (sets (l .table) (l .at)) (row-written line (a .k) (p .0) (p .1)))
+    (ap (λ (n : ℕ). l .at + n) (sym (row-count line (a .k) (p .0) (p .1))))
+    (omega arith)
 
 same-length : tie.Need-same-length Inv-loop μ-loop
 same-length c = search needs
 
 returns : tie.Need-returns Inv-loop μ-loop
 returns c =
-    let l = c .before .loop in
-    writing-end _ (l .from) _ _ _ _ (l .at) (l .inv) (no-rows _ (l .from) (c .loop-test .left) _)
+    let a = c .before .before .before .before .before .args in
+    let p = c .before .before .before .before .before .pre in
+    let l = c .before .before .loop in
+    let none : getD (a .sheet .now) (l .from) 0 ≡ letterByte (letterAt (a .k)) → ⊥ = λ e. c .if1 .left (c .before .byte-at .ensures ∙ e ∙ sym (byte-at (a .k) (p .1))) in (
+      subst (λ (j : ℕ). LeftFrom (a .sheet .now) (j + 1) (l .from)) (rank-at (a .k) (p .1)) (left-from (letterAt (a .k)) (a .sheet .now) (l .from) _ _ _ _ (l .at) (l .inv) none),
+      writing-end (letterAt (a .k)) (a .sheet .now) (l .from) _ _ _ _ (l .at) (l .inv) none (each (lineRow (letterAt (a .k)))) refl (rows-of (letterAt (a .k)) (texts (drop (l .from) (a .sheet .now)))),
+    )
 
 pub put-rows-spec : {M : Type 1} → statement M
 put-rows-spec =
@@ -68,13 +134,22 @@ put-rows-spec =
     (tie.spec
     Inv-loop
     μ-loop
+    mul-w
+    array-read-w
     loop-holds
-    index-from-requires
-    sub-put-row
-    part-put-row-start
-    part-put-row-end
-    put-row-requires
+    byte-at-requires
+    array-read-if1
+    mul-end
+    add-end
+    add-end-2
+    sub-put-fields
+    part-put-fields-start
+    part-put-fields-end
+    put-fields-requires
+    add-at
+    mul-from
     add-from
+    add-from-2
     loop-less
     loop-again
     same-length

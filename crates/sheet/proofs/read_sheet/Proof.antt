@@ -8,14 +8,13 @@ use native.Mathlib.Omega.{arith}
 use borrow.Author.Needs.{needs}
 use lib.ListN.{length}
 use lib.Seq.{sets}
-use Rattle.as5506.specs.Lists.{allOf}
 use Rattle.as5506.specs.Sheet.{linesOf, Lent, lentOf, sheetFaults, tablesRead, readSheet}
 use Rattle.as5506.specs.Tables.{Tables, tablesOf, Letter, letterN, letterC, letterF, letterX, letterP, letterI, letterT, letterQ, letterU, letterE, letterR, table}
 use Rattle.sheet.proofs.Letters.{each-letter}
-use Rattle.sheet.proofs.Whole.{sheet-short, sheet-well, lent-is, no-fault, refused-into, cleared-fits, cleared-bytes, read-into}
+use Rattle.sheet.proofs.Whole.{sheet-short, sheet-in-order, lent-is, no-fault, refused-into, cleared-fits, cleared-bytes, read-into}
 use Rattle.sheet.proofs.read_sheet.Statement.{statement}
 use Rattle.sheet.specs.Read.{sheetRead}
-use Rattle.sheet.specs.Steps.{wellFormed, texts}
+use Rattle.sheet.specs.Steps.{texts, inOrder}
 use Rattle.sheet.proofs.read_sheet.Tie as tie
 
 -- ---- places: where the tables are cleared, where the sheet is checked, and each call that writes
@@ -112,7 +111,7 @@ abbrev cleared : tie.After-clear-all → Tables
 cleared c = let l = c .clear-all .last in tablesOf (l .0) (l .1 .0) (l .1 .1 .0) (l .1 .1 .1 .0) (l .1 .1 .1 .1 .0) (l .1 .1 .1 .1 .1 .0) (l .1 .1 .1 .1 .1 .1 .0) (l .1 .1 .1 .1 .1 .1 .1 .0) (l .1 .1 .1 .1 .1 .1 .1 .1 .0) (l .1 .1 .1 .1 .1 .1 .1 .1 .1 .0) (l .1 .1 .1 .1 .1 .1 .1 .1 .1 .1 .0) (l .1 .1 .1 .1 .1 .1 .1 .1 .1 .1 .1 .0)
 
 abbrev after : tie.After-slice-known36 → Tables
-after c = tablesOf (wrote-bytes c .put-names .last .1 .0) (wrote-n c .put-name-rows .last .1 .0) (wrote-c c .put-rows .last .1 .1 .0) (wrote-f c .put-rows2 .last .1 .1 .0) (wrote-x c .put-rows3 .last .1 .1 .0) (wrote-p c .put-rows4 .last .1 .1 .0) (wrote-i c .put-rows5 .last .1 .1 .0) (wrote-t c .put-rows6 .last .1 .1 .0) (wrote-q c .put-rows7 .last .1 .1 .0) (wrote-u c .put-rows8 .last .1 .1 .0) (wrote-e c .put-rows9 .last .1 .1 .0) (wrote-r c .put-rows10 .last .1 .1 .0)
+after c = tablesOf (wrote-bytes c .put-names .last .1 .0) (wrote-n c .put-name-rows .last .1 .0) (wrote-c c .put-rows .last .1 .1 .1 .0) (wrote-f c .put-rows2 .last .1 .1 .1 .0) (wrote-x c .put-rows3 .last .1 .1 .1 .0) (wrote-p c .put-rows4 .last .1 .1 .1 .0) (wrote-i c .put-rows5 .last .1 .1 .1 .0) (wrote-t c .put-rows6 .last .1 .1 .1 .0) (wrote-q c .put-rows7 .last .1 .1 .1 .0) (wrote-u c .put-rows8 .last .1 .1 .1 .0) (wrote-e c .put-rows9 .last .1 .1 .1 .0) (wrote-r c .put-rows10 .last .1 .1 .1 .0)
 
 abbrev sheet : tie.After-clear-all → List ℕ
 sheet c = start c .args .sheet .now
@@ -125,8 +124,8 @@ answer c = c .check-sheet .ensures ∙ ap (λ (l : Lent). sheetRead (readSheet l
 faultless : (c : tie.After-enum-told) → let d = clearing (c .before .before) in sheetFaults (lentOf (lent d)) (sheet d) ≡ []
 faultless c = no-fault _ _ _ (sym (c .enum-told .given .1) ∙ answer (c .before .before))
 
-well : (c : tie.After-enum-told) → let d = clearing (c .before .before) in allOf wellFormed (linesOf (sheet d)) ≡ true
-well c = sheet-well _ _ (faultless c)
+ordered : (c : tie.After-enum-told) → let d = clearing (c .before .before) in inOrder 0 (linesOf (sheet d)) ≡ true
+ordered c = sheet-in-order _ _ (faultless c)
 
 -- what is read fits the cleared tables
 room : (c : tie.After-enum-told) (l : Letter) → let d = clearing (c .before .before) in length (table (tablesRead (texts (sheet d))) l) ≤ length (table (cleared d) l)
@@ -151,51 +150,51 @@ unfolding tablesRead
 put-names-requires c κs =
     let r = read-bytes c in
     let d = clearing (r .before .before) in
-    (well r, cleared-bytes (lent d) (cleared d) (d .clear-all .ensures) (sheet d) _ (answer (r .before .before)) (faultless r))
+    (ordered r, cleared-bytes (lent d) (cleared d) (d .clear-all .ensures) (sheet d) _ (answer (r .before .before)) (faultless r))
 
 put-name-rows-requires : tie.Need-put-name-rows-requires
 unfolding tablesRead
-put-name-rows-requires c κs = let r = read-n c in (sheet-short _ _ (faultless r), well r, room r letterN)
+put-name-rows-requires c κs = let r = read-n c in (sheet-short _ _ (faultless r), ordered r, room r letterN)
 
 put-rows-requires : tie.Need-put-rows-requires
 unfolding tablesRead
-put-rows-requires c κs = let r = read-c c in (omega arith, omega arith, well r, room r letterC)
+put-rows-requires c κs = let r = read-c c in (omega arith, omega arith, c .before .before .before .put-name-rows .ensures .0, room r letterC)
 
 put-rows-requires-2 : tie.Need-put-rows-requires-2
 unfolding tablesRead
-put-rows-requires-2 c κs = let r = read-f c in (omega arith, omega arith, well r, room r letterF)
+put-rows-requires-2 c κs = let r = read-f c in (omega arith, omega arith, c .before .before .before .put-rows .ensures .0, room r letterF)
 
 put-rows-requires-3 : tie.Need-put-rows-requires-3
 unfolding tablesRead
-put-rows-requires-3 c κs = let r = read-x c in (omega arith, omega arith, well r, room r letterX)
+put-rows-requires-3 c κs = let r = read-x c in (omega arith, omega arith, c .before .before .before .put-rows2 .ensures .0, room r letterX)
 
 put-rows-requires-4 : tie.Need-put-rows-requires-4
 unfolding tablesRead
-put-rows-requires-4 c κs = let r = read-p c in (omega arith, omega arith, well r, room r letterP)
+put-rows-requires-4 c κs = let r = read-p c in (omega arith, omega arith, c .before .before .before .put-rows3 .ensures .0, room r letterP)
 
 put-rows-requires-5 : tie.Need-put-rows-requires-5
 unfolding tablesRead
-put-rows-requires-5 c κs = let r = read-i c in (omega arith, omega arith, well r, room r letterI)
+put-rows-requires-5 c κs = let r = read-i c in (omega arith, omega arith, c .before .before .before .put-rows4 .ensures .0, room r letterI)
 
 put-rows-requires-6 : tie.Need-put-rows-requires-6
 unfolding tablesRead
-put-rows-requires-6 c κs = let r = read-t c in (omega arith, omega arith, well r, room r letterT)
+put-rows-requires-6 c κs = let r = read-t c in (omega arith, omega arith, c .before .before .before .put-rows5 .ensures .0, room r letterT)
 
 put-rows-requires-7 : tie.Need-put-rows-requires-7
 unfolding tablesRead
-put-rows-requires-7 c κs = let r = read-q c in (omega arith, omega arith, well r, room r letterQ)
+put-rows-requires-7 c κs = let r = read-q c in (omega arith, omega arith, c .before .before .before .put-rows6 .ensures .0, room r letterQ)
 
 put-rows-requires-8 : tie.Need-put-rows-requires-8
 unfolding tablesRead
-put-rows-requires-8 c κs = let r = read-u c in (omega arith, omega arith, well r, room r letterU)
+put-rows-requires-8 c κs = let r = read-u c in (omega arith, omega arith, c .before .before .before .put-rows7 .ensures .0, room r letterU)
 
 put-rows-requires-9 : tie.Need-put-rows-requires-9
 unfolding tablesRead
-put-rows-requires-9 c κs = let r = read-e c in (omega arith, omega arith, well r, room r letterE)
+put-rows-requires-9 c κs = let r = read-e c in (omega arith, omega arith, c .before .before .before .put-rows8 .ensures .0, room r letterE)
 
 put-rows-requires-10 : tie.Need-put-rows-requires-10
 unfolding tablesRead
-put-rows-requires-10 c κs = let r = read-r c in (omega arith, omega arith, well r, room r letterR)
+put-rows-requires-10 c κs = let r = read-r c in (omega arith, omega arith, c .before .before .before .put-rows9 .ensures .0, room r letterR)
 
 -- ---- every slice keeps its length
 
@@ -242,34 +241,34 @@ same-length-14 : tie.Need-same-length-14
 same-length-14 c = wrote-n c .put-name-rows .kept .1 .0 ∙ clearing (wrote c .before .before) .clear-all .kept .1 .0
 
 same-length-15 : tie.Need-same-length-15
-same-length-15 c = wrote-c c .put-rows .kept .1 .1 .0 ∙ clearing (wrote c .before .before) .clear-all .kept .1 .1 .0
+same-length-15 c = wrote-c c .put-rows .kept .1 .1 .1 .0 ∙ clearing (wrote c .before .before) .clear-all .kept .1 .1 .0
 
 same-length-16 : tie.Need-same-length-16
-same-length-16 c = wrote-f c .put-rows2 .kept .1 .1 .0 ∙ clearing (wrote c .before .before) .clear-all .kept .1 .1 .1 .0
+same-length-16 c = wrote-f c .put-rows2 .kept .1 .1 .1 .0 ∙ clearing (wrote c .before .before) .clear-all .kept .1 .1 .1 .0
 
 same-length-17 : tie.Need-same-length-17
-same-length-17 c = wrote-x c .put-rows3 .kept .1 .1 .0 ∙ clearing (wrote c .before .before) .clear-all .kept .1 .1 .1 .1 .0
+same-length-17 c = wrote-x c .put-rows3 .kept .1 .1 .1 .0 ∙ clearing (wrote c .before .before) .clear-all .kept .1 .1 .1 .1 .0
 
 same-length-18 : tie.Need-same-length-18
-same-length-18 c = wrote-p c .put-rows4 .kept .1 .1 .0 ∙ clearing (wrote c .before .before) .clear-all .kept .1 .1 .1 .1 .1 .0
+same-length-18 c = wrote-p c .put-rows4 .kept .1 .1 .1 .0 ∙ clearing (wrote c .before .before) .clear-all .kept .1 .1 .1 .1 .1 .0
 
 same-length-19 : tie.Need-same-length-19
-same-length-19 c = wrote-i c .put-rows5 .kept .1 .1 .0 ∙ clearing (wrote c .before .before) .clear-all .kept .1 .1 .1 .1 .1 .1 .0
+same-length-19 c = wrote-i c .put-rows5 .kept .1 .1 .1 .0 ∙ clearing (wrote c .before .before) .clear-all .kept .1 .1 .1 .1 .1 .1 .0
 
 same-length-20 : tie.Need-same-length-20
-same-length-20 c = wrote-t c .put-rows6 .kept .1 .1 .0 ∙ clearing (wrote c .before .before) .clear-all .kept .1 .1 .1 .1 .1 .1 .1 .0
+same-length-20 c = wrote-t c .put-rows6 .kept .1 .1 .1 .0 ∙ clearing (wrote c .before .before) .clear-all .kept .1 .1 .1 .1 .1 .1 .1 .0
 
 same-length-21 : tie.Need-same-length-21
-same-length-21 c = wrote-q c .put-rows7 .kept .1 .1 .0 ∙ clearing (wrote c .before .before) .clear-all .kept .1 .1 .1 .1 .1 .1 .1 .1 .0
+same-length-21 c = wrote-q c .put-rows7 .kept .1 .1 .1 .0 ∙ clearing (wrote c .before .before) .clear-all .kept .1 .1 .1 .1 .1 .1 .1 .1 .0
 
 same-length-22 : tie.Need-same-length-22
-same-length-22 c = wrote-u c .put-rows8 .kept .1 .1 .0 ∙ clearing (wrote c .before .before) .clear-all .kept .1 .1 .1 .1 .1 .1 .1 .1 .1 .0
+same-length-22 c = wrote-u c .put-rows8 .kept .1 .1 .1 .0 ∙ clearing (wrote c .before .before) .clear-all .kept .1 .1 .1 .1 .1 .1 .1 .1 .1 .0
 
 same-length-23 : tie.Need-same-length-23
-same-length-23 c = wrote-e c .put-rows9 .kept .1 .1 .0 ∙ clearing (wrote c .before .before) .clear-all .kept .1 .1 .1 .1 .1 .1 .1 .1 .1 .1 .0
+same-length-23 c = wrote-e c .put-rows9 .kept .1 .1 .1 .0 ∙ clearing (wrote c .before .before) .clear-all .kept .1 .1 .1 .1 .1 .1 .1 .1 .1 .1 .0
 
 same-length-24 : tie.Need-same-length-24
-same-length-24 c = wrote-r c .put-rows10 .kept .1 .1 .0 ∙ clearing (wrote c .before .before) .clear-all .kept .1 .1 .1 .1 .1 .1 .1 .1 .1 .1 .1 .0
+same-length-24 c = wrote-r c .put-rows10 .kept .1 .1 .1 .0 ∙ clearing (wrote c .before .before) .clear-all .kept .1 .1 .1 .1 .1 .1 .1 .1 .1 .1 .1 .0
 
 -- ---- the two ends
 
@@ -287,17 +286,17 @@ returns-2 c =
     let d = clearing k in
     read-into (lent d) (cleared d) (d .clear-all .ensures) (sheet d) _ (answer k) (faultless r) (after c) (wrote-bytes c .put-names .ensures)
     (each-letter (λ l. table (after c) l ≡ sets (table (cleared d) l) 0 (table (tablesRead (texts (sheet d))) l))
-    (wrote-n c .put-name-rows .ensures)
-    (wrote-c c .put-rows .ensures)
-    (wrote-f c .put-rows2 .ensures)
-    (wrote-x c .put-rows3 .ensures)
-    (wrote-p c .put-rows4 .ensures)
-    (wrote-i c .put-rows5 .ensures)
-    (wrote-t c .put-rows6 .ensures)
-    (wrote-q c .put-rows7 .ensures)
-    (wrote-u c .put-rows8 .ensures)
-    (wrote-e c .put-rows9 .ensures)
-    (wrote-r c .put-rows10 .ensures))
+    (wrote-n c .put-name-rows .ensures .1)
+    (wrote-c c .put-rows .ensures .1)
+    (wrote-f c .put-rows2 .ensures .1)
+    (wrote-x c .put-rows3 .ensures .1)
+    (wrote-p c .put-rows4 .ensures .1)
+    (wrote-i c .put-rows5 .ensures .1)
+    (wrote-t c .put-rows6 .ensures .1)
+    (wrote-q c .put-rows7 .ensures .1)
+    (wrote-u c .put-rows8 .ensures .1)
+    (wrote-e c .put-rows9 .ensures .1)
+    (wrote-r c .put-rows10 .ensures .1))
 
 pub read-sheet-spec : {M : Type 1} → statement M
 read-sheet-spec =

@@ -13,20 +13,23 @@ print-list-requires c κs = search needs
 clear-bytes-requires : tie.Need-clear-bytes-requires
 clear-bytes-requires c κs = search needs
 
-tell-number-requires : tie.Need-tell-number-requires
-tell-number-requires c κs = c .before .before .before .clear-bytes .ensures ∙ ap zeros (sym (c .before .before .before .clear-bytes .kept .0))
+unplaced-requires : tie.Need-unplaced-requires
+unplaced-requires c κs = search needs
+
+tell-requires : tie.Need-tell-requires
+tell-requires c κs = c .before .before .before .before .clear-bytes .ensures ∙ ap zeros (sym (c .before .before .before .before .clear-bytes .kept .0))
 
 same-length : tie.Need-same-length
 same-length c = search needs
 
 returns : tie.Need-returns
 returns c =
-    let p = c .before .before .before .before .before .before .before .before .before .before .before .print-list in
+    let p = c .before .before .before .before .before .before .before .before .before .before .before .before .print-list in
     let k = p .kept .1 .1 .1 .1 .1 .1 .1 .1 .1 .1 .1 .1 .1 .0 in
-    let d = c .before .before .before .before .before .before .clear-bytes in
-    let t = c .before .before .tell-number in
-    list-over _ _ (p .result) (p .last .1 .1 .1 .1 .1 .1 .1 .1 .1 .1 .1 .1 .1 .0) (p .ensures) (d .last .0) (t .result) (t .last .1 .0)
-    (omega (arith, c .before .before .before .before .before .before .before .before .if1 .taken, k)) (d .kept .0 ∙ k) (t .ensures)
+    let d = c .before .before .before .before .before .before .before .clear-bytes in
+    let t = c .before .before .tell in
+    list-over _ _ (p .result) (p .last .1 .1 .1 .1 .1 .1 .1 .1 .1 .1 .1 .1 .1 .0) (p .ensures) (d .last .0) _ (t .result) (t .last .1 .0)
+    (omega (arith, c .before .before .before .before .before .before .before .before .before .if1 .taken, k)) (d .kept .0 ∙ k) (c .before .before .before .before .unplaced .ensures) (t .ensures)
 
 same-length-2 : tie.Need-same-length-2
 same-length-2 c = search needs
@@ -43,7 +46,8 @@ print-both-spec =
     (tie.spec
     print-list-requires
     clear-bytes-requires
-    tell-number-requires
+    unplaced-requires
+    tell-requires
     same-length
     returns
     same-length-2

@@ -1,11 +1,13 @@
+-- `trace::trace` meets its contract. The measure: whether the source is being traced, then the steps that are left to make. The loop's invariant: the rows of the steps that are left remain to be written; its measure: how many those are. Assumes nothing.
 use Rattle.trace.proofs.Rows.{row-same, leftRows, phase, ends-source, ends-destination, trace-start, trace-end, trace-turn, trace-full, fit-less, fit-room, fit-over, fit-row}
 use Rattle.trace.proofs.Chains.{begins-done, begins-at}
-use Rattle.trace.proofs.Scan.{after-at, after-done, within-at, fewer}
+use Rattle.trace.proofs.Scan.{step-at, step-done, within-at, fewer}
 use Rattle.trace.proofs.Writing.{Remains}
 use Rattle.trace.specs.Ends.{endOf, rowsBehind}
-use Rattle.trace.specs.Steps.{tracingIn, sideOf, stepsFrom}
+use Rattle.trace.specs.Steps.{sideOf, stepsFrom}
 use Rattle.as5506.specs.Layout.{tracedBlock}
 use Rattle.as5506.specs.Tracing.{chains}
+use Rattle.lent.specs.Lent.{wiringIn}
 use lib.ListN.{length, take, length-set}
 use borrow.Author.Needs.{needs}
 use native.Mathlib.Omega.{arith}
@@ -36,12 +38,12 @@ claims t = (first-step-reads.Asked, first-step-reads.Learnt, trace-below t, trac
 
 abbrev trace-Inv-loop : trace-lts.InvT-loop
 trace-Inv-loop bytes n c x out₀ side conn left other limit count component feature len trail done₀ i₀ j₀ out done i j =
-    Remains 49 (tracedBlock (tracingIn bytes n c x)) (rowsBehind (tracingIn bytes n c x) (sideOf side) conn limit (endOf other) (take len trail) (chains (tracingIn bytes n c x) (sideOf side) left component feature))
-    out₀ count out done (leftRows (tracingIn bytes n c x) (sideOf side) conn limit (endOf other) (take len trail) left (stepsFrom (tracingIn bytes n c x) (sideOf side) component feature i j))
+    Remains 49 (tracedBlock (wiringIn bytes n c x)) (rowsBehind (wiringIn bytes n c x) (sideOf side) conn limit (endOf other) (take len trail) (chains (wiringIn bytes n c x) (sideOf side) left component feature))
+    out₀ count out done (leftRows (wiringIn bytes n c x) (sideOf side) conn limit (endOf other) (take len trail) left (stepsFrom (wiringIn bytes n c x) (sideOf side) component feature i j))
 
 abbrev trace-μ-loop : trace-lts.MeasureT-loop
 trace-μ-loop bytes n c x out₀ side conn left other limit count component feature len trail done₀ i₀ j₀ out done i j =
-    length (stepsFrom (tracingIn bytes n c x) (sideOf side) component feature i j)
+    length (stepsFrom (wiringIn bytes n c x) (sideOf side) component feature i j)
 
 trace-first-step-requires : (t : ℕ) → trace-lts.Need-first-step-requires (claims t) (trace-at t) trace.Post trace-Inv-loop trace-μ-loop
 trace-first-step-requires t c κs = tt
@@ -103,7 +105,7 @@ trace-same-length-3 : (t : ℕ) → trace-lts.Need-same-length-3 (claims t) (tra
 trace-same-length-3 t c = c .before .before .before .loop .inv .size
 
 trace-returns-3 : (t : ℕ) → trace-lts.Need-returns-3 (claims t) (trace-at t) trace.Post trace-Inv-loop trace-μ-loop
-trace-returns-3 t c = trace-end _ _ _ _ _ _ _ _ _ _ _ _ _ _ (c .before .before .before .loop .inv) (after-done _ _ _ _ _ _ _ (c .before .before .next-step .ensures .0) (c .enum-told5 .given .1))
+trace-returns-3 t c = trace-end _ _ _ _ _ _ _ _ _ _ _ _ _ _ (c .before .before .before .loop .inv) (step-done _ _ _ _ _ _ _ (c .before .before .next-step .ensures .0) (c .enum-told5 .given .1))
 
 trace-enum-known-row : (t : ℕ) → trace-lts.Need-enum-known-row (claims t) (trace-at t) trace.Post trace-Inv-loop trace-μ-loop
 trace-enum-known-row t c = search needs
@@ -163,7 +165,7 @@ trace-returns-4 t c =
     let s = c .before .before .before .before .before .before .before .before .before .before .before .before .before .before .before .before .before .before .before .before in
     let g = c .before .before .before .before .before .before .before .before .before .before .loop in
     let b = begins-at _ _ _ _ _ _ (c .before .before .before .before .before .before .before .before .before .before .before .before .before .before .first-step .ensures) _ _ _ (c .before .before .before .before .before .before .before .before .before .before .before .before .enum-told4 .given .1) in
-    let e = after-at _ _ _ _ _ _ _ (c .before .before .before .before .before .before .before .before .before .next-step .ensures .0) _ _ _ (c .before .before .before .before .before .before .before .row .given .1) in
+    let e = step-at _ _ _ _ _ _ _ (c .before .before .before .before .before .before .before .before .before .next-step .ensures .0) _ _ _ (c .before .before .before .before .before .before .before .row .given .1) in
     trace-full _ _ _ _ _ _ _ _ (s .args .here .path) (s .args .here .len) (s .args .out .now) (s .args .count) (g .out) (g .done) _ _ _ (g .inv) e
     (omega (arith, s .pre .1 .1 .0, fit-room _ _ _ _ _ (s .pre .1 .1 .2) (b .0))) (c .before .before .before .before .trace2 .result) _ (c .before .before .before .before .trace2 .ensures) (c .enum-told6 .given .1) _
 
@@ -178,7 +180,7 @@ trace-add-j t c =
 
 trace-loop-less : (t : ℕ) → trace-lts.Need-loop-less (claims t) (trace-at t) trace.Post trace-Inv-loop trace-μ-loop
 trace-loop-less t c =
-    let e = after-at _ _ _ _ _ _ _ (c .before .before .before .before .before .before .before .before .before .before .next-step .ensures .0) _ _ _ (c .before .before .before .before .before .before .before .before .row .given .1) in
+    let e = step-at _ _ _ _ _ _ _ (c .before .before .before .before .before .before .before .before .before .before .next-step .ensures .0) _ _ _ (c .before .before .before .before .before .before .before .before .row .given .1) in
     fewer _ _ _ e
 
 trace-loop-again : (t : ℕ) → trace-lts.Need-loop-again (claims t) (trace-at t) trace.Post trace-Inv-loop trace-μ-loop
@@ -186,7 +188,7 @@ trace-loop-again t c =
     let s = c .before .before .before .before .before .before .before .before .before .before .before .before .before .before .before .before .before .before .before .before .before in
     let g = c .before .before .before .before .before .before .before .before .before .before .before .loop in
     let b = begins-at _ _ _ _ _ _ (c .before .before .before .before .before .before .before .before .before .before .before .before .before .before .before .first-step .ensures) _ _ _ (c .before .before .before .before .before .before .before .before .before .before .before .before .before .enum-told4 .given .1) in
-    let e = after-at _ _ _ _ _ _ _ (c .before .before .before .before .before .before .before .before .before .before .next-step .ensures .0) _ _ _ (c .before .before .before .before .before .before .before .before .row .given .1) in
+    let e = step-at _ _ _ _ _ _ _ (c .before .before .before .before .before .before .before .before .before .before .next-step .ensures .0) _ _ _ (c .before .before .before .before .before .before .before .before .row .given .1) in
     trace-turn _ _ _ _ _ _ _ _ (s .args .here .path) (s .args .here .len) (s .args .out .now) (s .args .count) (g .out) (g .done) _ _ _ (g .inv) e
     (omega (arith, s .pre .1 .1 .0, fit-room _ _ _ _ _ (s .pre .1 .1 .2) (b .0))) (c .before .before .before .before .before .trace2 .result) _ (c .before .before .before .before .before .trace2 .ensures) _ (c .before .r .given .1)
 

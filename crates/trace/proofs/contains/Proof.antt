@@ -1,3 +1,4 @@
+-- `trace::contains` meets its contract. The invariant: the connection is in the path exactly where it is among the entries from i on. The measure: the entries that are left. Assumes nothing.
 use Rattle.trace.proofs.Joining.{has-hit, has-miss, has-past}
 use Rattle.as5506.specs.Lists.{has}
 use lib.ListN.{take, drop}
@@ -6,8 +7,6 @@ use mathlib.Core.Path.{_≡_, refl, sym, _∙_}
 use Prim.Native.Nat.{_-_, _≤_}
 use Rattle.trace.proofs.contains.Statement.{statement}
 use Rattle.trace.proofs.contains.Tie as tie
-use Rattle.trace.proofs.contains.Reads as reads
-use Rattle.trace.proofs.contains.Lts as lts
 
 abbrev Inv-loop : tie.InvT-loop
 Inv-loop len v p i₀ i = (i ≤ len) × (has v (take len p) ≡ has v (drop i (take len p)))

@@ -1,4 +1,5 @@
-use Rattle.trace.specs.Steps.{tracingIn, sideOf}
+-- `trace::feature_of` meets its contract. By the side. Assumes nothing.
+use Rattle.trace.specs.Steps.{sideOf}
 use Rattle.trace.specs.declared.Side.{Side}
 use Rattle.as5506.specs.Tables.{xFeat}
 use mathlib.Core.List.{[]}
@@ -6,9 +7,7 @@ use mathlib.Core.Path.{sym, ap, _∙_}
 use borrow.Author.Needs.{needs}
 use Rattle.trace.proofs.feature_of.Statement.{statement}
 use Rattle.trace.proofs.feature_of.Tie as tie
-use Rattle.trace.proofs.feature_of.Reads as reads
-use Rattle.trace.proofs.feature_of.Lts as lts
-use Rattle.lent.proofs.number_at.Reads as number-at-reads
+use Rattle.lent.specs.Lent.{connectionsIn}
 
 enum-told : tie.Need-enum-told
 enum-told c = search needs
@@ -35,10 +34,10 @@ number-at-requires-2 : tie.Need-number-at-requires-2
 number-at-requires-2 c κs = search needs
 
 returns : tie.Need-returns
-returns c = let s = c .before .before .before .before .args in c .number-at .ensures ∙ sym (ap (λ (t : Side). xFeat (tracingIn [] [] [] (s .x .now)) (sideOf t) (s .i)) (c .before .enum-told .given .1))
+returns c = let s = c .before .before .before .before .args in c .number-at .ensures ∙ sym (ap (λ (t : Side). xFeat (connectionsIn [] [] (s .x .now)) (sideOf t) (s .i)) (c .before .enum-told .given .1))
 
 returns-2 : tie.Need-returns-2
-returns-2 c = let s = c .before .before .before .before .args in c .number-at2 .ensures ∙ sym (ap (λ (t : Side). xFeat (tracingIn [] [] [] (s .x .now)) (sideOf t) (s .i)) (c .before .enum-told2 .given .1))
+returns-2 c = let s = c .before .before .before .before .args in c .number-at2 .ensures ∙ sym (ap (λ (t : Side). xFeat (connectionsIn [] [] (s .x .now)) (sideOf t) (s .i)) (c .before .enum-told2 .given .1))
 
 pub feature-of-spec : {M : Type 1} → statement M
 feature-of-spec =

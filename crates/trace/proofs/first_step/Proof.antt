@@ -1,10 +1,8 @@
+-- `trace::first_step` meets its contract. One law of Chains for each return. Assumes nothing.
 use Rattle.trace.proofs.Chains.{begins, begins-none}
 use borrow.Author.Needs.{needs}
 use Rattle.trace.proofs.first_step.Statement.{statement}
 use Rattle.trace.proofs.first_step.Tie as tie
-use Rattle.trace.proofs.first_step.Reads as reads
-use Rattle.trace.proofs.first_step.Lts as lts
-use Rattle.trace.proofs.next_step.Reads as next-step-reads
 
 returns : tie.Need-returns
 returns c = begins-none _ _ _ _ _ (c .if1 .taken)

@@ -1,3 +1,4 @@
+-- `trace::join` meets its contract. The invariant: the path is that of the places so far with the entries from k on appended. The measure: the entries that are left. Assumes nothing.
 use Prim.Native.Nat.{ℕ, _-_}
 use mathlib.Core.List.{List}
 use Rattle.trace.proofs.Joining.{places-front, Joins, joins-start, joins-old, joins-new, joins-end}
@@ -10,10 +11,6 @@ use mathlib.Core.Logic.{⊎-elim}
 use mathlib.Core.Path.{sym, ap, _∙_}
 use Rattle.trace.proofs.join.Statement.{statement}
 use Rattle.trace.proofs.join.Tie as tie
-use Rattle.trace.proofs.join.Reads as reads
-use Rattle.trace.proofs.join.Lts as lts
-use Rattle.trace.proofs.contains.Reads as contains-reads
-use Rattle.trace.proofs.places.Reads as places-reads
 
 abbrev Inv-loop : tie.InvT-loop
 Inv-loop slen dlen d rows₀ len₀ k₀ rows len k = Joins (appendNew (take slen rows₀) (take dlen d)) rows len d dlen k slen

@@ -1,5 +1,6 @@
-use Rattle.trace.proofs.Scan.{not-own, no-sub, near-sub, no-feature, by-feature}
-use Rattle.trace.specs.Steps.{tracingIn, sideOf}
+-- `trace::leads` meets its contract. Part by part, up to the first that fails: one law of Scan for each return. Assumes nothing.
+use Rattle.trace.proofs.Scan.{not-own, no-sub, near-sub, no-near-feature, by-feature}
+use Rattle.trace.specs.Steps.{sideOf}
 use Rattle.as5506.specs.Tables.{Side as TheSide}
 use Rattle.as5506.specs.Tables.{xSub, xFeat}
 use mathlib.Core.List.{[]}
@@ -7,13 +8,7 @@ use mathlib.Core.Path.{ap, _∙_}
 use borrow.Author.Needs.{needs}
 use Rattle.trace.proofs.leads.Statement.{statement}
 use Rattle.trace.proofs.leads.Tie as tie
-use Rattle.trace.proofs.leads.Reads as reads
-use Rattle.trace.proofs.leads.Lts as lts
-use Rattle.lent.proofs.number_at.Reads as number-at-reads
-use Rattle.trace.proofs.same_feature.Reads as same-feature-reads
-use Rattle.trace.proofs.feature_of.Reads as feature-of-reads
-use Rattle.trace.proofs.opposite.Reads as opposite-reads
-use Rattle.trace.proofs.subcomponent_of.Reads as subcomponent-of-reads
+use Rattle.lent.specs.Lent.{connectionsIn}
 
 mul-number-at : tie.Need-mul-number-at
 mul-number-at c = search needs
@@ -45,7 +40,7 @@ returns-3 : tie.Need-returns-3
 returns-3 c =
     let s = c .before .before .before .before .before .before .before .before .before .before .args in
     near-sub _ (sideOf (s .side)) (s .component) (s .feature) (s .i) _ (c .before .before .before .before .before .before .number-at .ensures) (c .before .before .before .before .before .if1 .left) _ (c .before .before .before .before .subcomponent-of .ensures) (c .before .before .before .if2 .left)
-    _ (c .before .subcomponent-of2 .ensures ∙ ap (λ (t : TheSide). xSub (tracingIn [] [] [] (s .x .now)) t (s .i)) (c .before .before .opposite .ensures)) (c .if3 .taken)
+    _ (c .before .subcomponent-of2 .ensures ∙ ap (λ (t : TheSide). xSub (connectionsIn [] [] (s .x .now)) t (s .i)) (c .before .before .opposite .ensures)) (c .if3 .taken)
 
 feature-of-requires : tie.Need-feature-of-requires
 feature-of-requires c κs = search needs
@@ -53,9 +48,9 @@ feature-of-requires c κs = search needs
 returns-4 : tie.Need-returns-4
 returns-4 c =
     let s = c .before .before .before .before .before .before .before .before .before .before .before .before .args in
-    no-feature _ (sideOf (s .side)) (s .component) (s .feature) (s .i) _ (c .before .before .before .before .before .before .before .before .number-at .ensures) (c .before .before .before .before .before .before .before .if1 .left) _ (c .before .before .before .before .before .before .subcomponent-of .ensures) (c .before .before .before .before .before .if2 .left)
-    _ (c .before .before .before .subcomponent-of2 .ensures ∙ ap (λ (t : TheSide). xSub (tracingIn [] [] [] (s .x .now)) t (s .i)) (c .before .before .before .before .opposite .ensures)) (c .before .before .if3 .left)
-    _ (c .before .feature-of .ensures ∙ ap (λ (t : TheSide). xFeat (tracingIn [] [] [] (s .x .now)) t (s .i)) (c .before .before .before .before .opposite .ensures)) (c .if4 .taken)
+    no-near-feature _ (sideOf (s .side)) (s .component) (s .feature) (s .i) _ (c .before .before .before .before .before .before .before .before .number-at .ensures) (c .before .before .before .before .before .before .before .if1 .left) _ (c .before .before .before .before .before .before .subcomponent-of .ensures) (c .before .before .before .before .before .if2 .left)
+    _ (c .before .before .before .subcomponent-of2 .ensures ∙ ap (λ (t : TheSide). xSub (connectionsIn [] [] (s .x .now)) t (s .i)) (c .before .before .before .before .opposite .ensures)) (c .before .before .if3 .left)
+    _ (c .before .feature-of .ensures ∙ ap (λ (t : TheSide). xFeat (connectionsIn [] [] (s .x .now)) t (s .i)) (c .before .before .before .before .opposite .ensures)) (c .if4 .taken)
 
 same-feature-requires : tie.Need-same-feature-requires
 same-feature-requires c κs = search needs
@@ -64,8 +59,8 @@ returns-5 : tie.Need-returns-5
 returns-5 c =
     let s = c .before .before .before .before .before .before .before .before .before .before .before .before .before .args in
     by-feature _ (sideOf (s .side)) (s .component) (s .feature) (s .i) _ (c .before .before .before .before .before .before .before .before .before .number-at .ensures) (c .before .before .before .before .before .before .before .before .if1 .left) _ (c .before .before .before .before .before .before .before .subcomponent-of .ensures) (c .before .before .before .before .before .before .if2 .left)
-    _ (c .before .before .before .before .subcomponent-of2 .ensures ∙ ap (λ (t : TheSide). xSub (tracingIn [] [] [] (s .x .now)) t (s .i)) (c .before .before .before .before .before .opposite .ensures)) (c .before .before .before .if3 .left)
-    _ (c .before .before .feature-of .ensures ∙ ap (λ (t : TheSide). xFeat (tracingIn [] [] [] (s .x .now)) t (s .i)) (c .before .before .before .before .before .opposite .ensures)) (c .before .if4 .left) _ (c .same-feature .ensures)
+    _ (c .before .before .before .before .subcomponent-of2 .ensures ∙ ap (λ (t : TheSide). xSub (connectionsIn [] [] (s .x .now)) t (s .i)) (c .before .before .before .before .before .opposite .ensures)) (c .before .before .before .if3 .left)
+    _ (c .before .before .feature-of .ensures ∙ ap (λ (t : TheSide). xFeat (connectionsIn [] [] (s .x .now)) t (s .i)) (c .before .before .before .before .before .opposite .ensures)) (c .before .if4 .left) _ (c .same-feature .ensures)
 
 pub leads-spec : {M : Type 1} → statement M
 leads-spec =

@@ -1,14 +1,12 @@
-use Rattle.trace.proofs.Scan.{found-same, after-same, step-same, leads-after, leads-none}
+-- `trace::next_child` meets its contract. The children of the name, where the connection leads from the feature. Assumes nothing.
+use Rattle.children.proofs.Scan.{found-same, after-same}
+use Rattle.lent.specs.Lent.{wiringIn}
+use Rattle.trace.proofs.Scan.{step-same, leads-after, leads-none}
 use Rattle.as5506.specs.Tables.{nameIn}
 use mathlib.Core.Path.{sym, ap, _∙_}
 use borrow.Author.Needs.{needs}
 use Rattle.trace.proofs.next_child.Statement.{statement}
 use Rattle.trace.proofs.next_child.Tie as tie
-use Rattle.trace.proofs.next_child.Reads as reads
-use Rattle.trace.proofs.next_child.Lts as lts
-use Rattle.children.proofs.find_child_by_name.Reads as find-child-by-name-reads
-use Rattle.trace.proofs.leads.Reads as leads-reads
-use Rattle.trace.proofs.subcomponent_of.Reads as subcomponent-of-reads
 
 leads-requires : tie.Need-leads-requires
 leads-requires c κs = search needs
@@ -22,11 +20,12 @@ find-child-by-name-requires c κs = search needs
 returns : tie.Need-returns
 returns c =
     let s = c .before .before .before .before .before .before .before .before .args in
+    let m = wiringIn (s .bytes .now) (s .n .now) (s .c .now) (s .x .now) in
     let w = nameIn (s .bytes .now) (s .n .now) (c .before .subcomponent-of .result) in (
       leads-after _ _ (s .component) (s .feature) (s .i) _ (s .from) w (c .find-child-by-name .result) (c .before .before .if1 .taken) (c .before .before .before .leads .ensures ∙ step-same _ _ (s .c .now) _ _ _ _ _)
           (ap (nameIn (s .bytes .now) (s .n .now)) (c .before .subcomponent-of .ensures))
-          (sym (found-same (s .bytes .now) (s .n .now) (s .c .now) (s .x .now) (s .component) w (s .from)) ∙ c .find-child-by-name .ensures .0
-          ∙ after-same _ _ (c .find-child-by-name .result) (found-same (s .bytes .now) (s .n .now) (s .c .now) (s .x .now) (s .component) w)),
+          (sym (found-same m (s .component) w (s .from)) ∙ c .find-child-by-name .ensures .0
+          ∙ after-same _ _ (c .find-child-by-name .result) (found-same m (s .component) w)),
       c .find-child-by-name .ensures .1,
     )
 

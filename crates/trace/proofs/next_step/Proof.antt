@@ -1,5 +1,6 @@
+-- `trace::next_step` meets its contract. The invariant: the steps from the first row on are those from row i on. The measure: the rows that are left. Assumes nothing.
 use Rattle.trace.proofs.Scan.{steps-hit, steps-miss, steps-end}
-use Rattle.trace.specs.Steps.{tracingIn, sideOf, stepsFrom}
+use Rattle.trace.specs.Steps.{sideOf, stepsFrom}
 use Rattle.children.proofs.Scan.{after-at, after-nothing, inside-at}
 use borrow.Author.Needs.{needs}
 use native.Mathlib.Omega.{arith}
@@ -7,14 +8,11 @@ use mathlib.Core.Path.{_≡_, refl, _∙_}
 use Prim.Native.Nat.{_-_}
 use Rattle.trace.proofs.next_step.Statement.{statement}
 use Rattle.trace.proofs.next_step.Tie as tie
-use Rattle.trace.proofs.next_step.Reads as reads
-use Rattle.trace.proofs.next_step.Lts as lts
-use Rattle.trace.proofs.feature_of.Reads as feature-of-reads
-use Rattle.trace.proofs.next_child.Reads as next-child-reads
+use Rattle.lent.specs.Lent.{wiringIn}
 
 abbrev Inv-loop : tie.InvT-loop
 Inv-loop bytes n c x side component feature row child count i₀ from₀ i from =
-    stepsFrom (tracingIn bytes n c x) (sideOf side) component feature row child ≡ stepsFrom (tracingIn bytes n c x) (sideOf side) component feature i from
+    stepsFrom (wiringIn bytes n c x) (sideOf side) component feature row child ≡ stepsFrom (wiringIn bytes n c x) (sideOf side) component feature i from
 
 abbrev μ-loop : tie.MeasureT-loop
 μ-loop bytes n c x side component feature row child count i₀ from₀ i from = count - i

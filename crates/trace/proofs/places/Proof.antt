@@ -1,3 +1,4 @@
+-- `trace::places` meets its contract. The invariant: the first i entries are written, and zeros behind. The measure: the entries that are left. Assumes nothing.
 use Rattle.trace.proofs.Joining.{places-turn, padded-size}
 use Rattle.lent.proofs.Padded.{padded-none}
 use Rattle.as5506.specs.Lists.{padded}
@@ -8,8 +9,6 @@ use native.Mathlib.Omega.{arith}
 use mathlib.Core.Path.{_≡_, refl, sym, ap, _∙_}
 use Rattle.trace.proofs.places.Statement.{statement}
 use Rattle.trace.proofs.places.Tie as tie
-use Rattle.trace.proofs.places.Reads as reads
-use Rattle.trace.proofs.places.Lts as lts
 
 abbrev Inv-loop : tie.InvT-loop
 Inv-loop len s rows₀ i₀ rows i = (i ≤ len) × (length rows ≡ 41) × (rows ≡ padded 41 (take i s))

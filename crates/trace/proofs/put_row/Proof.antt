@@ -1,3 +1,4 @@
+-- `trace::put_row` meets its contract. The two blocks that are written are the row's. Assumes nothing.
 use Rattle.trace.proofs.Rows.{row-written}
 use Rattle.trace.specs.Writing.{Written}
 use lib.ListN.{getD}
@@ -7,11 +8,6 @@ use native.Mathlib.Omega.{arith}
 use borrow.Author.Needs.{needs}
 use Rattle.trace.proofs.put_row.Statement.{statement}
 use Rattle.trace.proofs.put_row.Tie as tie
-use Rattle.trace.proofs.put_row.Reads as reads
-use Rattle.trace.proofs.put_row.Lts as lts
-use Rattle.lent.proofs.number_at.Reads as number-at-reads
-use Rattle.lent.proofs.put_numbers.Reads as put-numbers-reads
-use Rattle.trace.proofs.join.Reads as join-reads
 
 returns : tie.Need-returns
 unfolding Written

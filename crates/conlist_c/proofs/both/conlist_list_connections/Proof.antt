@@ -1,11 +1,9 @@
+-- `conlist_c::conlist_list_connections` meets its contract: the numbers are those of the call's answer. Assumes nothing.
 use Rattle.conlist_c.specs.Numbers.{bothNumbers}
 use mathlib.Core.Path.{refl, sym, ap, _∙_}
 use borrow.Author.Needs.{needs}
 use Rattle.conlist_c.proofs.both.conlist_list_connections.Statement.{statement}
 use Rattle.conlist_c.proofs.both.conlist_list_connections.Tie as tie
-use Rattle.conlist_c.proofs.both.conlist_list_connections.Reads as reads
-use Rattle.conlist_c.proofs.both.conlist_list_connections.Lts as lts
-use Rattle.listing.proofs.list_connections.Reads as list-connections-reads
 
 list-connections-requires : tie.Need-list-connections-requires
 list-connections-requires c κs = search needs

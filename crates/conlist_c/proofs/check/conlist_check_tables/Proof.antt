@@ -1,11 +1,9 @@
+-- `conlist_c::conlist_check_tables` meets its contract: the numbers are those of the call's answer. Assumes nothing.
 use Rattle.conlist_c.specs.Numbers.{checkedNumbers}
 use mathlib.Core.Path.{sym, ap, _∙_}
 use borrow.Author.Needs.{needs}
 use Rattle.conlist_c.proofs.check.conlist_check_tables.Statement.{statement}
 use Rattle.conlist_c.proofs.check.conlist_check_tables.Tie as tie
-use Rattle.conlist_c.proofs.check.conlist_check_tables.Reads as reads
-use Rattle.conlist_c.proofs.check.conlist_check_tables.Lts as lts
-use Rattle.tables.proofs.check_tables.Reads as check-tables-reads
 
 check-tables-requires : tie.Need-check-tables-requires
 check-tables-requires c κs = search needs

@@ -1,11 +1,9 @@
+-- `conlist_c::conlist_expand_feature_group` meets its contract: the numbers are those of the call's answer. Assumes nothing.
 use Rattle.conlist_c.specs.Numbers.{expandedNumbers}
 use mathlib.Core.Path.{refl, sym, ap, _∙_}
 use borrow.Author.Needs.{needs}
 use Rattle.conlist_c.proofs.expand.conlist_expand_feature_group.Statement.{statement}
 use Rattle.conlist_c.proofs.expand.conlist_expand_feature_group.Tie as tie
-use Rattle.conlist_c.proofs.expand.conlist_expand_feature_group.Reads as reads
-use Rattle.conlist_c.proofs.expand.conlist_expand_feature_group.Lts as lts
-use Rattle.feature_group.proofs.expand_feature_group.Reads as expand-feature-group-reads
 
 expand-feature-group-requires : tie.Need-expand-feature-group-requires
 expand-feature-group-requires c κs = search needs

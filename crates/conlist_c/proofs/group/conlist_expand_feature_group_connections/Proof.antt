@@ -1,3 +1,4 @@
+-- `conlist_c::conlist_expand_feature_group_connections` meets its contract: the numbers are those of the call's answer. Assumes nothing.
 use Rattle.conlist_c.specs.Numbers.{groupNumbers}
 use mathlib.Core.Path.{refl, sym, ap, _∙_}
 use borrow.Author.Needs.{needs}
@@ -5,9 +6,6 @@ use Rattle.conlist_c.proofs.group.conlist_expand_feature_group_connecti
   statement,
 }
 use Rattle.conlist_c.proofs.group.conlist_expand_feature_group_connections.Tie as tie
-use Rattle.conlist_c.proofs.group.conlist_expand_feature_group_connections.Reads as reads
-use Rattle.conlist_c.proofs.group.conlist_expand_feature_group_connections.Lts as lts
-use Rattle.group_list.proofs.expand_feature_group_connections.Reads as expand-feature-group-connections-reads
 
 expand-feature-group-connections-requires : tie.Need-expand-feature-group-connections-requires
 expand-feature-group-connections-requires c κs = search needs

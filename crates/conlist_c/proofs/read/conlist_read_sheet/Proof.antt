@@ -1,11 +1,9 @@
+-- `conlist_c::conlist_read_sheet` meets its contract: the numbers are those of the call's answer. Assumes nothing.
 use Rattle.conlist_c.specs.Numbers.{readNumbers}
 use mathlib.Core.Path.{refl, sym, ap, _∙_}
 use borrow.Author.Needs.{needs}
 use Rattle.conlist_c.proofs.read.conlist_read_sheet.Statement.{statement}
 use Rattle.conlist_c.proofs.read.conlist_read_sheet.Tie as tie
-use Rattle.conlist_c.proofs.read.conlist_read_sheet.Reads as reads
-use Rattle.conlist_c.proofs.read.conlist_read_sheet.Lts as lts
-use Rattle.sheet.proofs.read_sheet.Reads as read-sheet-reads
 
 read-sheet-requires : tie.Need-read-sheet-requires
 read-sheet-requires c κs = search needs

@@ -1,3 +1,4 @@
+-- `conlist_c::conlist_compute_semantic_connections` meets its contract: the numbers are those of the call's answer. Assumes nothing.
 use Rattle.conlist_c.specs.Numbers.{tracedNumbers}
 use mathlib.Core.Path.{refl, sym, ap, _∙_}
 use borrow.Author.Needs.{needs}
@@ -5,9 +6,6 @@ use Rattle.conlist_c.proofs.traced.conlist_compute_semantic_connections
   statement,
 }
 use Rattle.conlist_c.proofs.traced.conlist_compute_semantic_connections.Tie as tie
-use Rattle.conlist_c.proofs.traced.conlist_compute_semantic_connections.Reads as reads
-use Rattle.conlist_c.proofs.traced.conlist_compute_semantic_connections.Lts as lts
-use Rattle.instance.proofs.compute_semantic_connections.Reads as compute-semantic-connections-reads
 
 compute-semantic-connections-requires : tie.Need-compute-semantic-connections-requires
 compute-semantic-connections-requires c κs = search needs

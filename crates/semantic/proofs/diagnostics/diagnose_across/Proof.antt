@@ -1,23 +1,16 @@
+-- `semantic::diagnostics::diagnose_across` meets its contract. The three diagnostics one after the other are the definition's. Assumes nothing.
+use Rattle.trace.proofs.Writing.{written-as}
 use Rattle.as5506.specs.Tracing.{oneToOne, named}
 use Rattle.as5506.specs.Tables.{source, destination}
+use Rattle.lent.specs.Lent.{wiringIn}
 use Rattle.semantic.proofs.DiagLaws.{after-count, after-append, room-count, room-after, no-child, across-diags}
-use Rattle.semantic.proofs.PairLaws.{written-as}
 use Rattle.semantic.proofs.Naming.{pattern-same}
-use Rattle.trace.specs.Steps.{tracingIn}
 use Prim.Native.Nat.{_-_}
 use native.Mathlib.Omega.{arith}
 use mathlib.Core.Path.{refl, ap, _∙_}
 use borrow.Author.Needs.{needs}
 use Rattle.semantic.proofs.diagnostics.diagnose_across.Statement.{statement}
 use Rattle.semantic.proofs.diagnostics.diagnose_across.Tie as tie
-use Rattle.semantic.proofs.diagnostics.diagnose_across.Reads as reads
-use Rattle.semantic.proofs.diagnostics.diagnose_across.Lts as lts
-use Rattle.semantic.proofs.diagnostics.diagnose_if.Reads as diagnose-if-reads
-use Rattle.semantic.proofs.diagnostics.unequal.Reads as unequal-reads
-use Rattle.semantic.proofs.ends.count_named.Reads as count-named-reads
-use Rattle.semantic.proofs.ends.owner_of.Reads as owner-of-reads
-use Rattle.semantic.proofs.ends.resolve_connection_pattern.Reads as resolve-connection-pattern-reads
-use Rattle.trace.proofs.subcomponent_of.Reads as subcomponent-of-reads
 
 cast-conn : tie.Need-cast-conn
 cast-conn c = search needs
@@ -65,7 +58,7 @@ returns : tie.Need-returns
 returns c =
     let s = c .before .before .before .before .before .before .before .before .before .before .before .before .before .before .before .before .before .before .before .before .before .before .before .before in
     let a = s .args in
-    let m = tracingIn (a .bytes .now) (a .n .now) (a .c .now) (a .x .now) in
+    let m = wiringIn (a .bytes .now) (a .n .now) (a .c .now) (a .x .now) in
     written-as _ _ _ _ _ _ _ _
     (across-diags m (a .i) _ _ _ _ _ _ (no-child _ _ _ _ _ (named m source (a .i)) _ (c .before .before .before .before .before .before .before .before .before .before .before .before .before .before .before .before .before .before .count-named .ensures .0) (c .before .before .before .before .before .before .before .before .before .before .before .before .before .subcomponent-of .ensures) refl)
     (no-child _ _ _ _ _ (named m destination (a .i)) _ (c .before .before .before .before .before .before .before .before .before .before .before .before .before .before .before .before .before .count-named2 .ensures .0) (c .before .before .before .before .before .before .before .before .subcomponent-of2 .ensures) refl)

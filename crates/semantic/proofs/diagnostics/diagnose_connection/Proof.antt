@@ -1,18 +1,12 @@
+-- `semantic::diagnostics::diagnose_connection` meets its contract. By the shape: one law of DiagLaws for each. Assumes nothing.
 use Rattle.semantic.proofs.DiagLaws.{diags-at, faulty-diags, neither-diags}
-use Rattle.semantic.proofs.PairLaws.{written-as}
 use Rattle.semantic.proofs.Naming.{shape-same}
-use Rattle.trace.proofs.Writing.{written-none}
+use Rattle.trace.proofs.Writing.{written-none, written-as}
 use Prim.Native.Nat.{_-_}
 use mathlib.Core.Path.{_∙_}
 use borrow.Author.Needs.{needs}
 use Rattle.semantic.proofs.diagnostics.diagnose_connection.Statement.{statement}
 use Rattle.semantic.proofs.diagnostics.diagnose_connection.Tie as tie
-use Rattle.semantic.proofs.diagnostics.diagnose_connection.Reads as reads
-use Rattle.semantic.proofs.diagnostics.diagnose_connection.Lts as lts
-use Rattle.semantic.proofs.diagnostics.diagnose_across.Reads as diagnose-across-reads
-use Rattle.semantic.proofs.diagnostics.diagnose_edge.Reads as diagnose-edge-reads
-use Rattle.semantic.proofs.diagnostics.put_diagnostic.Reads as put-diagnostic-reads
-use Rattle.semantic.proofs.ends.shape_of.Reads as shape-of-reads
 
 shape-of-requires : tie.Need-shape-of-requires
 shape-of-requires c κs = search needs

@@ -1,21 +1,14 @@
+-- `semantic::diagnostics::diagnose_edge` meets its contract. One law of DiagLaws for each return. Assumes nothing.
 use Rattle.semantic.proofs.DiagLaws.{room-count, edge-none, edge-written}
-use Rattle.semantic.proofs.PairLaws.{written-as}
 use Rattle.as5506.specs.Tables.{present, cParent}
-use Rattle.trace.proofs.Writing.{written-none}
-use Rattle.trace.specs.Steps.{tracingIn, sideOf}
+use Rattle.lent.specs.Lent.{wiringIn}
+use Rattle.trace.proofs.Writing.{written-none, written-as}
+use Rattle.trace.specs.Steps.{sideOf}
 use Prim.Native.Nat.{ℕ, _-_}
 use mathlib.Core.Path.{sym, ap, _∙_}
 use borrow.Author.Needs.{needs}
 use Rattle.semantic.proofs.diagnostics.diagnose_edge.Statement.{statement}
 use Rattle.semantic.proofs.diagnostics.diagnose_edge.Tie as tie
-use Rattle.semantic.proofs.diagnostics.diagnose_edge.Reads as reads
-use Rattle.semantic.proofs.diagnostics.diagnose_edge.Lts as lts
-use Rattle.semantic.proofs.diagnostics.diagnose_if.Reads as diagnose-if-reads
-use Rattle.semantic.proofs.diagnostics.no_child_code.Reads as no-child-code-reads
-use Rattle.semantic.proofs.ends.count_named.Reads as count-named-reads
-use Rattle.semantic.proofs.ends.has_parent.Reads as has-parent-reads
-use Rattle.semantic.proofs.ends.owner_of.Reads as owner-of-reads
-use Rattle.trace.proofs.subcomponent_of.Reads as subcomponent-of-reads
 
 owner-of-requires : tie.Need-owner-of-requires
 owner-of-requires c κs = search needs
@@ -27,7 +20,7 @@ returns : tie.Need-returns
 returns c =
     let s = c .before .before .before .before .before .before .before .before in
     let a = s .args in
-    let m = tracingIn (a .bytes .now) (a .n .now) (a .c .now) (a .x .now) in
+    let m = wiringIn (a .bytes .now) (a .n .now) (a .c .now) (a .x .now) in
     written-as _ _ _ _ _ _ _ _ (edge-none m (a .i) (sideOf (a .side)) (ap (λ (o : ℕ). present (cParent m o)) (sym (c .before .before .owner-of .ensures)) ∙ sym (c .before .has-parent .ensures) ∙ c .if1 .taken)) (written-none _ _ _ _ (s .pre .2))
 
 count-named-requires : tie.Need-count-named-requires
@@ -52,7 +45,7 @@ returns-2 : tie.Need-returns-2
 returns-2 c =
     let s = c .before .before .before .before .before .before .before .before .before .before .before .before .before .before .before in
     let a = s .args in
-    let m = tracingIn (a .bytes .now) (a .n .now) (a .c .now) (a .x .now) in
+    let m = wiringIn (a .bytes .now) (a .n .now) (a .c .now) (a .x .now) in
     edge-written m (a .i) (sideOf (a .side)) (c .before .before .before .before .before .before .count-named .result) (c .before .before .before .subcomponent-of .result) (c .before .before .before .before .no-child-code .result) _ _ _ _ (ap (λ (o : ℕ). present (cParent m o)) (sym (c .before .before .before .before .before .before .before .before .before .owner-of .ensures)) ∙ sym (c .before .before .before .before .before .before .before .before .has-parent .ensures) ∙ c .before .before .before .before .before .before .before .if1 .left)
     (c .before .before .before .before .before .before .count-named .ensures .0) (c .before .before .before .subcomponent-of .ensures) (c .before .before .before .before .no-child-code .ensures) (c .before .before .diagnose-if .ensures)
 

@@ -1,12 +1,10 @@
+-- `semantic::diagnostics::diagnose_if` meets its contract. One law of DiagLaws for each return. Assumes nothing.
 use Rattle.semantic.proofs.DiagLaws.{if-not, if-count, if-full}
 use borrow.Author.Tests.{not-true, not-false}
 use Prim.Native.Nat.{_-_}
 use borrow.Author.Needs.{needs}
 use Rattle.semantic.proofs.diagnostics.diagnose_if.Statement.{statement}
 use Rattle.semantic.proofs.diagnostics.diagnose_if.Tie as tie
-use Rattle.semantic.proofs.diagnostics.diagnose_if.Reads as reads
-use Rattle.semantic.proofs.diagnostics.diagnose_if.Lts as lts
-use Rattle.semantic.proofs.diagnostics.put_diagnostic.Reads as put-diagnostic-reads
 
 returns : tie.Need-returns
 returns c = let s = c .before .before in if-not (s .args .test) _ _ (s .args .earlier) (not-true _ (c .if1 .taken)) (s .pre)

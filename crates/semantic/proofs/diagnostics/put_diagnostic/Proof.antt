@@ -1,12 +1,10 @@
+-- `semantic::diagnostics::put_diagnostic` meets its contract. The block that is written is the diagnostic's. Assumes nothing.
 use Rattle.semantic.proofs.DiagLaws.{diag-written}
 use Rattle.trace.specs.Writing.{Written}
 use native.Mathlib.Omega.{arith}
 use borrow.Author.Needs.{needs}
 use Rattle.semantic.proofs.diagnostics.put_diagnostic.Statement.{statement}
 use Rattle.semantic.proofs.diagnostics.put_diagnostic.Tie as tie
-use Rattle.semantic.proofs.diagnostics.put_diagnostic.Reads as reads
-use Rattle.semantic.proofs.diagnostics.put_diagnostic.Lts as lts
-use Rattle.lent.proofs.put_numbers.Reads as put-numbers-reads
 
 returns : tie.Need-returns
 unfolding Written

@@ -1,3 +1,4 @@
+-- `semantic::diagnostics::unequal` meets its contract. By the pattern. Assumes nothing.
 use Rattle.name.specs.Pattern.{saysOneToOne}
 use Rattle.name.specs.declared.ConnectionPattern.{ConnectionPattern}
 use lib.Dec.{eqb}
@@ -6,8 +7,6 @@ use mathlib.Core.Path.{sym, ap}
 use borrow.Author.Needs.{needs}
 use Rattle.semantic.proofs.diagnostics.unequal.Statement.{statement}
 use Rattle.semantic.proofs.diagnostics.unequal.Tie as tie
-use Rattle.semantic.proofs.diagnostics.unequal.Reads as reads
-use Rattle.semantic.proofs.diagnostics.unequal.Lts as lts
 
 enum-told : tie.Need-enum-told
 enum-told c = search needs

@@ -1,12 +1,8 @@
+-- `semantic::ends::count_named` meets its contract. The number of found children, for the owner and the name that the connection has. Assumes nothing.
 use Rattle.semantic.proofs.Naming.{named-count}
 use borrow.Author.Needs.{needs}
 use Rattle.semantic.proofs.ends.count_named.Statement.{statement}
 use Rattle.semantic.proofs.ends.count_named.Tie as tie
-use Rattle.semantic.proofs.ends.count_named.Reads as reads
-use Rattle.semantic.proofs.ends.count_named.Lts as lts
-use Rattle.children.proofs.count_children.Reads as count-children-reads
-use Rattle.semantic.proofs.ends.owner_of.Reads as owner-of-reads
-use Rattle.trace.proofs.subcomponent_of.Reads as subcomponent-of-reads
 
 owner-of-requires : tie.Need-owner-of-requires
 owner-of-requires c κs = search needs

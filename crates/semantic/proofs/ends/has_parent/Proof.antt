@@ -1,3 +1,4 @@
+-- `semantic::ends::has_parent` meets its contract. The second field of the row. Assumes nothing.
 use lib.Dec.{eqb}
 use mathlib.Core.Bool.{not}
 use Prim.Native.Nat.{ℕ, _-_}
@@ -5,9 +6,6 @@ use mathlib.Core.Path.{ap}
 use borrow.Author.Needs.{needs}
 use Rattle.semantic.proofs.ends.has_parent.Statement.{statement}
 use Rattle.semantic.proofs.ends.has_parent.Tie as tie
-use Rattle.semantic.proofs.ends.has_parent.Reads as reads
-use Rattle.semantic.proofs.ends.has_parent.Lts as lts
-use Rattle.lent.proofs.number_at.Reads as number-at-reads
 
 mul-number-at : tie.Need-mul-number-at
 mul-number-at c = search needs

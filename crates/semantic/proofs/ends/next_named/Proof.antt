@@ -1,12 +1,8 @@
+-- `semantic::ends::next_named` meets its contract. The search for a child, for the owner and the name that the connection has. Assumes nothing.
 use Rattle.semantic.proofs.Naming.{named-next}
 use borrow.Author.Needs.{needs}
 use Rattle.semantic.proofs.ends.next_named.Statement.{statement}
 use Rattle.semantic.proofs.ends.next_named.Tie as tie
-use Rattle.semantic.proofs.ends.next_named.Reads as reads
-use Rattle.semantic.proofs.ends.next_named.Lts as lts
-use Rattle.children.proofs.find_child_by_name.Reads as find-child-by-name-reads
-use Rattle.semantic.proofs.ends.owner_of.Reads as owner-of-reads
-use Rattle.trace.proofs.subcomponent_of.Reads as subcomponent-of-reads
 
 owner-of-requires : tie.Need-owner-of-requires
 owner-of-requires c κs = search needs

@@ -1,3 +1,4 @@
+-- `semantic::ends::resolve_connection_pattern` meets its contract. The last field of the row names the pattern. Assumes nothing.
 use Rattle.as5506.specs.Tracing.{oneToOne}
 use Rattle.as5506.specs.Names.{isOneToOne}
 use Rattle.as5506.specs.Tables.{present, nameIn}
@@ -7,10 +8,6 @@ use mathlib.Core.Path.{ap, _∙_}
 use borrow.Author.Needs.{needs}
 use Rattle.semantic.proofs.ends.resolve_connection_pattern.Statement.{statement}
 use Rattle.semantic.proofs.ends.resolve_connection_pattern.Tie as tie
-use Rattle.semantic.proofs.ends.resolve_connection_pattern.Reads as reads
-use Rattle.semantic.proofs.ends.resolve_connection_pattern.Lts as lts
-use Rattle.lent.proofs.number_at.Reads as number-at-reads
-use Rattle.name.proofs.pattern_of.Reads as pattern-of-reads
 
 mul-number-at : tie.Need-mul-number-at
 mul-number-at c = search needs

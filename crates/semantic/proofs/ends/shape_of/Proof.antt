@@ -1,3 +1,4 @@
+-- `semantic::ends::shape_of` meets its contract. By which fields are missing. Assumes nothing.
 use Rattle.as5506.proofs.Laws.{missing-is, present-is}
 use Rattle.semantic.proofs.Naming.{shape-is}
 use mathlib.Core.Bool.{true, false}
@@ -5,10 +6,6 @@ use mathlib.Core.Path.{refl}
 use borrow.Author.Needs.{needs}
 use Rattle.semantic.proofs.ends.shape_of.Statement.{statement}
 use Rattle.semantic.proofs.ends.shape_of.Tie as tie
-use Rattle.semantic.proofs.ends.shape_of.Reads as reads
-use Rattle.semantic.proofs.ends.shape_of.Lts as lts
-use Rattle.trace.proofs.feature_of.Reads as feature-of-reads
-use Rattle.trace.proofs.subcomponent_of.Reads as subcomponent-of-reads
 
 feature-of-requires : tie.Need-feature-of-requires
 feature-of-requires c κs = search needs

@@ -1,19 +1,15 @@
-use Rattle.semantic.proofs.PairLaws.{across-one, across-all, written-as}
+-- `semantic::pairs::trace_across` meets its contract. By the pattern: one law of PairLaws for each. Assumes nothing.
+use Rattle.trace.proofs.Writing.{written-as}
+use Rattle.semantic.proofs.PairLaws.{across-one, across-all}
 use Rattle.semantic.proofs.Naming.{pattern-same}
 use Rattle.name.specs.Pattern.{saysOneToOne}
 use Rattle.as5506.specs.Tracing.{oneToOne}
-use Rattle.trace.specs.Steps.{tracingIn}
+use Rattle.lent.specs.Lent.{wiringIn}
 use Prim.Native.Nat.{_-_}
 use mathlib.Core.Path.{sym, ap, _∙_}
 use borrow.Author.Needs.{needs}
 use Rattle.semantic.proofs.pairs.trace_across.Statement.{statement}
 use Rattle.semantic.proofs.pairs.trace_across.Tie as tie
-use Rattle.semantic.proofs.pairs.trace_across.Reads as reads
-use Rattle.semantic.proofs.pairs.trace_across.Lts as lts
-use Rattle.semantic.proofs.ends.owner_of.Reads as owner-of-reads
-use Rattle.semantic.proofs.ends.resolve_connection_pattern.Reads as resolve-connection-pattern-reads
-use Rattle.semantic.proofs.pairs.trace_all_to_all.Reads as trace-all-to-all-reads
-use Rattle.semantic.proofs.pairs.trace_one_to_one.Reads as trace-one-to-one-reads
 
 owner-of-requires : tie.Need-owner-of-requires
 owner-of-requires c κs = search needs
@@ -39,7 +35,7 @@ same-length c = search needs
 returns : tie.Need-returns
 returns c =
     let a = c .before .before .before .before .before .before .before .before .before .before .before .before .before .args in
-    let m = tracingIn (a .bytes .now) (a .n .now) (a .c .now) (a .x .now) in
+    let m = wiringIn (a .bytes .now) (a .n .now) (a .c .now) (a .x .now) in
     written-as _ _ _ _ _ _ _ _ (across-one m (a .i) (ap (oneToOne m) (sym (c .before .before .before .before .before .before .before .owner-of .ensures)) ∙ sym (pattern-same _ _ _ (a .x .now) _) ∙ sym (c .before .before .before .before .before .before .resolve-connection-pattern .ensures) ∙ ap saysOneToOne (c .before .before .before .before .enum-told .given .1))) (c .before .before .trace-one-to-one .ensures)
 
 same-length-2 : tie.Need-same-length-2
@@ -48,7 +44,7 @@ same-length-2 c = search needs
 returns-2 : tie.Need-returns-2
 returns-2 c =
     let a = c .before .before .before .before .before .before .before .before .before .before .before .before .before .args in
-    let m = tracingIn (a .bytes .now) (a .n .now) (a .c .now) (a .x .now) in
+    let m = wiringIn (a .bytes .now) (a .n .now) (a .c .now) (a .x .now) in
     written-as _ _ _ _ _ _ _ _ (across-all m (a .i) (ap (oneToOne m) (sym (c .before .before .before .before .before .before .before .owner-of .ensures)) ∙ sym (pattern-same _ _ _ (a .x .now) _) ∙ sym (c .before .before .before .before .before .before .resolve-connection-pattern .ensures) ∙ ap saysOneToOne (c .before .before .before .before .enum-told2 .given .1))) (c .before .before .trace-all-to-all .ensures)
 
 pub trace-across-spec : {M : Type 1} → statement M

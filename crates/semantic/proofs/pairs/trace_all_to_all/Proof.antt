@@ -1,29 +1,26 @@
-use Rattle.semantic.proofs.PairLaws.{turn, full, end, all-next, all-done, all-barren, written-as}
+-- `semantic::pairs::trace_all_to_all` meets its contract. The invariant: the rows of the source children from row j on remain to be written. The measure: how many those children are. Assumes nothing.
+use Rattle.semantic.proofs.PairLaws.{all-next, all-done, all-barren}
 use Rattle.trace.proofs.Scan.{fewer}
 use Rattle.semantic.specs.Rows.{namedFrom, rowsAll}
-use Rattle.trace.proofs.Writing.{Remains, remains-start, written-none}
-use Rattle.trace.specs.Steps.{tracingIn}
+use Rattle.trace.proofs.Writing.{Remains, remains-start, written-none, remains-turn, remains-full, remains-end, written-as}
 use Rattle.children.proofs.Scan.{after-at, after-nothing, inside-at}
 use Rattle.as5506.specs.Layout.{tracedBlock}
 use Rattle.as5506.specs.Tables.{source}
+use Rattle.lent.specs.Lent.{wiringIn}
 use lib.ListN.{length}
 use borrow.Author.Needs.{needs}
 use native.Mathlib.Omega.{arith}
 use mathlib.Core.Path.{_∙_}
 use Rattle.semantic.proofs.pairs.trace_all_to_all.Statement.{statement}
 use Rattle.semantic.proofs.pairs.trace_all_to_all.Tie as tie
-use Rattle.semantic.proofs.pairs.trace_all_to_all.Reads as reads
-use Rattle.semantic.proofs.pairs.trace_all_to_all.Lts as lts
-use Rattle.semantic.proofs.ends.next_named.Reads as next-named-reads
-use Rattle.semantic.proofs.pairs.trace_beside.Reads as trace-beside-reads
 
 abbrev Inv-loop : tie.InvT-loop
 Inv-loop bytes n c x out₀ i count done₀ j₀ out done j =
-    Remains 49 (tracedBlock (tracingIn bytes n c x)) (rowsAll (tracingIn bytes n c x) i (namedFrom (tracingIn bytes n c x) source i 0)) out₀ count
-    out done (rowsAll (tracingIn bytes n c x) i (namedFrom (tracingIn bytes n c x) source i j))
+    Remains 49 (tracedBlock (wiringIn bytes n c x)) (rowsAll (wiringIn bytes n c x) i (namedFrom (wiringIn bytes n c x) source i 0)) out₀ count
+    out done (rowsAll (wiringIn bytes n c x) i (namedFrom (wiringIn bytes n c x) source i j))
 
 abbrev μ-loop : tie.MeasureT-loop
-μ-loop bytes n c x out₀ i count done₀ j₀ out done j = length (namedFrom (tracingIn bytes n c x) source i j)
+μ-loop bytes n c x out₀ i count done₀ j₀ out done j = length (namedFrom (wiringIn bytes n c x) source i j)
 
 next-named-requires : tie.Need-next-named-requires Inv-loop μ-loop
 next-named-requires c κs = c .before .before .before .before .before .pre .3
@@ -51,7 +48,7 @@ same-length : tie.Need-same-length Inv-loop μ-loop
 same-length c = c .before .before .before .loop .inv .size
 
 returns-2 : tie.Need-returns-2 Inv-loop μ-loop
-returns-2 c = end _ _ _ _ _ _ _ _ (c .before .before .before .loop .inv) (all-done _ _ _ (after-nothing _ _ _ (c .before .before .next-named2 .ensures .0) (c .enum-told3 .given .1)))
+returns-2 c = remains-end _ _ _ _ _ _ _ _ (c .before .before .before .loop .inv) (all-done _ _ _ (after-nothing _ _ _ (c .before .before .next-named2 .ensures .0) (c .enum-told3 .given .1)))
 
 enum-known-k : tie.Need-enum-known-k Inv-loop μ-loop
 enum-known-k c = search needs
@@ -77,7 +74,7 @@ returns-3 : tie.Need-returns-3 Inv-loop μ-loop
 returns-3 c =
     let g = c .before .before .before .before .before .before .before .before .before .before .loop in
     let e = after-at _ _ _ _ (c .before .before .before .before .before .before .before .before .before .next-named2 .ensures .0) (c .before .before .before .before .before .before .before .k .given .1) in
-    full _ _ _ _ _ _ _ _ (g .inv) _ _ (all-next _ _ _ _ _ e) (c .before .before .before .before .trace-beside .result) _ (c .before .before .before .before .trace-beside .ensures) (c .enum-told4 .given .1) _
+    remains-full _ _ _ _ _ _ _ _ (g .inv) _ _ (all-next _ _ _ _ _ e) (c .before .before .before .before .trace-beside .result) _ (c .before .before .before .before .trace-beside .ensures) (c .enum-told4 .given .1) _
 
 enum-known-r : tie.Need-enum-known-r Inv-loop μ-loop
 enum-known-r c = search needs
@@ -96,7 +93,7 @@ loop-again : tie.Need-loop-again Inv-loop μ-loop
 loop-again c =
     let g = c .before .before .before .before .before .before .before .before .before .before .before .loop in
     let e = after-at _ _ _ _ (c .before .before .before .before .before .before .before .before .before .before .next-named2 .ensures .0) (c .before .before .before .before .before .before .before .before .k .given .1) in
-    turn _ _ _ _ _ _ _ _ (g .inv) _ _ (all-next _ _ _ _ _ e) (c .before .before .before .before .before .trace-beside .result) _ (c .before .before .before .before .before .trace-beside .ensures) _ (c .before .r .given .1)
+    remains-turn _ _ _ _ _ _ _ _ (g .inv) _ _ (all-next _ _ _ _ _ e) (c .before .before .before .before .before .trace-beside .result) _ (c .before .before .before .before .before .trace-beside .ensures) _ (c .before .r .given .1)
 
 pub trace-all-to-all-spec : {M : Type 1} → statement M
 trace-all-to-all-spec =

@@ -1,27 +1,25 @@
-use Rattle.semantic.proofs.PairLaws.{turn, full, end, beside-next, beside-done}
+-- `semantic::pairs::trace_beside` meets its contract. The invariant: the rows of the children from row j on remain to be written. The measure: how many those children are. Assumes nothing.
+use Rattle.semantic.proofs.PairLaws.{beside-next, beside-done}
 use Rattle.trace.proofs.Scan.{fewer}
 use Rattle.semantic.specs.Rows.{namedFrom, rowsBeside}
 use Rattle.children.proofs.Scan.{after-at, after-nothing, inside-at}
 use borrow.Author.Needs.{needs}
-use Rattle.trace.proofs.Writing.{Remains, remains-start}
-use Rattle.trace.specs.Steps.{tracingIn, sideOf}
+use Rattle.trace.proofs.Writing.{Remains, remains-start, remains-turn, remains-full, remains-end}
+use Rattle.trace.specs.Steps.{sideOf}
 use Rattle.as5506.specs.Layout.{tracedBlock}
+use Rattle.lent.specs.Lent.{wiringIn}
 use lib.ListN.{length}
 use Prim.Native.Nat.{_-_}
 use native.Mathlib.Omega.{arith}
 use mathlib.Core.Path.{_∙_}
 use Rattle.semantic.proofs.pairs.trace_beside.Statement.{statement}
 use Rattle.semantic.proofs.pairs.trace_beside.Tie as tie
-use Rattle.semantic.proofs.pairs.trace_beside.Reads as reads
-use Rattle.semantic.proofs.pairs.trace_beside.Lts as lts
-use Rattle.semantic.proofs.ends.next_named.Reads as next-named-reads
-use Rattle.semantic.proofs.pairs.trace_on.Reads as trace-on-reads
 
 abbrev Inv-loop : tie.InvT-loop
-Inv-loop bytes n c x out₀ i side far count done₀ j₀ out done j = Remains 49 (tracedBlock (tracingIn bytes n c x)) (rowsBeside (tracingIn bytes n c x) i (sideOf side) far (namedFrom (tracingIn bytes n c x) (sideOf side) i 0)) out₀ count out done (rowsBeside (tracingIn bytes n c x) i (sideOf side) far (namedFrom (tracingIn bytes n c x) (sideOf side) i j))
+Inv-loop bytes n c x out₀ i side far count done₀ j₀ out done j = Remains 49 (tracedBlock (wiringIn bytes n c x)) (rowsBeside (wiringIn bytes n c x) i (sideOf side) far (namedFrom (wiringIn bytes n c x) (sideOf side) i 0)) out₀ count out done (rowsBeside (wiringIn bytes n c x) i (sideOf side) far (namedFrom (wiringIn bytes n c x) (sideOf side) i j))
 
 abbrev μ-loop : tie.MeasureT-loop
-μ-loop bytes n c x out₀ i side far count done₀ j₀ out done j = length (namedFrom (tracingIn bytes n c x) (sideOf side) i j)
+μ-loop bytes n c x out₀ i side far count done₀ j₀ out done j = length (namedFrom (wiringIn bytes n c x) (sideOf side) i j)
 
 loop-holds : tie.Need-loop-holds Inv-loop μ-loop
 loop-holds c = remains-start _ _ _ _ _ (c .before .before .before .before .before .pre .2)
@@ -36,7 +34,7 @@ same-length : tie.Need-same-length Inv-loop μ-loop
 same-length c = c .before .before .before .loop .inv .size
 
 returns : tie.Need-returns Inv-loop μ-loop
-returns c = end _ _ _ _ _ _ _ _ (c .before .before .before .loop .inv) (beside-done _ _ _ _ _ (after-nothing _ _ _ (c .before .before .next-named .ensures .0) (c .enum-told .given .1)))
+returns c = remains-end _ _ _ _ _ _ _ _ (c .before .before .before .loop .inv) (beside-done _ _ _ _ _ (after-nothing _ _ _ (c .before .before .next-named .ensures .0) (c .enum-told .given .1)))
 
 enum-known-k : tie.Need-enum-known-k Inv-loop μ-loop
 enum-known-k c = search needs
@@ -62,7 +60,7 @@ returns-2 : tie.Need-returns-2 Inv-loop μ-loop
 returns-2 c =
     let g = c .before .before .before .before .before .before .before .before .before .before .loop in
     let e = after-at _ _ _ _ (c .before .before .before .before .before .before .before .before .before .next-named .ensures .0) (c .before .before .before .before .before .before .before .k .given .1) in
-    full _ _ _ _ _ _ _ _ (g .inv) _ _ (beside-next _ _ _ _ _ _ _ e) (c .before .before .before .before .trace-on .result) _ (c .before .before .before .before .trace-on .ensures) (c .enum-told2 .given .1) _
+    remains-full _ _ _ _ _ _ _ _ (g .inv) _ _ (beside-next _ _ _ _ _ _ _ e) (c .before .before .before .before .trace-on .result) _ (c .before .before .before .before .trace-on .ensures) (c .enum-told2 .given .1) _
 
 enum-known-r : tie.Need-enum-known-r Inv-loop μ-loop
 enum-known-r c = search needs
@@ -81,7 +79,7 @@ loop-again : tie.Need-loop-again Inv-loop μ-loop
 loop-again c =
     let g = c .before .before .before .before .before .before .before .before .before .before .before .loop in
     let e = after-at _ _ _ _ (c .before .before .before .before .before .before .before .before .before .before .next-named .ensures .0) (c .before .before .before .before .before .before .before .before .k .given .1) in
-    turn _ _ _ _ _ _ _ _ (g .inv) _ _ (beside-next _ _ _ _ _ _ _ e) (c .before .before .before .before .before .trace-on .result) _ (c .before .before .before .before .before .trace-on .ensures) _ (c .before .r .given .1)
+    remains-turn _ _ _ _ _ _ _ _ (g .inv) _ _ (beside-next _ _ _ _ _ _ _ e) (c .before .before .before .before .before .trace-on .result) _ (c .before .before .before .before .before .trace-on .ensures) _ (c .before .r .given .1)
 
 pub trace-beside-spec : {M : Type 1} → statement M
 trace-beside-spec =

@@ -1,16 +1,12 @@
-use Rattle.semantic.proofs.PairLaws.{rows-at, faulty-rows, neither-rows, written-as}
+-- `semantic::pairs::trace_connection` meets its contract. By the shape: one law of PairLaws for each. Assumes nothing.
+use Rattle.semantic.proofs.PairLaws.{rows-at, faulty-rows, neither-rows}
 use Rattle.semantic.proofs.Naming.{shape-same}
-use Rattle.trace.proofs.Writing.{written-none}
+use Rattle.trace.proofs.Writing.{written-none, written-as}
 use Prim.Native.Nat.{_-_}
 use mathlib.Core.Path.{_∙_}
 use borrow.Author.Needs.{needs}
 use Rattle.semantic.proofs.pairs.trace_connection.Statement.{statement}
 use Rattle.semantic.proofs.pairs.trace_connection.Tie as tie
-use Rattle.semantic.proofs.pairs.trace_connection.Reads as reads
-use Rattle.semantic.proofs.pairs.trace_connection.Lts as lts
-use Rattle.semantic.proofs.ends.shape_of.Reads as shape-of-reads
-use Rattle.semantic.proofs.pairs.trace_across.Reads as trace-across-reads
-use Rattle.semantic.proofs.pairs.trace_edge.Reads as trace-edge-reads
 
 shape-of-requires : tie.Need-shape-of-requires
 shape-of-requires c κs = search needs

@@ -1,21 +1,19 @@
-use Rattle.semantic.proofs.PairLaws.{rows-next, rows-done, rows-from-start, turn, full, end, written-as}
+-- `semantic::pairs::trace_connections` meets its contract. The invariant: the rows of the X rows from i on remain to be written. The measure: the rows of X that are left. Assumes nothing.
+use Rattle.semantic.proofs.PairLaws.{rows-next, rows-done, rows-from-start}
 use Rattle.semantic.specs.Rows.{rowsFrom}
 use borrow.Author.Needs.{needs}
-use Rattle.trace.proofs.Writing.{Remains, remains-start}
-use Rattle.trace.specs.Steps.{tracingIn}
+use Rattle.trace.proofs.Writing.{Remains, remains-start, remains-turn, remains-full, remains-end, written-as}
 use Rattle.as5506.specs.Layout.{tracedBlock}
+use Rattle.lent.specs.Lent.{wiringIn}
 use Prim.Native.Nat.{_-_, _≤_}
 use native.Mathlib.Omega.{arith}
 use mathlib.Core.Path.{sym, _∙_}
 use Rattle.semantic.proofs.pairs.trace_connections.Statement.{statement}
 use Rattle.semantic.proofs.pairs.trace_connections.Tie as tie
-use Rattle.semantic.proofs.pairs.trace_connections.Reads as reads
-use Rattle.semantic.proofs.pairs.trace_connections.Lts as lts
-use Rattle.semantic.proofs.pairs.trace_connection.Reads as trace-connection-reads
 
 abbrev Inv-loop : tie.InvT-loop
 Inv-loop bytes n c x out₀ rows done₀ i₀ out done i =
-    (i ≤ rows) × Remains 49 (tracedBlock (tracingIn bytes n c x)) (rowsFrom (tracingIn bytes n c x) 0) out₀ 0 out done (rowsFrom (tracingIn bytes n c x) i)
+    (i ≤ rows) × Remains 49 (tracedBlock (wiringIn bytes n c x)) (rowsFrom (wiringIn bytes n c x) 0) out₀ 0 out done (rowsFrom (wiringIn bytes n c x) i)
 
 abbrev μ-loop : tie.MeasureT-loop
 μ-loop bytes n c x out₀ rows done₀ i₀ out done i = rows - i
@@ -39,7 +37,7 @@ returns : tie.Need-returns Inv-loop μ-loop
 returns c =
     let g = c .before .before .before .before .before .before .before .loop in
     written-as _ _ _ _ _ _ _ _ (sym (rows-from-start _))
-    (full _ _ _ _ _ _ _ _ (g .inv .1) _ _ (rows-next _ _ (omega arith)) (c .before .before .before .before .trace-connection .result) _ (c .before .before .before .before .trace-connection .ensures) (c .enum-told .given .1) _)
+    (remains-full _ _ _ _ _ _ _ _ (g .inv .1) _ _ (rows-next _ _ (omega arith)) (c .before .before .before .before .trace-connection .result) _ (c .before .before .before .before .trace-connection .ensures) (c .enum-told .given .1) _)
 
 enum-known-r : tie.Need-enum-known-r Inv-loop μ-loop
 enum-known-r c = search needs
@@ -53,7 +51,7 @@ loop-less c = omega arith
 loop-again : tie.Need-loop-again Inv-loop μ-loop
 loop-again c =
     let g = c .before .before .before .before .before .before .before .before .loop in
-    (omega arith, turn _ _ _ _ _ _ _ _ (g .inv .1) _ _ (rows-next _ _ (omega arith)) (c .before .before .before .before .before .trace-connection .result) _ (c .before .before .before .before .before .trace-connection .ensures) _ (c .before .r .given .1))
+    (omega arith, remains-turn _ _ _ _ _ _ _ _ (g .inv .1) _ _ (rows-next _ _ (omega arith)) (c .before .before .before .before .before .trace-connection .result) _ (c .before .before .before .before .before .trace-connection .ensures) _ (c .before .r .given .1))
 
 same-length-2 : tie.Need-same-length-2 Inv-loop μ-loop
 same-length-2 c = c .before .loop .inv .1 .size
@@ -61,7 +59,7 @@ same-length-2 c = c .before .loop .inv .1 .size
 returns-2 : tie.Need-returns-2 Inv-loop μ-loop
 returns-2 c =
     let g = c .before .loop in
-    written-as _ _ _ _ _ _ _ _ (sym (rows-from-start _)) (end _ _ _ _ _ _ _ _ (g .inv .1) (rows-done _ _ (omega arith)))
+    written-as _ _ _ _ _ _ _ _ (sym (rows-from-start _)) (remains-end _ _ _ _ _ _ _ _ (g .inv .1) (rows-done _ _ (omega arith)))
 
 pub trace-connections-spec : {M : Type 1} → statement M
 trace-connections-spec =

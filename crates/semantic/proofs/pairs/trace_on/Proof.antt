@@ -1,11 +1,9 @@
+-- `semantic::pairs::trace_on` meets its contract. By the side. Assumes nothing.
 use Rattle.semantic.proofs.PairLaws.{on-source, on-destination}
 use Prim.Native.Nat.{_-_}
 use borrow.Author.Needs.{needs}
 use Rattle.semantic.proofs.pairs.trace_on.Statement.{statement}
 use Rattle.semantic.proofs.pairs.trace_on.Tie as tie
-use Rattle.semantic.proofs.pairs.trace_on.Reads as reads
-use Rattle.semantic.proofs.pairs.trace_on.Lts as lts
-use Rattle.semantic.proofs.pairs.trace_pair.Reads as trace-pair-reads
 
 enum-told : tie.Need-enum-told
 enum-told c = search needs

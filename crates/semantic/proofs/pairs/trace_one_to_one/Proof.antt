@@ -1,31 +1,28 @@
-use Rattle.semantic.proofs.PairLaws.{turn, full, end, zip-next, zip-done, zip-short}
+-- `semantic::pairs::trace_one_to_one` meets its contract. The invariant: the rows of the source children from s on and the destination children from d on, pair by pair, remain to be written. The measure: how many source children are left. Assumes nothing.
+use Rattle.semantic.proofs.PairLaws.{zip-next, zip-done, zip-short}
 use Rattle.trace.proofs.Scan.{fewer}
 use Rattle.semantic.specs.Rows.{namedFrom, rowsZip}
 use Rattle.children.proofs.Scan.{after-at, after-nothing, inside-at}
 use Rattle.as5506.specs.Tables.{source, destination}
 use borrow.Author.Needs.{needs}
-use Rattle.trace.proofs.Writing.{Remains, remains-start}
-use Rattle.trace.specs.Steps.{tracingIn}
+use Rattle.trace.proofs.Writing.{Remains, remains-start, remains-turn, remains-full, remains-end}
 use Rattle.as5506.specs.Layout.{tracedBlock}
+use Rattle.lent.specs.Lent.{wiringIn}
 use lib.ListN.{length}
 use Prim.Native.Nat.{_-_}
 use native.Mathlib.Omega.{arith}
 use mathlib.Core.Path.{_∙_}
 use Rattle.semantic.proofs.pairs.trace_one_to_one.Statement.{statement}
 use Rattle.semantic.proofs.pairs.trace_one_to_one.Tie as tie
-use Rattle.semantic.proofs.pairs.trace_one_to_one.Reads as reads
-use Rattle.semantic.proofs.pairs.trace_one_to_one.Lts as lts
-use Rattle.semantic.proofs.ends.next_named.Reads as next-named-reads
-use Rattle.semantic.proofs.pairs.trace_pair.Reads as trace-pair-reads
 
 abbrev Inv-loop : tie.InvT-loop
 Inv-loop bytes n c x out₀ i count done₀ s₀ d₀ out done s d =
-    Remains 49 (tracedBlock (tracingIn bytes n c x))
-    (rowsZip (tracingIn bytes n c x) i (namedFrom (tracingIn bytes n c x) source i 0) (namedFrom (tracingIn bytes n c x) destination i 0)) out₀ count
-    out done (rowsZip (tracingIn bytes n c x) i (namedFrom (tracingIn bytes n c x) source i s) (namedFrom (tracingIn bytes n c x) destination i d))
+    Remains 49 (tracedBlock (wiringIn bytes n c x))
+    (rowsZip (wiringIn bytes n c x) i (namedFrom (wiringIn bytes n c x) source i 0) (namedFrom (wiringIn bytes n c x) destination i 0)) out₀ count
+    out done (rowsZip (wiringIn bytes n c x) i (namedFrom (wiringIn bytes n c x) source i s) (namedFrom (wiringIn bytes n c x) destination i d))
 
 abbrev μ-loop : tie.MeasureT-loop
-μ-loop bytes n c x out₀ i count done₀ s₀ d₀ out done s d = length (namedFrom (tracingIn bytes n c x) source i s)
+μ-loop bytes n c x out₀ i count done₀ s₀ d₀ out done s d = length (namedFrom (wiringIn bytes n c x) source i s)
 
 loop-holds : tie.Need-loop-holds Inv-loop μ-loop
 loop-holds c = remains-start _ _ _ _ _ (c .before .before .before .before .before .pre .2)
@@ -43,7 +40,7 @@ same-length : tie.Need-same-length Inv-loop μ-loop
 same-length c = c .before .before .before .loop .inv .size
 
 returns : tie.Need-returns Inv-loop μ-loop
-returns c = end _ _ _ _ _ _ _ _ (c .before .before .before .loop .inv) (zip-done _ _ _ _ (after-nothing _ _ _ (c .before .before .next-named .ensures .0) (c .enum-told .given .1)))
+returns c = remains-end _ _ _ _ _ _ _ _ (c .before .before .before .loop .inv) (zip-done _ _ _ _ (after-nothing _ _ _ (c .before .before .next-named .ensures .0) (c .enum-told .given .1)))
 
 next-named-requires-2 : tie.Need-next-named-requires-2 Inv-loop μ-loop
 next-named-requires-2 c κs = c .before .before .before .before .before .before .before .before .before .before .pre .3
@@ -60,7 +57,7 @@ same-length-2 c = c .before .before .before .before .before .before .before .loo
 returns-2 : tie.Need-returns-2 Inv-loop μ-loop
 returns-2 c =
     let e = after-at _ _ _ _ (c .before .before .before .before .before .before .next-named .ensures .0) (c .before .before .before .before .a .given .1) in
-    end _ _ _ _ _ _ _ _ (c .before .before .before .before .before .before .before .loop .inv) (zip-short _ _ _ _ _ _ e (after-nothing _ _ _ (c .before .before .next-named2 .ensures .0) (c .enum-told2 .given .1)))
+    remains-end _ _ _ _ _ _ _ _ (c .before .before .before .before .before .before .before .loop .inv) (zip-short _ _ _ _ _ _ e (after-nothing _ _ _ (c .before .before .next-named2 .ensures .0) (c .enum-told2 .given .1)))
 
 cast-t20 : tie.Need-cast-t20 Inv-loop μ-loop
 cast-t20 c =
@@ -89,7 +86,7 @@ returns-3 c =
     let g = c .before .before .before .before .before .before .before .before .before .before .before .before .before .before .loop in
     let e = after-at _ _ _ _ (c .before .before .before .before .before .before .before .before .before .before .before .before .before .next-named .ensures .0) (c .before .before .before .before .before .before .before .before .before .before .before .a .given .1) in
     let f = after-at _ _ _ _ (c .before .before .before .before .before .before .before .before .before .next-named2 .ensures .0) (c .before .before .before .before .before .before .before .b .given .1) in
-    full _ _ _ _ _ _ _ _ (g .inv) _ _ (zip-next _ _ _ _ _ _ _ _ e f) (c .before .before .before .before .trace-pair .result) _ (c .before .before .before .before .trace-pair .ensures) (c .enum-told3 .given .1) _
+    remains-full _ _ _ _ _ _ _ _ (g .inv) _ _ (zip-next _ _ _ _ _ _ _ _ e f) (c .before .before .before .before .trace-pair .result) _ (c .before .before .before .before .trace-pair .ensures) (c .enum-told3 .given .1) _
 
 enum-known-r : tie.Need-enum-known-r Inv-loop μ-loop
 enum-known-r c = search needs
@@ -114,7 +111,7 @@ loop-again c =
     let g = c .before .before .before .before .before .before .before .before .before .before .before .before .before .before .before .loop in
     let e = after-at _ _ _ _ (c .before .before .before .before .before .before .before .before .before .before .before .before .before .before .next-named .ensures .0) (c .before .before .before .before .before .before .before .before .before .before .before .before .a .given .1) in
     let f = after-at _ _ _ _ (c .before .before .before .before .before .before .before .before .before .before .next-named2 .ensures .0) (c .before .before .before .before .before .before .before .before .b .given .1) in
-    turn _ _ _ _ _ _ _ _ (g .inv) _ _ (zip-next _ _ _ _ _ _ _ _ e f) (c .before .before .before .before .before .trace-pair .result) _ (c .before .before .before .before .before .trace-pair .ensures) _ (c .before .r .given .1)
+    remains-turn _ _ _ _ _ _ _ _ (g .inv) _ _ (zip-next _ _ _ _ _ _ _ _ e f) (c .before .before .before .before .before .trace-pair .result) _ (c .before .before .before .before .before .trace-pair .ensures) _ (c .before .r .given .1)
 
 pub trace-one-to-one-spec : {M : Type 1} → statement M
 trace-one-to-one-spec =

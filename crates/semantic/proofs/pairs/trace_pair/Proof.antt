@@ -1,3 +1,4 @@
+-- `semantic::pairs::trace_pair` meets its contract. The tracer's rows are the pair's. Assumes nothing.
 use Rattle.semantic.proofs.PairLaws.{pair-written, limit-low}
 use Rattle.trace.specs.Ends.{Fit}
 use Prim.Native.Nat.{_-_}
@@ -6,12 +7,6 @@ use mathlib.Core.Path.{refl}
 use borrow.Author.Needs.{needs}
 use Rattle.semantic.proofs.pairs.trace_pair.Statement.{statement}
 use Rattle.semantic.proofs.pairs.trace_pair.Tie as tie
-use Rattle.semantic.proofs.pairs.trace_pair.Reads as reads
-use Rattle.semantic.proofs.pairs.trace_pair.Lts as lts
-use Rattle.semantic.proofs.ends.component_of.Reads as component-of-reads
-use Rattle.semantic.proofs.ends.limit_of.Reads as limit-of-reads
-use Rattle.trace.proofs.feature_of.Reads as feature-of-reads
-use Rattle.trace.proofs.trace.Reads as trace-reads
 
 cast-path : tie.Need-cast-path
 cast-path c = search needs

@@ -1,7 +1,7 @@
 -- `text::diagnostics::put_sizes` meets its contract: five pieces, one behind the other. Assumes nothing.
 use borrow.Author.Needs.{needs}
 use Rattle.text.proofs.Added.{added-as, added-piece, added-then}
-use Rattle.text.proofs.Digits.{decimal-plain}
+use Rattle.text.proofs.Digits.{decimal-bare}
 use Rattle.text.proofs.diagnostics.put_sizes.Statement.{statement}
 use Rattle.text.proofs.diagnostics.put_sizes.Tie as tie
 
@@ -48,9 +48,9 @@ returns c =
     added-then
     (added-then
     (added-then
-    (added-then (added-piece (begun .append-bytes .ensures)) (added-as (decimal-plain _) (first .put-decimal .ensures)))
+    (added-then (added-piece (begun .append-bytes .ensures)) (added-as (decimal-bare _) (first .put-decimal .ensures)))
     (added-piece (between .append-bytes2 .ensures)))
-    (added-as (decimal-plain _) (second .put-decimal2 .ensures)))
+    (added-as (decimal-bare _) (second .put-decimal2 .ensures)))
     (added-piece (ended .append-bytes3 .ensures))
 
 pub put-sizes-spec : {M : Type 1} → statement M

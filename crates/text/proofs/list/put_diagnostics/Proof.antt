@@ -8,16 +8,16 @@ use lib.ListN.{drop}
 use Rattle.as5506.specs.Layout.{diagsBack}
 use Rattle.as5506.specs.Lists.{each}
 use Rattle.as5506.specs.Text.{diagText}
-use Rattle.text.specs.Printing.{printingIn}
+use Rattle.lent.specs.Lent.{wiringIn}
 use Rattle.text.proofs.Added.{Printing, printing-start, printing-turn, printing-end}
-use Rattle.text.proofs.Blocks.{block-length, diags-next, diags-done}
+use Rattle.text.proofs.Blocks.{part-length, diag-text-next, diag-text-done}
 use Rattle.text.proofs.list.put_diagnostics.Statement.{statement}
 use Rattle.text.proofs.list.put_diagnostics.Tie as tie
 
 abbrev Inv-loop : tie.InvT-loop
 Inv-loop bytes n c x list count text₀ used z₀ i₀ text z i =
-    Printing (each (diagText (printingIn bytes n c x)) (diagsBack count list)) text₀ used text z
-    (each (diagText (printingIn bytes n c x)) (diagsBack (count - i) (drop (i * 4) list)))
+    Printing (each (diagText (wiringIn bytes n c x)) (diagsBack count list)) text₀ used text z
+    (each (diagText (wiringIn bytes n c x)) (diagsBack (count - i) (drop (i * 4) list)))
 
 abbrev μ-loop : tie.MeasureT-loop
 μ-loop bytes n c x list count text₀ used z₀ i₀ text z i = count - i
@@ -26,7 +26,7 @@ loop-holds : tie.Need-loop-holds Inv-loop μ-loop
 loop-holds c =
     let s = c .before .before .before .before .before .before in
     printing-start
-    (ap (λ (k : ℕ). each (diagText (printingIn (s .args .bytes .now) (s .args .n .now) (s .args .c .now) (s .args .x .now))) (diagsBack k (s .args .list .now))) (sym (sub-zero (s .args .count))))
+    (ap (λ (k : ℕ). each (diagText (wiringIn (s .args .bytes .now) (s .args .n .now) (s .args .c .now) (s .args .x .now))) (diagsBack k (s .args .list .now))) (sym (sub-zero (s .args .count))))
 
 mul-from : tie.Need-mul-from Inv-loop μ-loop
 mul-from c = search needs
@@ -50,7 +50,7 @@ put-diagnostic-requires : tie.Need-put-diagnostic-requires Inv-loop μ-loop
 put-diagnostic-requires c κs =
     let l = c .before .before .before in
     let s = l .before .before .before .before .before .before .before in
-    block-length (s .args .list .now) (l .loop .i * 4) 4 (omega (arith, s .pre, c .before .before .loop-test .taken))
+    part-length (s .args .list .now) (l .loop .i * 4) 4 (omega (arith, s .pre, c .before .before .loop-test .taken))
 
 add-i : tie.Need-add-i Inv-loop μ-loop
 add-i c = search needs
@@ -64,7 +64,7 @@ loop-again c =
     let l = inside .before in
     let s = l .before .before .before .before .before .before .before in
     printing-turn (l .loop .inv)
-    (diags-next (s .args .bytes .now) (s .args .n .now) (s .args .c .now) (s .args .x .now) (s .args .list .now) (s .args .count) (l .loop .i) (inside .loop-test .taken))
+    (diag-text-next (s .args .bytes .now) (s .args .n .now) (s .args .c .now) (s .args .x .now) (s .args .list .now) (s .args .count) (l .loop .i) (inside .loop-test .taken))
     (c .before .before .put-diagnostic .ensures)
 
 same-length : tie.Need-same-length Inv-loop μ-loop
@@ -75,7 +75,7 @@ returns c =
     let l = c .before in
     let s = l .before .before .before .before .before .before .before in
     printing-end (l .loop .inv)
-    (diags-done (s .args .bytes .now) (s .args .n .now) (s .args .c .now) (s .args .x .now) (s .args .list .now) (s .args .count) (l .loop .i) (c .loop-test .left))
+    (diag-text-done (s .args .bytes .now) (s .args .n .now) (s .args .c .now) (s .args .x .now) (s .args .list .now) (s .args .count) (l .loop .i) (c .loop-test .left))
 
 pub put-diagnostics-spec : {M : Type 1} → statement M
 put-diagnostics-spec =

@@ -9,7 +9,7 @@ use Rattle.as5506.specs.Layout.{groupRowsBack}
 use Rattle.as5506.specs.Lists.{each}
 use Rattle.as5506.specs.Text.{rowText}
 use Rattle.text.proofs.Added.{Printing, printing-start, printing-turn, printing-end}
-use Rattle.text.proofs.Blocks.{block-length, group-next, group-done}
+use Rattle.text.proofs.Blocks.{part-length, group-text-next, group-text-done}
 use Rattle.text.proofs.list.put_group.Statement.{statement}
 use Rattle.text.proofs.list.put_group.Tie as tie
 
@@ -48,13 +48,13 @@ put-group-row-requires : tie.Need-put-group-row-requires Inv-loop μ-loop
 put-group-row-requires c κs =
     let l = c .before .before .before in
     let s = l .before .before .before .before in
-    block-length (s .args .rows .now) (l .loop .i * 49) 49 (omega (arith, s .pre, c .before .before .loop-test .taken))
+    part-length (s .args .rows .now) (l .loop .i * 49) 49 (omega (arith, s .pre, c .before .before .loop-test .taken))
 
 names-behind-requires : tie.Need-names-behind-requires Inv-loop μ-loop
 names-behind-requires c κs =
     let l = c .before .before .before .before .before .before in
     let s = l .before .before .before .before in
-    block-length (s .args .rows .now) (l .loop .i * 49) 49 (omega (arith, s .pre, c .before .before .before .before .before .loop-test .taken))
+    part-length (s .args .rows .now) (l .loop .i * 49) 49 (omega (arith, s .pre, c .before .before .before .before .before .loop-test .taken))
 
 add-i : tie.Need-add-i Inv-loop μ-loop
 add-i c = search needs
@@ -68,7 +68,7 @@ loop-again c =
     let l = inside .before in
     let s = l .before .before .before .before in
     printing-turn (l .loop .inv)
-    (group-next (s .args .rows .now) (s .args .names .now) (s .args .count) (l .loop .i) (l .loop .at) (c .names-behind .result) (inside .loop-test .taken) (c .names-behind .ensures))
+    (group-text-next (s .args .rows .now) (s .args .names .now) (s .args .count) (l .loop .i) (l .loop .at) (c .names-behind .result) (inside .loop-test .taken) (c .names-behind .ensures))
     (c .before .before .before .put-group-row .ensures)
 
 same-length : tie.Need-same-length Inv-loop μ-loop
@@ -78,7 +78,7 @@ returns : tie.Need-returns Inv-loop μ-loop
 returns c =
     let l = c .before in
     let s = l .before .before .before .before in
-    printing-end (l .loop .inv) (group-done (s .args .rows .now) (s .args .names .now) (s .args .count) (l .loop .i) (l .loop .at) (c .loop-test .left))
+    printing-end (l .loop .inv) (group-text-done (s .args .rows .now) (s .args .names .now) (s .args .count) (l .loop .i) (l .loop .at) (c .loop-test .left))
 
 pub put-group-spec : {M : Type 1} → statement M
 put-group-spec =

@@ -9,16 +9,16 @@ use lib.ListN.{drop}
 use Rattle.as5506.specs.Layout.{rowsBack}
 use Rattle.as5506.specs.Lists.{each}
 use Rattle.as5506.specs.Text.{rowText}
-use Rattle.text.specs.Printing.{printingIn}
+use Rattle.lent.specs.Lent.{namesIn, wiringIn}
 use Rattle.text.proofs.Added.{Printing, printing-start, printing-turn, printing-end}
-use Rattle.text.proofs.Blocks.{block-length, rows-next, rows-done}
+use Rattle.text.proofs.Blocks.{part-length, traced-text-next, traced-text-done}
 use Rattle.text.proofs.list.put_traced.Statement.{statement}
 use Rattle.text.proofs.list.put_traced.Tie as tie
 
 abbrev Inv-loop : tie.InvT-loop
 Inv-loop bytes n rows count text₀ used z₀ i₀ text z i =
-    Printing (each rowText (rowsBack (printingIn bytes n [] []) count rows)) text₀ used text z
-    (each rowText (rowsBack (printingIn bytes n [] []) (count - i) (drop (i * 49) rows)))
+    Printing (each rowText (rowsBack (namesIn bytes n) count rows)) text₀ used text z
+    (each rowText (rowsBack (namesIn bytes n) (count - i) (drop (i * 49) rows)))
 
 abbrev μ-loop : tie.MeasureT-loop
 μ-loop bytes n rows count text₀ used z₀ i₀ text z i = count - i
@@ -26,7 +26,7 @@ abbrev μ-loop : tie.MeasureT-loop
 loop-holds : tie.Need-loop-holds Inv-loop μ-loop
 loop-holds c =
     let s = c .before .before .before .before in
-    printing-start (ap (λ (k : ℕ). each rowText (rowsBack (printingIn (s .args .bytes .now) (s .args .n .now) [] []) k (s .args .rows .now))) (sym (sub-zero (s .args .count))))
+    printing-start (ap (λ (k : ℕ). each rowText (rowsBack (wiringIn (s .args .bytes .now) (s .args .n .now) [] []) k (s .args .rows .now))) (sym (sub-zero (s .args .count))))
 
 mul-from : tie.Need-mul-from Inv-loop μ-loop
 mul-from c = search needs
@@ -50,7 +50,7 @@ put-traced-row-requires : tie.Need-put-traced-row-requires Inv-loop μ-loop
 put-traced-row-requires c κs =
     let l = c .before .before .before in
     let s = l .before .before .before .before .before in
-    block-length (s .args .rows .now) (l .loop .i * 49) 49 (omega (arith, s .pre, c .before .before .loop-test .taken))
+    part-length (s .args .rows .now) (l .loop .i * 49) 49 (omega (arith, s .pre, c .before .before .loop-test .taken))
 
 add-i : tie.Need-add-i Inv-loop μ-loop
 add-i c = search needs
@@ -64,7 +64,7 @@ loop-again c =
     let l = inside .before in
     let s = l .before .before .before .before .before in
     printing-turn (l .loop .inv)
-    (rows-next (s .args .bytes .now) (s .args .n .now) (s .args .rows .now) (s .args .count) (l .loop .i) (inside .loop-test .taken))
+    (traced-text-next (s .args .bytes .now) (s .args .n .now) (s .args .rows .now) (s .args .count) (l .loop .i) (inside .loop-test .taken))
     (c .before .before .put-traced-row .ensures)
 
 same-length : tie.Need-same-length Inv-loop μ-loop
@@ -74,7 +74,7 @@ returns : tie.Need-returns Inv-loop μ-loop
 returns c =
     let l = c .before in
     let s = l .before .before .before .before .before in
-    printing-end (l .loop .inv) (rows-done (s .args .bytes .now) (s .args .n .now) (s .args .rows .now) (s .args .count) (l .loop .i) (c .loop-test .left))
+    printing-end (l .loop .inv) (traced-text-done (s .args .bytes .now) (s .args .n .now) (s .args .rows .now) (s .args .count) (l .loop .i) (c .loop-test .left))
 
 pub put-traced-spec : {M : Type 1} → statement M
 put-traced-spec =

@@ -1,0 +1,100 @@
+-- `group_list::match_in` meets its contract: accepted tables have few rows, and a part of a memory is as long as was asked for. Assumes nothing.
+use mathlib.Core.Path.{sym}
+use Prim.Native.Nat.{_/_}
+use native.Mathlib.Omega.{arith}
+use lib.ListN.{length}
+use lib.Seq.{length-take-le}
+use Rattle.as5506.specs.Tables.{Tables, tablesOf, letterN, letterU}
+use Rattle.tables.proofs.Facts.{facts}
+use borrow.Author.Needs.{needs}
+use Rattle.group_list.proofs.match_in.Statement.{statement}
+use Rattle.group_list.proofs.match_in.Tie as tie
+use Rattle.group_list.proofs.match_in.Reads as reads
+use Rattle.group_list.proofs.match_in.Lts as lts
+use Rattle.group_match.proofs.match_connections.Reads as match-connections-reads
+use Rattle.links.proofs.link_groups.Reads as link-groups-reads
+
+abbrev CL : lts.Claims
+CL = (link-groups-reads.Asked, link-groups-reads.Learnt, match-connections-reads.Asked, match-connections-reads.Learnt)
+
+-- the tables that are lent
+abbrev model : lts.Start CL reads.Pre reads.Post → Tables
+model s =
+    tablesOf (s .args .bytes .now) (s .args .n .now) (s .args .c .now) (s .args .f .now) (s .args .x .now) (s .args .p .now) (s .args .i .now) (s .args .t .now)
+    (s .args .q .now) (s .args .u .now) (s .args .e .now) (s .args .r .now)
+
+link-groups-requires : tie.Need-link-groups-requires
+link-groups-requires c κs =
+    let s = c .before .before .before .before .before .before .before .before .before .before .before .before .before .before .before .before .before .before .before .before .before .before .before in
+    let room = s .pre .1 .0 in
+    (facts (model s) (s .pre .0) .few letterU, room .0, room .1, room .2)
+
+mul-places : tie.Need-mul-places
+mul-places c = let s = c .before .before .before .before .before .before .before .before .before .before .before .before .before .before .before .before .before .before .before .before .before .before .before .before .before .before .before .before .before .before in omega (arith, facts (model s) (s .pre .0) .few letterU)
+
+slice-relend-prefix-match-connections : tie.Need-slice-relend-prefix-match-connections
+slice-relend-prefix-match-connections c = c .before .before .before .before .before .before .before .before .before .before .before .before .before .before .before .before .before .before .before .before .before .before .before .before .before .before .before .before .before .before .before .before .before .before .pre .1 .1 .0
+
+slice-aggregate-match-connections : tie.Need-slice-aggregate-match-connections
+slice-aggregate-match-connections c = let s = c .before .before .before .before .before .before .before .before .before .before .before .before .before .before .before .before .before .before .before .before .before .before .before .before .before .before .before .before .before .before .before .before .before .before .before in sym (length-take-le _ (s .args .memo .now) (s .pre .1 .1 .0))
+
+slice-relend-prefix-match-connections-2 : tie.Need-slice-relend-prefix-match-connections-2
+slice-relend-prefix-match-connections-2 c = c .before .before .before .before .before .before .before .before .before .before .before .before .before .before .before .before .before .before .before .before .before .before .before .before .before .before .before .before .before .before .before .before .before .before .before .pre .1 .1 .2
+
+slice-aggregate-match-connections-2 : tie.Need-slice-aggregate-match-connections-2
+slice-aggregate-match-connections-2 c = let s = c .before .before .before .before .before .before .before .before .before .before .before .before .before .before .before .before .before .before .before .before .before .before .before .before .before .before .before .before .before .before .before .before .before .before .before .before in sym (length-take-le _ (s .args .calm .now) (s .pre .1 .1 .2))
+
+match-connections-requires : tie.Need-match-connections-requires
+match-connections-requires c κs =
+    let s = c .before .before .before .before .before .before .before .before .before .before .before .before .before .before .before .before .before .before .before .before .before .before .before .before .before .before .before .before .before .before .before .before .before .before .before .before .before .before in
+    let room = s .pre .1 .1 in
+    let names = length-take-le (length (s .args .n .now) / 2) (s .args .memo .now) (room .0) in
+    (s .pre .0, (c .before .before .before .before .before .before .before .before .before .before .before .before .before .before .link-groups .ensures (s .args .c .now) (s .args .f .now) (s .args .x .now), (omega (arith, names), omega (arith, names, facts (model s) (s .pre .0) .few letterN), omega (arith, names, room .0, room .1))))
+
+same-length : tie.Need-same-length
+same-length c = search needs
+
+same-length-2 : tie.Need-same-length-2
+same-length-2 c = search needs
+
+same-length-3 : tie.Need-same-length-3
+same-length-3 c = search needs
+
+same-length-4 : tie.Need-same-length-4
+same-length-4 c = search needs
+
+same-length-5 : tie.Need-same-length-5
+same-length-5 c = search needs
+
+same-length-6 : tie.Need-same-length-6
+same-length-6 c = search needs
+
+same-length-7 : tie.Need-same-length-7
+same-length-7 c = search needs
+
+same-length-8 : tie.Need-same-length-8
+same-length-8 c = search needs
+
+returns : tie.Need-returns
+returns c = search needs
+
+pub match-in-spec : {M : Type 1} → statement M
+match-in-spec =
+    tie.close
+    (tie.spec
+    link-groups-requires
+    mul-places
+    slice-relend-prefix-match-connections
+    slice-aggregate-match-connections
+    slice-relend-prefix-match-connections-2
+    slice-aggregate-match-connections-2
+    match-connections-requires
+    same-length
+    same-length-2
+    same-length-3
+    same-length-4
+    same-length-5
+    same-length-6
+    same-length-7
+    same-length-8
+    returns)

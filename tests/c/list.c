@@ -1,0 +1,62 @@
+/* Prints the connection list of a sheet on standard input, as conlist does; then reads the sheet into tables, and sees that the calls over tables
+   agree with one another: the listings each by itself and both in one call. */
+#include "conlist.h"
+#include <stdio.h>
+#include <stdlib.h>
+#include <string.h>
+
+#define COUNT(slice) (sizeof(slice) / sizeof(slice)[0])
+#define WHOLE(slice) slice, COUNT(slice)
+
+/* what `conlist_read_sheet` tells of the tables, and of each table as much as was read */
+static uint64_t read[13];
+#define TABLES                                                                                                         \
+    bytes, read[1], n, read[2] * 2, c, read[3] * 6, f, read[4] * 3, x, read[5] * 7, p, read[6], i, read[7] * 2, t,     \
+        read[8] * 3, q, read[9] * 4, u, read[10] * 9, e, read[11] * 8, r, read[12] * 5
+
+static uint8_t sheet[16385], text[8192], bytes[16384];
+static uint32_t n[512], c[576], f[288], x[672], p[96], i[192], t[288], q[384], u[864], e[768], r[480];
+
+/* the outputs of a listing by itself, and of both in one call */
+static uint32_t rows[64 * 49], diagnostics[64 * 4], group_rows[64 * 49], group_diagnostics[64 * 4], features[64 * 14];
+static uint32_t both_rows[64 * 49], both_diagnostics[64 * 4], both_group_rows[64 * 49], both_group_diagnostics[64 * 4];
+static uint8_t names[4096], both_names[4096];
+
+static void expect(bool holds, const char *what) {
+    if (!holds) {
+        fprintf(stderr, "%s\n", what);
+        exit(1);
+    }
+}
+
+int main(void) {
+    size_t length = fread(sheet, 1, sizeof sheet, stdin);
+    fwrite(text, 1, conlist_list_sheet(sheet, length, WHOLE(text)), stdout);
+
+    conlist_read_sheet(sheet, length, WHOLE(bytes), WHOLE(n), WHOLE(c), WHOLE(f), WHOLE(x), WHOLE(p), WHOLE(i), WHOLE(t),
+                       WHOLE(q), WHOLE(u), WHOLE(e), WHOLE(r), read);
+    expect(read[0] == 0, "the sheet is refused");
+    uint64_t checked[3], traced[3], grouped[3], both[5], expanded[3];
+    conlist_check_tables(TABLES, checked);
+    expect(checked[0] == 0 && checked[1] == 0 && checked[2] == 0, "the tables are refused");
+    conlist_compute_semantic_connections(TABLES, WHOLE(rows), WHOLE(diagnostics), traced);
+    conlist_expand_feature_group_connections(TABLES, WHOLE(group_rows), WHOLE(names), WHOLE(group_diagnostics), grouped);
+    conlist_list_connections(TABLES, WHOLE(both_rows), WHOLE(both_diagnostics), WHOLE(both_group_rows), WHOLE(both_names),
+                             WHOLE(both_group_diagnostics), both);
+    expect(traced[0] == 0 && grouped[0] == 0 && both[0] == 0, "a listing is refused");
+    expect(both[1] == traced[1] && both[2] == traced[2] && both[3] == grouped[1] && both[4] == grouped[2], "other counts");
+    expect(memcmp(both_rows, rows, sizeof rows) == 0 && memcmp(both_diagnostics, diagnostics, sizeof diagnostics) == 0,
+           "another traced list");
+    expect(memcmp(both_group_rows, group_rows, sizeof group_rows) == 0 && memcmp(both_names, names, sizeof names) == 0 &&
+               memcmp(both_group_diagnostics, group_diagnostics, sizeof group_diagnostics) == 0,
+           "another group list");
+
+    /* the first number of a package is its name; a group type begins with its package and its name */
+    for (uint64_t row = 0; row < read[10]; row++) {
+        conlist_expand_feature_group(TABLES, WHOLE(features), p[u[row * 9]], u[row * 9 + 1], false, expanded);
+        expect(expanded[0] == 0 && expanded[2] > 0, "a group type is not found");
+        for (size_t place = expanded[1] * 14; place < COUNT(features); place++)
+            expect(features[place] == 0, "unused output of features is not zero");
+    }
+    return 0;
+}
