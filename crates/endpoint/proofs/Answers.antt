@@ -10,8 +10,7 @@ use Rattle.as5506.specs.Tables.{Tables, present, Side, nameOf, rowsNaming, chil
 use Rattle.as5506.specs.Names.{bracket}
 use Rattle.as5506.specs.Tracing.{isNamed, isElement, orElements, foundChildren, named}
 use Rattle.as5506.specs.GroupList.{endComponentBy, endComponent}
-use Rattle.as5506.proofs.Laws.{All, upTo-below, all-first}
-use Rattle.resolver.proofs.Scan.{all-kept}
+use Rattle.as5506.proofs.Laws.{All, upTo-below, all-first, all-kept}
 
 module _ (m : Tables) where
   abbrev Row : ℕ → Type 0

@@ -13,7 +13,7 @@ use lib.Seq.{sets, drop-cons, drop-drop}
 use Rattle.as5506.specs.Columns.{Column, needed, optional}
 use Rattle.as5506.specs.Fields.{space, unspaced, digit, decimalFrom, isDecimal, Field, value, dash, bad, fieldBy, fieldOf, fits, numberOf, fieldsFit, fieldNumbers}
 use Rattle.as5506.specs.Lists.{allOf, sameBytes, bytesOf}
-use Rattle.as5506.proofs.Laws.{and-false}
+use Rattle.as5506.proofs.Laws.{and-false, and-true}
 use Rattle.fields.specs.Fields.{valueIf, column, columnsBy, marked, marksOf}
 
 -- ---- spaces in front
@@ -54,10 +54,6 @@ ten-cap i h = pow-le-pow-right {n = 10} (omega arith) {i = i} {j = 5} (omega ari
 by-value : (d : Bool) (s : List ℕ) → valueIf d (decimalFrom 0 s) ≡ fieldBy false d s
 by-value true s = refl
 by-value false s = refl
-
-and-true : (b : Bool) → (b && true) ≡ b
-and-true true = refl
-and-true false = refl
 
 module _ (f : List ℕ) (i : ℕ) where
   pub decimal-none : i ≡ length f → bad ≡ fieldBy false (isDecimal (drop i f)) (drop i f)

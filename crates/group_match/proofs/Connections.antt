@@ -14,9 +14,9 @@ use Rattle.as5506.specs.Tracing.{named}
 use Rattle.as5506.specs.Groups.{Expansion}
 use Rattle.as5506.specs.Refusals.{accepted}
 use Rattle.as5506.specs.GroupList.{isGroupConnection, endComponentBy, endComponent, GroupConnection, groupConnection, groupOverrun, Match, partner, matchesBy, endpoint}
-use Rattle.lent.specs.Lent.{namesIn, wiringIn}
+use Rattle.lent.specs.Lent.{namesIn, wiringIn, wiringOf}
 use Rattle.tables.proofs.Facts.{facts}
-use Rattle.trace.proofs.Seen.{seen as seenBy, found-seen}
+use Rattle.trace.proofs.Seen.{found-seen}
 use Rattle.children.specs.declared.Child.{Child}
 use Rattle.endpoint.specs.Ends.{componentOf}
 use Rattle.endpoint.proofs.Answers.{end-row}
@@ -26,7 +26,7 @@ module _ (m : Tables) where
   -- ---- the component of an end, in the tables that its search sees
 
   abbrev seen : Tables
-  seen = seenBy m
+  seen = wiringOf m
 
   end-by-seen : (b : Bool) (s : Side) (x : ℕ) → endComponentBy b seen s x ≡ endComponentBy b m s x
   unfolding endComponentBy named

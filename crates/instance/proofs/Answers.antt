@@ -23,6 +23,7 @@ use Rattle.as5506.proofs.Laws.{not-both, zeros-length}
 use Rattle.as5506.proofs.Answers.{isGiven}
 use Rattle.as5506.proofs.Output.{demand-three-output}
 use Rattle.lent.specs.Answered.{AnswerIn}
+use Rattle.lent.specs.Lent.{wiringOf}
 use Rattle.lent.proofs.Answered.{given-in, refused-in, keeps, clears}
 use Rattle.tables.specs.declared.Checked.{Checked}
 use Rattle.tables.specs.declared.Checked.the-variants.{Refused as NotAccepted}
@@ -31,7 +32,6 @@ use Rattle.tables.proofs.Answers.{refused-is}
 use Rattle.trace.specs.declared.Wrote.{Wrote as Blocks}
 use Rattle.trace.specs.declared.Wrote.the-variants.{Count, Full}
 use Rattle.trace.specs.Writing.{Written}
-use Rattle.trace.proofs.Seen.{seen}
 use Rattle.instance.specs.declared.Listed.{Listed}
 use Rattle.instance.specs.declared.Listed.the-variants.{Rows, Refused}
 use Rattle.instance.specs.Answer.{listed, answerFor, TracedInto}
@@ -108,7 +108,7 @@ module _ (m : Tables) (rows diags : List ℕ) where
   tables-refused q e r f = let s = refused-is m q e r f in refuses (s .0) (ap (tracedOn room m) (s .2)) r (s .3)
 
   -- they are accepted: q and rows₁ are what tracing gives
-  module _ (ok : T (accepted m)) (q : Blocks) (rows₁ : List ℕ) (v : Written 49 (tracedBlock (seen m)) (traced stepLimit (seen m)) rows 0 q rows₁) where
+  module _ (ok : T (accepted m)) (q : Blocks) (rows₁ : List ℕ) (v : Written 49 (tracedBlock (wiringOf m)) (traced stepLimit (wiringOf m)) rows 0 q rows₁) where
     answer-is : theAnswer ≡ tracedWithin room (tracedList m)
     unfolding tracedAnswer tracedOn accepted
     answer-is = go (faults m) ok
@@ -126,7 +126,7 @@ module _ (m : Tables) (rows diags : List ℕ) where
     lists-11 e = refuses (refusal 11 nowhere) (answer-is ∙ within-11 room (tracedList m) (over 49 (tracedBlock m) (tracedList m .rows) rows q rows₁ rows-written e))
 
     -- the rows fit: p and diags₁ are what diagnosing gives
-    module _ (k : ℕ) (e : q ≡ Count k) (p : Blocks) (diags₁ : List ℕ) (u : Written 4 diagBlock (tracedDiags (seen m)) diags 0 p diags₁) where
+    module _ (k : ℕ) (e : q ≡ Count k) (p : Blocks) (diags₁ : List ℕ) (u : Written 4 diagBlock (tracedDiags (wiringOf m)) diags 0 p diags₁) where
       rows-fit : (k ≡ length (tracedList m .rows)) × (length (tracedList m .rows) ≤ room .rows) × (length (tracedRowNumbers m (tracedList m)) ≤ length rows) × (rows₁ ≡ sets rows 0 (tracedRowNumbers m (tracedList m)))
       unfolding tracedRowNumbers
       rows-fit = fit 49 (tracedBlock m) (tracedList m .rows) rows q rows₁ rows-written k e

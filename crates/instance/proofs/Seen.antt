@@ -7,11 +7,12 @@ use Rattle.as5506.specs.Tables.{Tables, present, Side, source, destination, nam
 use Rattle.as5506.specs.Rows.{Diag}
 use Rattle.as5506.specs.Tracing.{foundChildren, Step, Chain, leads, stepTo, stepsOver, steps, chainsBy, chains, Shape, faulty, across, upward, downward, neither, shape, named, oneToOne, Start, child, owner, Pair, pairAcross, pairUp, pairDown, pairsAcross, pairsEdge, pairsBy, pairs, Traced, rowOf, reach, pairRows, rowsAt, traced, diagsBy, diagsAt, tracedDiags}
 use Rattle.as5506.proofs.Laws.{all-of, each-same}
-use Rattle.trace.proofs.Seen.{seen as seenBy, found-seen}
+use Rattle.lent.specs.Lent.{wiringOf}
+use Rattle.trace.proofs.Seen.{found-seen}
 
 module _ (m : Tables) where
   abbrev seen : Tables
-  seen = seenBy m
+  seen = wiringOf m
 
   named-seen : (s : Side) (x : ℕ) → named seen s x ≡ named m s x
   unfolding named

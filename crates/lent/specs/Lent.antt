@@ -26,3 +26,6 @@ declaredIn bytes n e = tablesOf bytes n [] [] [] [] [] [] [] [] e []
 -- C and X rows
 abbrev pub wiringIn : List ℕ → List ℕ → List ℕ → List ℕ → Tables
 wiringIn bytes n c x = tablesOf bytes n c [] x [] [] [] [] [] [] []
+
+abbrev pub wiringOf : Tables → Tables
+wiringOf m = wiringIn (m .bytes) (m .n) (m .c) (m .x)

@@ -8,9 +8,8 @@ use lib.ListN.{length, getD, length-append}
 use Rattle.as5506.specs.Lists.{upTo}
 use Rattle.as5506.specs.Tables.{present, letterE, eHolderKind, eHolder, eName, rowsNaming}
 use Rattle.as5506.specs.Groups.{Feature, Expansion, depthLimit}
-use Rattle.as5506.proofs.Laws.{All, all-append, upTo-below}
+use Rattle.as5506.proofs.Laws.{All, all-append, upTo-below, all-kept}
 use Rattle.lent.specs.Lent.{declaredIn}
-use Rattle.resolver.proofs.Scan.{all-kept}
 use Rattle.links.specs.Links.{unfound}
 use Rattle.links.specs.Walk.{Groups, Visit, featureAt, rowBy, walk, rowsIn, extendedBy, typeBy, foundBy, visitLink}
 

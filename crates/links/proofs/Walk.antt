@@ -1,7 +1,7 @@
 -- WHAT CALLERS GET: an expansion over the tables of links is the definition's. Assumes nothing.
 use mathlib.Core.Bool.{Bool, true, false, not}
 use mathlib.Core.Path.{_≡_, refl, ap, ap₂, _∙_}
-use mathlib.Core.List.{List, [], _∷_, _++_, map}
+use mathlib.Core.List.{List, [], _∷_, _++_}
 use Prim.Native.Nat.{ℕ, zero, suc, _≤_, _<_}
 use native.Mathlib.Omega.{arith}
 use borrow.Author.Tests.{lt-ltb, eq-eqb, ne-eqb}
@@ -12,14 +12,10 @@ use Rattle.as5506.specs.Tables.{Tables, missing, present, letterU, letterE, cou
 use Rattle.as5506.specs.Resolve.{Resolved, componentType, componentImpl, groupType, unresolved, resolve}
 use Rattle.as5506.specs.Groups.{Expansion, joined, oneVisit, isNested, featureBy, featuresWalked, visitWithin}
 use Rattle.as5506.specs.Groups as groups
-use Rattle.as5506.proofs.Laws.{All, all-map, all-keep, upTo-below}
+use Rattle.as5506.proofs.Laws.{All, all-map, all-keep, upTo-below, map-same}
 use Rattle.resolver.proofs.Answers.{InTables, resolved-in}
 use Rattle.links.specs.Links.{unfound, groupRow, linkOf, linkIn, extendsLink, inverseLink, nestedLink, Linked}
 use Rattle.links.specs.Walk.{Groups, groupsIn, Visit, rowBy, walk, rowsIn, extendedBy, typeBy, foundBy, visitLink}
-
-map-same : (f g : ℕ → Expansion) (xs : List ℕ) → All (λ x. f x ≡ g x) xs → map f xs ≡ map g xs
-map-same f g [] t = refl
-map-same f g (x ∷ xs) t = ap₂ _∷_ (t .0) (map-same f g xs (t .1))
 
 module _ (m : Tables) (few : count m letterU ≤ 4096) where
   -- ---- a link is missing where there is no reference, and there only

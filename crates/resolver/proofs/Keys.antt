@@ -1,5 +1,5 @@
 -- A scan by a key of parts is the definition's scan, for each table. Assumes nothing.
-use mathlib.Core.Bool.{Bool, true, false, _&&_}
+use mathlib.Core.Bool.{Bool, _&&_}
 use mathlib.Core.Path.{_≡_, refl, sym, ap, _∙_}
 use mathlib.Core.List.{List}
 use Prim.Native.Nat.{ℕ, _-_, _/_}
@@ -14,12 +14,9 @@ use Rattle.resolver.specs.declared.Key.{Key}
 use Rattle.resolver.specs.declared.Part.the-variants.{Number, Name, Any}
 use Rattle.resolver.specs.Keys.{hasPart, hasKey, rowHasKey, rowsWithKey}
 use Rattle.as5506.proofs.Scans.{keep-both, keep-same}
+use Rattle.as5506.proofs.Laws.{and-true}
 
 -- a part that asks for nothing
-and-any : (a : Bool) → a && true ≡ a
-and-any true = refl
-and-any false = refl
-
 -- ---- the rows with a key, by a test that says the same
 
 module _ (bytes n table : List ℕ) (width : ℕ) (k : Key) (p : ℕ → Bool) (same : (i : ℕ) → rowHasKey bytes n table width k i ≡ p i) where
@@ -40,7 +37,7 @@ naming m l g p = keep-both p (λ i. eqb (at m l i 0) g) (upTo (count m l))
 module _ (m : Tables) where
   package-key : (k i : ℕ) → rowHasKey (m .bytes) (m .n) (m .p) 1 (Name k, Any, Any) i ≡ sameBytes (key m (pName m i)) (key m k)
   unfolding rowHasKey hasKey hasPart sameFolded key
-  package-key k i = and-any (sameBytes (key m (pName m i)) (key m k))
+  package-key k i = and-true (sameBytes (key m (pName m i)) (key m k))
 
   pub package-found : (k : ℕ) → firstOf (rowsWithKey (m .bytes) (m .n) (m .p) 1 0 (Name k, Any, Any)) ≡ packageNamed m (key m k)
   unfolding packageNamed
@@ -49,7 +46,7 @@ module _ (m : Tables) where
   -- T and U: a package and a name
   name-key : (l : Letter) (g k i : ℕ) → rowHasKey (m .bytes) (m .n) (table m l) (width l) (Number g, Name k, Any) i ≡ eqb (at m l i 0) g && sameBytes (key m (at m l i 1)) (key m k)
   unfolding rowHasKey hasKey hasPart sameFolded key
-  name-key l g k i = ap (λ (b : Bool). eqb (at m l i 0) g && b) (and-any (sameBytes (key m (at m l i 1)) (key m k)))
+  name-key l g k i = ap (λ (b : Bool). eqb (at m l i 0) g && b) (and-true (sameBytes (key m (at m l i 1)) (key m k)))
 
   named : (l : Letter) (g k : ℕ) → rowsWithKey (m .bytes) (m .n) (table m l) (width l) 0 (Number g, Name k, Any) ≡ keep (λ i. sameBytes (key m (at m l i 1)) (key m k)) (rowsNaming m l (λ i. at m l i 0) g)
   named l g k =
@@ -89,7 +86,7 @@ module _ (m : Tables) where
 
   import-key : (g i : ℕ) → rowHasKey (m .bytes) (m .n) (m .i) 2 (Number g, Any, Any) i ≡ eqb (iPackage m i) g
   unfolding rowHasKey hasKey hasPart
-  import-key g i = and-any (eqb (iPackage m i) g)
+  import-key g i = and-true (eqb (iPackage m i) g)
 
   pub import-rows : (g start : ℕ) → rowsWithKey (m .bytes) (m .n) (m .i) 2 start (Number g, Any, Any) ≡ keep (λ i. eqb (iPackage m i) g) (span start (count m letterI - start))
   import-rows g start = rows-by (m .bytes) (m .n) (m .i) 2 (Number g, Any, Any) (λ i. eqb (iPackage m i) g) (import-key g) start

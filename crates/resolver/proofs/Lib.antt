@@ -1,13 +1,11 @@
 -- Laws of resolving. For callers: Scan, Tests and Answers.
 --
 --     Scan      the rows that pass a test, from a row on, and the row that is found
---     Tests     a test of parts, one after the other
 --     Keys      a scan by a key is the definition's
 --     Rows      a row that is found by its key is one of its table and of its package
 --     Steps     what each step of the code says of the definition
 --     Answers   what is found is a row, and the definition's answer is read off the code's
 pub mod Scan
-pub mod Tests
 mod Keys
 mod Rows
 mod Steps

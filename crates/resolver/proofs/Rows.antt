@@ -9,8 +9,7 @@ use Rattle.as5506.specs.Lists.{upTo, keep, firstOf, sameBytes}
 use Rattle.as5506.specs.Tables.{Tables, present, Letter, letterP, letterT, letterQ, letterU, letterR, count, at, rowsNaming, Ref, pName, tPackage, tName, qPackage, qType, qImpl, uPackage, uName, rPackage, rWhat, rAlias, renamesOf}
 use Rattle.as5506.specs.Names.{key}
 use Rattle.as5506.specs.Resolve.{packageNamed, typeNamed, implNamed, groupNamed, renamesNamed, renamesFor}
-use Rattle.as5506.proofs.Laws.{All, all-keep, all-append, upTo-below, all-first}
-use Rattle.resolver.proofs.Scan.{all-kept}
+use Rattle.as5506.proofs.Laws.{All, all-keep, all-append, upTo-below, all-first, all-kept}
 
 -- ---- rows by their keys
 

@@ -8,7 +8,6 @@ use native.Mathlib.Nat.{div-mul-le-self, mul-le-mul-right, suc-mul}
 use native.Mathlib.Numerals.{add-one}
 use native.Mathlib.Omega.{arith}
 use Rattle.as5506.specs.Lists.{span, putIf, keep, firstOf}
-use Rattle.as5506.proofs.Laws.{All, all-keep}
 use Rattle.resolver.specs.declared.Found.{Found}
 use Rattle.resolver.specs.declared.Found.the-variants.{At, Nothing}
 use Rattle.resolver.specs.Found.{rowOf}
@@ -16,10 +15,6 @@ use Rattle.resolver.specs.Found.{rowOf}
 -- a row of a table of whole rows lies within the table
 pub row-within : (len width i : ℕ) → i < len / width → i * width + width ≤ len
 row-within len width i h = omega (arith, div-mul-le-self len width, mul-le-mul-right width h, suc-mul i width)
-
--- whatever all rows have, those that pass have
-pub all-kept : (P : ℕ → Type 0) (p : ℕ → Bool) (xs : List ℕ) → All P xs → All P (keep p xs)
-all-kept P p xs t = all-keep P P p (λ x u h. h) xs t
 
 -- ---- the first row from i on: a row from i on, and the others follow it
 

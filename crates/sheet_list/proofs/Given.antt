@@ -22,11 +22,12 @@ use Rattle.as5506.specs.declared.Refusal.{Refusal as Told}
 use Rattle.as5506.proofs.Laws.{All, all-of, all-each, not-both, nil-left, nil-right, nil-when}
 use Rattle.as5506.proofs.Back.{ShortPath, ShortRow, traced-back, group-back, traced-diags-back, group-diags-back}
 use Rattle.as5506.proofs.Ends.{traced-short}
+use Rattle.lent.specs.Lent.{wiringOf}
 use Rattle.listing.specs.declared.Both.{Both}
 use Rattle.listing.specs.declared.Both.the-variants.{Rows, Refused}
 use Rattle.listing.specs.Answer.{listed}
 use Rattle.text.specs.Printing.{listOf, refusalOf}
-use Rattle.text.proofs.Printed.{list-printed, refusal-printed, four, list-same, traced-same}
+use Rattle.text.proofs.Printed.{list-printed, refusal-printed, list-same, traced-same}
 
 -- ---- what holds of an answer that is given
 
@@ -159,16 +160,16 @@ module _ (room room′ : Room) (m : Tables) (k d l g : ℕ) where
   -- the list that is printed from the outputs, of n₁ to n₅ numbers, is the definition's; n: the length of the output of text
   pub list-given : (n n₁ n₂ n₃ n₄ n₅ : ℕ) (a : Answer BothLists) → Holds (BothFit room room′) a → Rows k d l g ≡ listed a
       → textOrRefusal (textWithin n
-      (listOf (four m) (rowsBack (four m) k (output n₁ (ofTraced (tracedRowNumbers m)) a))
+      (listOf (wiringOf m) (rowsBack (wiringOf m) k (output n₁ (ofTraced (tracedRowNumbers m)) a))
       (groupRowsBack l (output n₃ (ofGroup groupRowNumbers) a) (output n₄ (ofGroup composedNames) a))
       (diagsBack d (output n₂ (ofTraced tracedDiagNumbers) a)) (diagsBack g (output n₅ (ofGroup groupDiagNumbers) a))))
       ≡ printedOrRefusal n m a
   unfolding printedOrRefusal printed
   list-given n n₁ n₂ n₃ n₄ n₅ (given b) h e = ap (λ (t : List ℕ). textOrRefusal (textWithin n t)) (back ∙ sym (list-same m _ _ _ _) ∙ sym (list-printed m b))
     where
-      traced-is : rowsBack (four m) k (padded n₁ (tracedRowNumbers m (b .traced))) ≡ map (shown m) (b .traced .rows)
+      traced-is : rowsBack (wiringOf m) k (padded n₁ (tracedRowNumbers m (b .traced))) ≡ map (shown m) (b .traced .rows)
       traced-is =
-          ap (λ (c : ℕ). rowsBack (four m) c (padded n₁ (tracedRowNumbers m (b .traced)))) (ap tracedRows e)
+          ap (λ (c : ℕ). rowsBack (wiringOf m) c (padded n₁ (tracedRowNumbers m (b .traced)))) (ap tracedRows e)
           ∙ sym (traced-same m (length (b .traced .rows)) (padded n₁ (tracedRowNumbers m (b .traced)))) ∙ traced-back m n₁ (b .traced) (h .traced .short)
 
       group-is : groupRowsBack l (padded n₃ (groupRowNumbers (b .group))) (padded n₄ (composedNames (b .group))) ≡ b .group .rows
@@ -182,11 +183,11 @@ module _ (room room′ : Room) (m : Tables) (k d l g : ℕ) where
       group-diags-are : diagsBack g (padded n₅ (groupDiagNumbers (b .group))) ≡ b .group .diags
       group-diags-are = ap (λ (c : ℕ). diagsBack c (padded n₅ (groupDiagNumbers (b .group)))) (ap groupDiags e) ∙ group-diags-back n₅ (b .group)
 
-      back : listOf (four m) (rowsBack (four m) k (padded n₁ (tracedRowNumbers m (b .traced))))
+      back : listOf (wiringOf m) (rowsBack (wiringOf m) k (padded n₁ (tracedRowNumbers m (b .traced))))
           (groupRowsBack l (padded n₃ (groupRowNumbers (b .group))) (padded n₄ (composedNames (b .group))))
           (diagsBack d (padded n₂ (tracedDiagNumbers (b .traced)))) (diagsBack g (padded n₅ (groupDiagNumbers (b .group))))
-          ≡ listOf (four m) (map (shown m) (b .traced .rows)) (b .group .rows) (b .traced .diags) (b .group .diags)
-      back = λ i. listOf (four m) (traced-is i) (group-is i) (diags-are i) (group-diags-are i)
+          ≡ listOf (wiringOf m) (map (shown m) (b .traced .rows)) (b .group .rows) (b .traced .diags) (b .group .diags)
+      back = λ i. listOf (wiringOf m) (traced-is i) (group-is i) (diags-are i) (group-diags-are i)
   list-given n n₁ n₂ n₃ n₄ n₅ (refused r) h e = absurd (not-both isRows (Rows k d l g) (Refused (told r)) e tt refl)
 
 -- a refusal of the listings is printed as it is handed over

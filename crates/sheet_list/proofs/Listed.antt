@@ -10,11 +10,11 @@ use Rattle.as5506.specs.Layout.{roomIn, rowsBack, groupRowsBack, diagsBack}
 use Rattle.as5506.specs.Text.{textWithin}
 use Rattle.as5506.specs.Program.{room, namesLent, textOrRefusal, printedOrRefusal}
 use Rattle.as5506.specs.declared.Refusal.{Refusal as Told}
+use Rattle.lent.specs.Lent.{wiringOf}
 use Rattle.listing.specs.declared.Both.{Both}
 use Rattle.listing.specs.declared.Both.the-variants.{Rows, Refused}
 use Rattle.listing.specs.Answer.{listed, Outputs, outputs, answerFor, BothInto}
 use Rattle.text.specs.Printing.{listOf, refusalOf}
-use Rattle.text.proofs.Printed.{four}
 use Rattle.sheet_list.proofs.Given.{both-fit, counts-fit, list-given, listing-refused}
 
 -- outputs of 64 rows and 64 diagnostics each, and 4,096 bytes of names
@@ -57,12 +57,12 @@ module _ (m : Tables) (z : Both) (p : Outputs) (h : BothInto m noOutputs z p) wh
 
   -- and their list is the definition's
   pub text-listed : (n k d l g : ℕ) → z ≡ Rows k d l g
-      → textOrRefusal (textWithin n (listOf (four m) (rowsBack (four m) k (p .rows)) (groupRowsBack l (p .group-rows) (p .names)) (diagsBack d (p .diags)) (diagsBack g (p .group-diags))))
+      → textOrRefusal (textWithin n (listOf (wiringOf m) (rowsBack (wiringOf m) k (p .rows)) (groupRowsBack l (p .group-rows) (p .names)) (diagsBack d (p .diags)) (diagsBack g (p .group-diags))))
       ≡ printedOrRefusal n m (bothAnswer room room namesLent m)
   text-listed n k d l g e =
       let tracedRoom = roomIn (length (zeros 3136)) (length (zeros 256)) in
       let groupRoom = roomIn (length (zeros 3136)) (length (zeros 256)) in
-      (λ i. textOrRefusal (textWithin n (listOf (four m) (rowsBack (four m) k (h .written-rows i)) (groupRowsBack l (h .written-group-rows i) (h .written-names i))
+      (λ i. textOrRefusal (textWithin n (listOf (wiringOf m) (rowsBack (wiringOf m) k (h .written-rows i)) (groupRowsBack l (h .written-group-rows i) (h .written-names i))
       (diagsBack d (h .written-diagnostics i)) (diagsBack g (h .written-group-diagnostics i)))))
       ∙ list-given tracedRoom groupRoom m k d l g n (length (zeros 3136)) (length (zeros 256)) (length (zeros 3136)) (length (zeros 4096)) (length (zeros 256)) (answerFor m noOutputs)
       (both-fit tracedRoom groupRoom (length (zeros 4096)) m) (sym e ∙ h .answer)

@@ -14,7 +14,7 @@ use Rattle.as5506.specs.Listing.{BothLists}
 use Rattle.as5506.specs.Layout.{rowsBack}
 use Rattle.as5506.specs.Text.{rowText, textLine, pathNames, diagText, numberLine, listText, refusalText}
 use Rattle.as5506.proofs.Laws.{all-of, each-same, each-map}
-use Rattle.lent.specs.Lent.{wiringIn}
+use Rattle.lent.specs.Lent.{wiringOf}
 use Rattle.text.specs.Printing.{listOf, refusalOf}
 use Rattle.text.proofs.Blocks.{rows-same}
 use Rattle.text.proofs.Messages.{message-same}
@@ -29,28 +29,25 @@ refusal-printed r = refl
 
 -- ---- of the tables only names, components and connections are asked for
 
-abbrev pub four : Tables → Tables
-four m = wiringIn (m .bytes) (m .n) (m .c) (m .x)
-
-paths-same : (m : Tables) (d : Diag) (b : Bool) → pathNames m d b ≡ pathNames (four m) d b
+paths-same : (m : Tables) (d : Diag) (b : Bool) → pathNames m d b ≡ pathNames (wiringOf m) d b
 unfolding pathNames
 paths-same m d true = refl
 paths-same m d false = refl
 
-diag-same : (m : Tables) (d : Diag) → diagText m d ≡ diagText (four m) d
+diag-same : (m : Tables) (d : Diag) → diagText m d ≡ diagText (wiringOf m) d
 unfolding diagText
 diag-same m d =
     ap₂
     (λ (s : List ℕ) (l : List (List ℕ)). numberLine (bytesOf "D") (d .code ∷ d .conn ∷ d .one ∷ d .two ∷ []) ++ textLine (bytesOf "!") s ++ each (textLine (bytesOf "@")) l)
-    (message-same m _ (d .code) (d .one) (d .two) ∙ sym (message-same (four m) _ (d .code) (d .one) (d .two)))
+    (message-same m _ (d .code) (d .one) (d .two) ∙ sym (message-same (wiringOf m) _ (d .code) (d .one) (d .two)))
     (paths-same m d (ltb (d .code) 5))
 
-diags-same : (m : Tables) (l : List Diag) → each (diagText m) l ≡ each (diagText (four m)) l
-diags-same m l = each-same (diagText m) (diagText (four m)) l (all-of (λ d. diagText m d ≡ diagText (four m) d) (diag-same m) l)
+diags-same : (m : Tables) (l : List Diag) → each (diagText m) l ≡ each (diagText (wiringOf m)) l
+diags-same m l = each-same (diagText m) (diagText (wiringOf m)) l (all-of (λ d. diagText m d ≡ diagText (wiringOf m) d) (diag-same m) l)
 
-pub list-same : (m : Tables) (traced group : List Row) (diags groupDiags : List Diag) → listOf m traced group diags groupDiags ≡ listOf (four m) traced group diags groupDiags
+pub list-same : (m : Tables) (traced group : List Row) (diags groupDiags : List Diag) → listOf m traced group diags groupDiags ≡ listOf (wiringOf m) traced group diags groupDiags
 unfolding listOf
 list-same m traced group diags groupDiags = rw (diags-same m diags, diags-same m groupDiags)
 
-pub traced-same : (m : Tables) (count : ℕ) (out : List ℕ) → rowsBack m count out ≡ rowsBack (four m) count out
-traced-same m count out = rows-same m out count ∙ sym (rows-same (four m) out count)
+pub traced-same : (m : Tables) (count : ℕ) (out : List ℕ) → rowsBack m count out ≡ rowsBack (wiringOf m) count out
+traced-same m count out = rows-same m out count ∙ sym (rows-same (wiringOf m) out count)

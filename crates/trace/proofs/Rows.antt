@@ -19,7 +19,7 @@ use Rattle.trace.specs.declared.Wrote.the-variants.{Count, Full}
 use Rattle.trace.specs.Steps.{sideOf, stepsFrom, step}
 use Rattle.trace.specs.Ends.{theEnd, behind, rowAlong, rowsAtEnd, rowsBehind, Fit}
 use Rattle.trace.specs.Writing.{Written}
-use Rattle.as5506.proofs.Laws.{each-append, padded-length}
+use Rattle.as5506.proofs.Laws.{each-append, padded-length, each-one}
 use Rattle.lent.specs.Lent.{connectionsIn, wiringIn}
 use Rattle.trace.proofs.Writing.{Remains, remains-start, remains-turn, remains-full, remains-end}
 use Rattle.trace.proofs.Chains.{via, chains-on}
@@ -75,10 +75,6 @@ unfolding rowsBehind rowsAtEnd
 rows-last m x k o p c f = rw (append-nil p)
 
 -- a source chain that has ended: the rows of the destination's chains
-each-one : (g : Chain → Traced) (l : List Chain) → each (λ d. g d ∷ []) l ≡ map g l
-each-one g [] = refl
-each-one g (d ∷ l) = ap (λ (r : List Traced). g d ∷ r) (each-one g l)
-
 rows-over : (m : Tables) (x k : ℕ) (o : Chain) (p : List ℕ) (c f : ℕ)
     → rowsBehind m source x k o p (stop c f ∷ []) ≡ rowsBehind m destination x k (theEnd c f p) (o .path) (chains m destination k (o .comp) (o .feat))
 unfolding rowsBehind rowsAtEnd

@@ -2,9 +2,9 @@
 use Prim.Native.Nat.{_*_}
 use borrow.Author.Needs.{needs}
 use Rattle.as5506.specs.Groups.{featureKindGroup}
+use Rattle.as5506.proofs.Laws.{part-fails, part-holds}
 use Rattle.lent.specs.Lent.{declaredIn}
 use Rattle.endpoint.specs.Ends.{isDeclared}
-use Rattle.resolver.proofs.Tests.{part-fails, part-holds}
 use Rattle.endpoint.proofs.Tests.{equal, other, first-field, same-key}
 use Rattle.endpoint.proofs.is_declared_group.Statement.{statement}
 use Rattle.endpoint.proofs.is_declared_group.Tie as tie

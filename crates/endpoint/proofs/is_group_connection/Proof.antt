@@ -3,9 +3,8 @@ use mathlib.Core.Path.{ap}
 use borrow.Author.Needs.{needs}
 use Rattle.as5506.specs.Tables.{present}
 use Rattle.as5506.specs.GroupList.{isGroupConnection}
-use Rattle.resolver.proofs.Tests.{part-fails, part-holds}
 use Rattle.endpoint.proofs.Tests.{equal, other}
-use Rattle.as5506.proofs.Laws.{missing-is, present-is}
+use Rattle.as5506.proofs.Laws.{missing-is, present-is, part-fails, part-holds}
 use Rattle.endpoint.proofs.is_group_connection.Statement.{statement}
 use Rattle.endpoint.proofs.is_group_connection.Tie as tie
 

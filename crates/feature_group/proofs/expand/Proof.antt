@@ -6,12 +6,6 @@ use Rattle.tables.proofs.Facts.{facts}
 use borrow.Author.Needs.{needs}
 use Rattle.feature_group.proofs.expand.Statement.{statement}
 use Rattle.feature_group.proofs.expand.Tie as tie
-use Rattle.feature_group.proofs.expand.Reads as reads
-use Rattle.feature_group.proofs.expand.Lts as lts
-use Rattle.feature_group.proofs.write_features.Reads as write-features-reads
-use Rattle.links.proofs.link.Reads as link-reads
-use Rattle.links.proofs.link_groups.Reads as link-groups-reads
-use Rattle.tables.proofs.check_tables.Reads as check-tables-reads
 
 check-tables-requires : tie.Need-check-tables-requires
 check-tables-requires c κs = search needs

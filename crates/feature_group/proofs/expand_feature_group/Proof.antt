@@ -4,10 +4,6 @@ use Rattle.as5506.specs.Tables.{tablesOf}
 use borrow.Author.Needs.{needs}
 use Rattle.feature_group.proofs.expand_feature_group.Statement.{statement}
 use Rattle.feature_group.proofs.expand_feature_group.Tie as tie
-use Rattle.feature_group.proofs.expand_feature_group.Reads as reads
-use Rattle.feature_group.proofs.expand_feature_group.Lts as lts
-use Rattle.feature_group.proofs.expand.Reads as expand-reads
-use Rattle.lent.proofs.clear_numbers.Reads as clear-numbers-reads
 
 clear-numbers-requires : tie.Need-clear-numbers-requires
 clear-numbers-requires c κs = search needs

@@ -7,10 +7,6 @@ use native.Mathlib.Omega.{arith}
 use borrow.Author.Needs.{needs}
 use Rattle.feature_group.proofs.write_features.Statement.{statement}
 use Rattle.feature_group.proofs.write_features.Tie as tie
-use Rattle.feature_group.proofs.write_features.Reads as reads
-use Rattle.feature_group.proofs.write_features.Lts as lts
-use Rattle.as5506.proofs.unplaced.Reads as unplaced-reads
-use Rattle.group_walk.proofs.visit.Reads as visit-reads
 
 slice-aggregate-visit : tie.Need-slice-aggregate-visit
 slice-aggregate-visit c = search needs

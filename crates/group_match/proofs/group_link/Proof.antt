@@ -3,10 +3,6 @@ use Rattle.group_match.proofs.Groups.{link-none, link-some}
 use borrow.Author.Needs.{needs}
 use Rattle.group_match.proofs.group_link.Statement.{statement}
 use Rattle.group_match.proofs.group_link.Tie as tie
-use Rattle.group_match.proofs.group_link.Reads as reads
-use Rattle.group_match.proofs.group_link.Lts as lts
-use Rattle.endpoint.proofs.endpoint.Reads as endpoint-reads
-use Rattle.links.proofs.link.Reads as link-reads
 
 endpoint-requires : tie.Need-endpoint-requires
 endpoint-requires c κs = tt

@@ -9,9 +9,6 @@ use Rattle.group_match.proofs.Loop.{Goes, goes-start, goes-end, goes-ov
 use borrow.Author.Needs.{needs}
 use Rattle.group_match.proofs.match_connections.Statement.{statement}
 use Rattle.group_match.proofs.match_connections.Tie as tie
-use Rattle.group_match.proofs.match_connections.Reads as reads
-use Rattle.group_match.proofs.match_connections.Lts as lts
-use Rattle.group_match.proofs.match_connection.Reads as match-connection-reads
 
 abbrev Inv-loop : tie.InvT-loop
 Inv-loop bytes n c f x p i t q u e r nested extends inverse kept₀ memo₀ calm₀ rows₀ notes₀ count tally₀ row₀ kept memo calm rows notes tally row =

@@ -6,10 +6,6 @@ use Rattle.group_match.proofs.Groups.{matched-over, prepared-ready, mat
 use borrow.Author.Needs.{needs}
 use Rattle.group_match.proofs.match_groups.Statement.{statement}
 use Rattle.group_match.proofs.match_groups.Tie as tie
-use Rattle.group_match.proofs.match_groups.Reads as reads
-use Rattle.group_match.proofs.match_groups.Lts as lts
-use Rattle.group_match.proofs.prepare.Reads as prepare-reads
-use Rattle.group_match.proofs.walk.Reads as walk-reads
 
 prepare-requires : tie.Need-prepare-requires
 prepare-requires c κs = c .before .before .before .before .before .before .before .before .before .before .before .before .before .before .pre .0

@@ -5,9 +5,6 @@ use Rattle.group_match.proofs.Groups.{ready-first, prepares-none, prepa
 use borrow.Author.Needs.{needs}
 use Rattle.group_match.proofs.prepare.Statement.{statement}
 use Rattle.group_match.proofs.prepare.Tie as tie
-use Rattle.group_match.proofs.prepare.Reads as reads
-use Rattle.group_match.proofs.prepare.Lts as lts
-use Rattle.group_match.proofs.walk.Reads as walk-reads
 
 returns : tie.Need-returns
 returns c = prepares-none _ _ _ _ _ _ _ _ _ (c .if1 .taken)

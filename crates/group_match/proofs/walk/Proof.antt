@@ -6,10 +6,6 @@ use Rattle.group_walk.proofs.Calm.{passable-zeros}
 use Rattle.group_match.proofs.Groups.{cleared-ready, cleared-passable, cleared-run}
 use Rattle.group_match.proofs.walk.Statement.{statement}
 use Rattle.group_match.proofs.walk.Tie as tie
-use Rattle.group_match.proofs.walk.Reads as reads
-use Rattle.group_match.proofs.walk.Lts as lts
-use Rattle.group_walk.proofs.visit.Reads as visit-reads
-use Rattle.lent.proofs.clear_numbers.Reads as clear-numbers-reads
 
 clear-numbers-requires : tie.Need-clear-numbers-requires
 clear-numbers-requires c κs = tt

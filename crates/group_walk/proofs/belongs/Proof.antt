@@ -2,9 +2,6 @@ use Rattle.group_walk.proofs.Laws.{not-of, of-by}
 use borrow.Author.Needs.{needs}
 use Rattle.group_walk.proofs.belongs.Statement.{statement}
 use Rattle.group_walk.proofs.belongs.Tie as tie
-use Rattle.group_walk.proofs.belongs.Reads as reads
-use Rattle.group_walk.proofs.belongs.Lts as lts
-use Rattle.lent.proofs.number_at.Reads as number-at-reads
 
 -- src/lib.rt:48:17
 mul-place : tie.Need-mul-place

@@ -1,8 +1,6 @@
 use Rattle.group_walk.proofs.Laws.{turn-none, turn-in, turn-out, turn-other}
 use Rattle.group_walk.proofs.turn.Statement.{statement}
 use Rattle.group_walk.proofs.turn.Tie as tie
-use Rattle.group_walk.proofs.turn.Reads as reads
-use Rattle.group_walk.proofs.turn.Lts as lts
 
 -- src/lib.rt:32:9
 returns : tie.Need-returns

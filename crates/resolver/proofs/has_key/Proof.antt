@@ -7,9 +7,9 @@ use native.Mathlib.Nat.{add-zero}
 use lib.ListN.{getD}
 use borrow.Author.Needs.{needs}
 use borrow.Author.Tests.{not-true, not-false}
+use Rattle.as5506.proofs.Laws.{part-fails, part-holds}
 use Rattle.resolver.specs.Keys.{hasPart, hasKey}
 use Rattle.resolver.specs.declared.Part.{Part}
-use Rattle.resolver.proofs.Tests.{part-fails, part-holds}
 use Rattle.resolver.proofs.has_key.Statement.{statement}
 use Rattle.resolver.proofs.has_key.Tie as tie
 

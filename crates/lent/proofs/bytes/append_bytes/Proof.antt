@@ -8,9 +8,6 @@ use Rattle.lent.specs.Append.{filled}
 use Rattle.lent.proofs.Append.{append-fits, append-full}
 use Rattle.lent.proofs.bytes.append_bytes.Statement.{statement}
 use Rattle.lent.proofs.bytes.append_bytes.Tie as tie
-use Rattle.lent.proofs.bytes.append_bytes.Reads as reads
-use Rattle.lent.proofs.bytes.append_bytes.Lts as lts
-use Rattle.lent.proofs.bytes.put_bytes.Reads as put-bytes-reads
 
 add-result : tie.Need-add-result
 add-result c = search needs

@@ -8,9 +8,6 @@ use Rattle.lent.specs.Append.{filled}
 use Rattle.lent.proofs.Append.{append-fits, append-full}
 use Rattle.lent.proofs.numbers.append_numbers.Statement.{statement}
 use Rattle.lent.proofs.numbers.append_numbers.Tie as tie
-use Rattle.lent.proofs.numbers.append_numbers.Reads as reads
-use Rattle.lent.proofs.numbers.append_numbers.Lts as lts
-use Rattle.lent.proofs.numbers.put_numbers.Reads as put-numbers-reads
 
 add-result : tie.Need-add-result
 add-result c = search needs
