@@ -1,6 +1,7 @@
 /* Prints the connection list of a sheet on standard input, as conlist does; then reads the sheet into tables, and sees that the calls over tables
-   agree with one another: the listings each by itself and both in one call. */
+   agree with one another: the listings each by itself and both in one call, and diagnostics as numbers and as records. */
 #include "conlist.h"
+#include "diagnostics.h"
 #include <stdio.h>
 #include <stdlib.h>
 #include <string.h>
@@ -21,6 +22,7 @@ static uint32_t n[512], c[576], f[288], x[672], p[96], i[192], t[288], q[384], u
 static uint32_t rows[64 * 49], diagnostics[64 * 4], group_rows[64 * 49], group_diagnostics[64 * 4], features[64 * 14];
 static uint32_t both_rows[64 * 49], both_diagnostics[64 * 4], both_group_rows[64 * 49], both_group_diagnostics[64 * 4];
 static uint8_t names[4096], both_names[4096];
+static struct diagnostic records[64];
 
 static void expect(bool holds, const char *what) {
     if (!holds) {
@@ -50,6 +52,12 @@ int main(void) {
     expect(memcmp(both_group_rows, group_rows, sizeof group_rows) == 0 && memcmp(both_names, names, sizeof names) == 0 &&
                memcmp(both_group_diagnostics, group_diagnostics, sizeof group_diagnostics) == 0,
            "another group list");
+
+    diagnostics_fill(WHOLE(records), WHOLE(diagnostics));
+    for (size_t row = 0; row < COUNT(records); row++)
+        expect(records[row].code == diagnostics[row * 4] && records[row].connection == diagnostics[row * 4 + 1] &&
+                   records[row].first == diagnostics[row * 4 + 2] && records[row].second == diagnostics[row * 4 + 3],
+               "another record");
 
     /* the first number of a package is its name; a group type begins with its package and its name */
     for (uint64_t row = 0; row < read[10]; row++) {

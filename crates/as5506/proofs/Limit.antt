@@ -22,10 +22,6 @@ abbrev weight : List ℕ → ℕ
 weight [] = 1
 weight (x ∷ xs) = 2 * weight xs
 
-weight-pos : (p : List ℕ) → 0 < weight p
-weight-pos [] = le-refl 1
-weight-pos (x ∷ xs) = omega (arith, weight-pos xs)
-
 weight-append : (p q : List ℕ) → weight (p ++ q) ≡ weight p * weight q
 weight-append [] q = sym (one-mul (weight q))
 weight-append (x ∷ xs) q = ap (λ (n : ℕ). 2 * n) (weight-append xs q) ∙ sym (mul-assoc 2 (weight xs) (weight q))

@@ -40,7 +40,7 @@ groupBlock r = rowBlock (r .conn) (r .kind) (r .src) (r .dst) (length (r .name))
 unfoldable pub diagBlock : Diag → List ℕ
 diagBlock d = d .code ∷ d .conn ∷ d .one ∷ d .two ∷ []
 
--- a feature of an expansion: name, kind, direction, and its prefix, a name for each visit that it may lie below the first
+-- a feature of an expansion: name, kind, direction, the length of its prefix, and the prefix, a name for each visit that it may lie below the first
 abbrev pub featureNumbers : ℕ
 featureNumbers = 14
 

@@ -58,13 +58,13 @@ pub fn end_component(bytes: &[u8], n: &[u32], c: &[u32], x: &[u32], side: Side, 
 }
 
 // Whether names j and k are the same feature's: case ignored.
-fn same_feature(bytes: &[u8], n: &[u32], j: u32, k: u32) -> bool
+fn same_folded_feature(bytes: &[u8], n: &[u32], j: u32, k: u32) -> bool
     ensures { λ z. ⌜ z ≡ sameFolded (nameIn (now (bytes .entry)) (now (n .entry)) j) (nameIn (now (bytes .entry)) (now (n .entry)) k) ⌝ }
 {
     name::same_folded_names(bytes, n, j, k)
 }
 
-// Whether F row i is a feature of a component that is a group and has a name, case ignored.
+// Whether F row i is a feature of the component, is a group, and has the wanted name, case ignored.
 fn is_group_feature(
     bytes: &[u8],
     n: &[u32],
@@ -85,7 +85,7 @@ fn is_group_feature(
     if number_at(f, place + 2) != FEATURE_KIND {
         return false;
     }
-    same_feature(bytes, n, number_at(f, place), feature)
+    same_folded_feature(bytes, n, number_at(f, place), feature)
 }
 
 // Whether a component has such a feature.
@@ -105,7 +105,7 @@ fn has_group_feature(bytes: &[u8], n: &[u32], f: &[u32], component: u32, feature
     false
 }
 
-// Whether E row i is a feature of a component type that is a group and has a name, case ignored.
+// Whether E row i is a feature of the component type, is a group, and has the wanted name, case ignored.
 fn is_declared_group(
     bytes: &[u8],
     n: &[u32],
@@ -129,7 +129,7 @@ fn is_declared_group(
     if number_at(e, place + 3) != FEATURE_KIND {
         return false;
     }
-    same_feature(bytes, n, number_at(e, place + 2), feature)
+    same_folded_feature(bytes, n, number_at(e, place + 2), feature)
 }
 
 // The first such feature.

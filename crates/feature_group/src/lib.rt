@@ -40,6 +40,7 @@ fn write_features(
     ensures { λ z. ⌜ z ≡ expanded (expansionWithin (length (now (out .entry)) / 14) (visitLink (groupsIn (now (e .entry)) (now (nested .entry)) (now (extends .entry)) (now (inverses .entry))) (suc depthLimit) to inverse [])) ⌝ }
     ensures { λ _. ⌜ AnswerIn expansionNumbers (expansionWithin (length (now (out .entry)) / 14) (visitLink (groupsIn (now (e .entry)) (now (nested .entry)) (now (extends .entry)) (now (inverses .entry))) (suc depthLimit) to inverse [])) (now (out .entry)) (now (out .exit)) ⌝ }
 {
+    // The purpose uses only `out` and `calm`; a walk asks for the other three, so they have one place each.
     let kept = [0u32; 1];
     let mut memo = [0u32; 1];
     let mut notes = [0u32; 1];

@@ -31,7 +31,7 @@ pub enum GroupListed {
 }
 
 // Matches the groups of all connections of accepted tables in room that is lent: for the links of E and U rows, for a feature and a number of each
-// name, and for what is known of visits. The last two are cleared for each walk, so no more of them is handed on than the tables have use for.
+// name, and for what is known of visits. `memo` and `calm` are cleared for each walk, so no more of them is handed on than the tables have use for.
 fn match_in(
     bytes: &[u8],
     n: &[u32],
@@ -193,7 +193,7 @@ fn match_large(
     )
 }
 
-// Matches them in the small room where it is enough: all of a room is set to zeros before it is used.
+// Matches them in the small room where it is enough, else in the large one: a room is set to zeros before it is used, so a small one costs less.
 fn match_all(
     bytes: &[u8],
     n: &[u32],

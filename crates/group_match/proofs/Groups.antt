@@ -69,16 +69,16 @@ module _ (m : Tables) (component feature : ℕ) (a : Asked) (asked : expandedAt 
   pub link-none : a ≡ NoGroup → (g : Groups) → groupAt g missing ≡ endpoint m component feature
   link-none e g = group-none g missing refl ∙ sym (ap (expandedAt m) e) ∙ asked
 
-  module _ (few : count m letterU ≤ 4096) (nested extends inverse : List ℕ) (k : Linked m nested extends inverse) where
+  module _ (few : count m letterU ≤ 4096) (nested extends inverses : List ℕ) (k : Linked m nested extends inverses) where
     pub link-some : (from name z : ℕ) → a ≡ Group from name → z ≡ linkOf m from (ref missing name missing)
-        → groupAt (groupsIn (m .e) nested extends inverse) z ≡ endpoint m component feature
+        → groupAt (groupsIn (m .e) nested extends inverses) z ≡ endpoint m component feature
     unfolding expand expandFeatureGroup
     link-some from name z e l =
         let r : Ref = ref missing name missing in
-        let g : Groups = groupsIn (m .e) nested extends inverse in
+        let g : Groups = groupsIn (m .e) nested extends inverses in
         ap (groupAt g) l
         ∙ group-some g (linkOf m from r) (link-there m few from r)
-        ∙ ap some (linked m nested extends inverse k few (suc depthLimit) from r false [])
+        ∙ ap some (linked m nested extends inverses k few (suc depthLimit) from r false [])
         ∙ sym (ap (expandedAt m) e) ∙ asked
 
 -- ---- the walk of a destination, and the returns of `prepare`

@@ -30,7 +30,7 @@ ghost use Rattle.group_walk.specs.Run.{going, run, stateOf};
 ghost use Rattle.group_match.specs.Matching.{groupAt, between, lists, after, afterAll, connectionsAt, listsOf, MatchedInto, Workplace};
 ghost use Rattle.group_match.specs.Prepared.{Prepares};
 
-// How many numbers of `calm` a group type takes.
+// How many numbers of `calm` there are for a group type: one for each level.
 pub const CALM_NUMBERS: usize = LEVELS;
 
 // The outputs of matches and diagnostics as far as they are used; or an end with too many visits.
@@ -50,7 +50,7 @@ fn walk(
     e: &[u32],
     nested: &[u32],
     extends: &[u32],
-    inverse: &[u32],
+    inverses: &[u32],
     bytes: &[u8],
     n: &[u32],
     kept: &[u32],
@@ -66,7 +66,7 @@ fn walk(
     ensures { λ z. ⌜ stateOf z (now (memo .exit)) (now (out .exit)) (now (notes .exit))
         ≡ run (taken purpose (now (bytes .entry)) (now (n .entry)) (now (kept .entry)))
         (going (held tally (zeros (length (now (memo .entry)))) (now (out .entry)) (now (notes .entry))) 0)
-        (visitLink (groupsIn (now (e .entry)) (now (nested .entry)) (now (extends .entry)) (now (inverse .entry))) 11 to false []) ⌝ }
+        (visitLink (groupsIn (now (e .entry)) (now (nested .entry)) (now (extends .entry)) (now (inverses .entry))) 11 to false []) ⌝ }
 {
     clear_numbers(memo);
     clear_numbers(calm);
@@ -74,7 +74,7 @@ fn walk(
         e,
         nested,
         extends,
-        inverse,
+        inverses,
         bytes,
         n,
         kept,
@@ -99,7 +99,7 @@ fn prepare(
     e: &[u32],
     nested: &[u32],
     extends: &[u32],
-    inverse: &[u32],
+    inverses: &[u32],
     bytes: &[u8],
     n: &[u32],
     kept: &mut [u32],
@@ -111,7 +111,7 @@ fn prepare(
     to: u32,
 ) -> Prepared
     requires { ⌜ Workplace (now e) (now memo) (now kept) ⌝ }
-    ensures { λ z. ⌜ Prepares (now (bytes .entry)) (now (n .entry)) (groupAt (groupsIn (now (e .entry)) (now (nested .entry)) (now (extends .entry)) (now (inverse .entry))) to) connection source destination (now (kept .exit)) (length (now (memo .entry))) z ⌝ }
+    ensures { λ z. ⌜ Prepares (now (bytes .entry)) (now (n .entry)) (groupAt (groupsIn (now (e .entry)) (now (nested .entry)) (now (extends .entry)) (now (inverses .entry))) to) connection source destination (now (kept .exit)) (length (now (memo .entry))) z ⌝ }
 {
     if to == MISSING {
         return Prepared::For(Purpose::Count);
@@ -123,7 +123,7 @@ fn prepare(
         e,
         nested,
         extends,
-        inverse,
+        inverses,
         bytes,
         n,
         &none,
@@ -153,7 +153,7 @@ fn match_groups(
     e: &[u32],
     nested: &[u32],
     extends: &[u32],
-    inverse: &[u32],
+    inverses: &[u32],
     bytes: &[u8],
     n: &[u32],
     kept: &mut [u32],
@@ -172,15 +172,15 @@ fn match_groups(
     ensures { λ z. ⌜ listsOf z (now (rows .exit)) (now (notes .exit))
         ≡ after (namesIn (now (bytes .entry)) (now (n .entry)))
         (between connection source destination
-        (groupAt (groupsIn (now (e .entry)) (now (nested .entry)) (now (extends .entry)) (now (inverse .entry))) from)
-        (groupAt (groupsIn (now (e .entry)) (now (nested .entry)) (now (extends .entry)) (now (inverse .entry))) to))
+        (groupAt (groupsIn (now (e .entry)) (now (nested .entry)) (now (extends .entry)) (now (inverses .entry))) from)
+        (groupAt (groupsIn (now (e .entry)) (now (nested .entry)) (now (extends .entry)) (now (inverses .entry))) to))
         (lists (filled (now (rows .entry)) (tally .used)) (filled (now (notes .entry)) (tally .noted))) ⌝ }
 {
     let Prepared::For(purpose) = prepare(
         e,
         nested,
         extends,
-        inverse,
+        inverses,
         bytes,
         n,
         kept,
@@ -200,7 +200,7 @@ fn match_groups(
         e,
         nested,
         extends,
-        inverse,
+        inverses,
         bytes,
         n,
         kept,
@@ -238,9 +238,9 @@ fn group_link(
 ) -> u32
     requires { ⌜ length (now u) / 9 ≤ 4096 ⌝ }
     ensures { λ z.
-        ⌜ ((x nested extends inverse : List ℕ) →
+        ⌜ ((x nested extends inverses : List ℕ) →
         let m : Tables = tablesOf (now (bytes .entry)) (now (n .entry)) (now (c .entry)) (now (f .entry)) x (now (p .entry)) (now (i .entry)) (now (t .entry)) (now (q .entry)) (now (u .entry)) (now (e .entry)) (now (r .entry)) in
-        Linked m nested extends inverse → groupAt (groupsIn (now (e .entry)) nested extends inverse) z ≡ theEndpoint m component feature) ⌝ }
+        Linked m nested extends inverses → groupAt (groupsIn (now (e .entry)) nested extends inverses) z ≡ theEndpoint m component feature) ⌝ }
 {
     match endpoint::endpoint(bytes, n, c, f, p, i, t, q, u, e, r, component, feature) {
         Asked::Group { package, type_name } => links::link(
@@ -277,7 +277,7 @@ fn match_connection(
     r: &[u32],
     nested: &[u32],
     extends: &[u32],
-    inverse: &[u32],
+    inverses: &[u32],
     kept: &mut [u32],
     memo: &mut [u32],
     calm: &mut [u32],
@@ -287,7 +287,7 @@ fn match_connection(
     tally: Tally,
 ) -> Matched
     requires { ⌜ T (accepted (tablesOf (now bytes) (now n) (now c) (now f) (now x) (now p) (now i) (now t) (now q) (now u) (now e) (now r))) ⌝ }
-    requires { ⌜ Linked (tablesOf (now bytes) (now n) (now c) (now f) (now x) (now p) (now i) (now t) (now q) (now u) (now e) (now r)) (now nested) (now extends) (now inverse) ⌝ }
+    requires { ⌜ Linked (tablesOf (now bytes) (now n) (now c) (now f) (now x) (now p) (now i) (now t) (now q) (now u) (now e) (now r)) (now nested) (now extends) (now inverses) ⌝ }
     requires { ⌜ Workplace (now e) (now memo) (now kept) × (row < length (now x) / 7) × (tally .used ≤ length (now rows) + 1) × (tally .noted ≤ length (now notes) + 1) ⌝ }
     ensures { λ z.
         ⌜ (let m : Tables = tablesOf (now (bytes .entry)) (now (n .entry)) (now (c .entry)) (now (f .entry)) (now (x .entry)) (now (p .entry)) (now (i .entry)) (now (t .entry)) (now (q .entry)) (now (u .entry)) (now (e .entry)) (now (r .entry)) in
@@ -338,7 +338,7 @@ fn match_connection(
         e,
         nested,
         extends,
-        inverse,
+        inverses,
         bytes,
         n,
         kept,
@@ -372,7 +372,7 @@ pub fn match_connections(
     r: &[u32],
     nested: &[u32],
     extends: &[u32],
-    inverse: &[u32],
+    inverses: &[u32],
     kept: &mut [u32],
     memo: &mut [u32],
     calm: &mut [u32],
@@ -380,7 +380,7 @@ pub fn match_connections(
     notes: &mut [u32],
 ) -> Matched
     requires { ⌜ T (accepted (tablesOf (now bytes) (now n) (now c) (now f) (now x) (now p) (now i) (now t) (now q) (now u) (now e) (now r))) ⌝ }
-    requires { ⌜ Linked (tablesOf (now bytes) (now n) (now c) (now f) (now x) (now p) (now i) (now t) (now q) (now u) (now e) (now r)) (now nested) (now extends) (now inverse) ⌝ }
+    requires { ⌜ Linked (tablesOf (now bytes) (now n) (now c) (now f) (now x) (now p) (now i) (now t) (now q) (now u) (now e) (now r)) (now nested) (now extends) (now inverses) ⌝ }
     requires { ⌜ (length (now n) / 2 ≤ length (now memo)) × (length (now memo) ≤ 4096) × (length (now memo) * 14 ≤ length (now kept)) ⌝ }
     ensures { λ z. ⌜ MatchedInto
         (tablesOf (now (bytes .entry)) (now (n .entry)) (now (c .entry)) (now (f .entry)) (now (x .entry)) (now (p .entry)) (now (i .entry)) (now (t .entry)) (now (q .entry)) (now (u .entry)) (now (e .entry)) (now (r .entry)))
@@ -405,7 +405,7 @@ pub fn match_connections(
             r,
             nested,
             extends,
-            inverse,
+            inverses,
             kept,
             memo,
             calm,

@@ -1,7 +1,8 @@
-// The expansion of a feature group (feature_group.rs, `expand_from_ref`): one routine visits a reference, the other walks the features of the type
-// that it means, and they call each other. What is done with a feature is `sink::take_feature`. A walk may make 65,536 visits, and most of them
-// change nothing: names that have come, outputs that are full. So a table `calm` has a number for each group type and level: 0, or how many visits
-// a visit there makes that is known to change nothing. Such a visit is passed over, and its visits are counted.
+// The expansion of a feature group (feature_group.rs, `expand_from_ref`) in three routines that call each other: `visit` visits what a link means,
+// `expand_type` gives what the group type there is the inverse of, or what it extends and its own features, and `walk_features` walks these. What
+// is done with a feature is `sink::take_feature`. A walk may make 65,536 visits, and most of them change nothing: names that have come, outputs
+// that are full. So a table `calm` has a number for each group type and level: 0, or how many visits a visit there makes that is known to change
+// nothing. Such a visit is passed over, and its visits are counted.
 use as5506::MISSING;
 use as5506::VISITS;
 use lent::number_at;
@@ -67,7 +68,7 @@ pub fn visit(
     e: &[u32],
     nested: &[u32],
     extends: &[u32],
-    inverse: &[u32],
+    inverses: &[u32],
     bytes: &[u8],
     n: &[u32],
     kept: &[u32],
@@ -77,7 +78,7 @@ pub fn visit(
     calm: &mut [u32],
     purpose: Purpose,
     to: u32,
-    turned: bool,
+    inverse: bool,
     prefix: [u32; 11],
     len: usize,
     left: usize,
@@ -85,11 +86,11 @@ pub fn visit(
     visits: u32,
 ) -> Walked
     requires { ⌜ Ready purpose (now bytes) (now n) (now kept) (now memo) × (length prefix ≡ 11) × (len + left ≤ 11) ⌝ }
-    requires { ⌜ Passable (groupsIn (now e) (now nested) (now extends) (now inverse)) (Dull purpose (now bytes) (now n) (now kept)) (held tally (now memo) (now out) (now notes)) (now calm) ⌝ }
+    requires { ⌜ Passable (groupsIn (now e) (now nested) (now extends) (now inverses)) (Dull purpose (now bytes) (now n) (now kept)) (held tally (now memo) (now out) (now notes)) (now calm) ⌝ }
     ensures { λ z. ⌜ stateOf z (now (memo .exit)) (now (out .exit)) (now (notes .exit))
         ≡ run (taken purpose (now (bytes .entry)) (now (n .entry)) (now (kept .entry))) (going (held tally (now (memo .entry)) (now (out .entry)) (now (notes .entry))) visits)
-        (visitLink (groupsIn (now (e .entry)) (now (nested .entry)) (now (extends .entry)) (now (inverse .entry))) left to turned (take len prefix)) ⌝ }
-    ensures { λ z. ⌜ CalmAfter z (groupsIn (now (e .entry)) (now (nested .entry)) (now (extends .entry)) (now (inverse .entry))) (Dull purpose (now (bytes .entry)) (now (n .entry)) (now (kept .entry)))
+        (visitLink (groupsIn (now (e .entry)) (now (nested .entry)) (now (extends .entry)) (now (inverses .entry))) left to inverse (take len prefix)) ⌝ }
+    ensures { λ z. ⌜ CalmAfter z (groupsIn (now (e .entry)) (now (nested .entry)) (now (extends .entry)) (now (inverses .entry))) (Dull purpose (now (bytes .entry)) (now (n .entry)) (now (kept .entry)))
         (now (memo .exit)) (now (out .exit)) (now (notes .exit)) (now (calm .exit)) ⌝ }
 {
     if VISITS <= visits {
@@ -126,7 +127,7 @@ pub fn visit(
         e,
         nested,
         extends,
-        inverse,
+        inverses,
         bytes,
         n,
         kept,
@@ -136,7 +137,7 @@ pub fn visit(
         calm,
         purpose,
         to,
-        turned,
+        inverse,
         prefix,
         len,
         below,
@@ -168,7 +169,7 @@ fn expand_type(
     e: &[u32],
     nested: &[u32],
     extends: &[u32],
-    inverse: &[u32],
+    inverses: &[u32],
     bytes: &[u8],
     n: &[u32],
     kept: &[u32],
@@ -178,7 +179,7 @@ fn expand_type(
     calm: &mut [u32],
     purpose: Purpose,
     row: u32,
-    turned: bool,
+    inverse: bool,
     prefix: [u32; 11],
     len: usize,
     left: usize,
@@ -186,22 +187,22 @@ fn expand_type(
     visits: u32,
 ) -> Walked
     requires { ⌜ Ready purpose (now bytes) (now n) (now kept) (now memo) × (length prefix ≡ 11) × (len + left ≤ 10) × (visits ≤ 65536) ⌝ }
-    requires { ⌜ Passable (groupsIn (now e) (now nested) (now extends) (now inverse)) (Dull purpose (now bytes) (now n) (now kept)) (held tally (now memo) (now out) (now notes)) (now calm) ⌝ }
+    requires { ⌜ Passable (groupsIn (now e) (now nested) (now extends) (now inverses)) (Dull purpose (now bytes) (now n) (now kept)) (held tally (now memo) (now out) (now notes)) (now calm) ⌝ }
     ensures { λ z. ⌜ stateOf z (now (memo .exit)) (now (out .exit)) (now (notes .exit))
         ≡ run (taken purpose (now (bytes .entry)) (now (n .entry)) (now (kept .entry))) (going (held tally (now (memo .entry)) (now (out .entry)) (now (notes .entry))) visits)
-        (typeBy (present (getD (now (inverse .entry)) row 0)) (groupsIn (now (e .entry)) (now (nested .entry)) (now (extends .entry)) (now (inverse .entry)))
-        (visitLink (groupsIn (now (e .entry)) (now (nested .entry)) (now (extends .entry)) (now (inverse .entry))) left) turned (take len prefix) row) ⌝ }
-    ensures { λ z. ⌜ CalmAfter z (groupsIn (now (e .entry)) (now (nested .entry)) (now (extends .entry)) (now (inverse .entry))) (Dull purpose (now (bytes .entry)) (now (n .entry)) (now (kept .entry)))
+        (typeBy (present (getD (now (inverses .entry)) row 0)) (groupsIn (now (e .entry)) (now (nested .entry)) (now (extends .entry)) (now (inverses .entry)))
+        (visitLink (groupsIn (now (e .entry)) (now (nested .entry)) (now (extends .entry)) (now (inverses .entry))) left) inverse (take len prefix) row) ⌝ }
+    ensures { λ z. ⌜ CalmAfter z (groupsIn (now (e .entry)) (now (nested .entry)) (now (extends .entry)) (now (inverses .entry))) (Dull purpose (now (bytes .entry)) (now (n .entry)) (now (kept .entry)))
         (now (memo .exit)) (now (out .exit)) (now (notes .exit)) (now (calm .exit)) ⌝ }
 {
     let place = row as usize;
-    let back = number_at(inverse, place);
+    let back = number_at(inverses, place);
     if back != MISSING {
         return visit(
             e,
             nested,
             extends,
-            inverse,
+            inverses,
             bytes,
             n,
             kept,
@@ -211,7 +212,7 @@ fn expand_type(
             calm,
             purpose,
             back,
-            !turned,
+            !inverse,
             prefix,
             len,
             left,
@@ -225,7 +226,7 @@ fn expand_type(
             e,
             nested,
             extends,
-            inverse,
+            inverses,
             bytes,
             n,
             kept,
@@ -235,7 +236,7 @@ fn expand_type(
             calm,
             purpose,
             row,
-            turned,
+            inverse,
             prefix,
             len,
             left,
@@ -247,7 +248,7 @@ fn expand_type(
         e,
         nested,
         extends,
-        inverse,
+        inverses,
         bytes,
         n,
         kept,
@@ -257,7 +258,7 @@ fn expand_type(
         calm,
         purpose,
         up,
-        turned,
+        inverse,
         prefix,
         len,
         left,
@@ -272,7 +273,7 @@ fn expand_type(
             e,
             nested,
             extends,
-            inverse,
+            inverses,
             bytes,
             n,
             kept,
@@ -282,7 +283,7 @@ fn expand_type(
             calm,
             purpose,
             row,
-            turned,
+            inverse,
             prefix,
             len,
             left,
@@ -297,7 +298,7 @@ fn walk_features(
     e: &[u32],
     nested: &[u32],
     extends: &[u32],
-    inverse: &[u32],
+    inverses: &[u32],
     bytes: &[u8],
     n: &[u32],
     kept: &[u32],
@@ -307,7 +308,7 @@ fn walk_features(
     calm: &mut [u32],
     purpose: Purpose,
     row: u32,
-    turned: bool,
+    inverse: bool,
     prefix: [u32; 11],
     len: usize,
     left: usize,
@@ -315,13 +316,13 @@ fn walk_features(
     visits: u32,
 ) -> Walked
     requires { ⌜ Ready purpose (now bytes) (now n) (now kept) (now memo) × (length prefix ≡ 11) × (len + left ≤ 10) × (visits ≤ 65536) ⌝ }
-    requires { ⌜ Passable (groupsIn (now e) (now nested) (now extends) (now inverse)) (Dull purpose (now bytes) (now n) (now kept)) (held tally (now memo) (now out) (now notes)) (now calm) ⌝ }
+    requires { ⌜ Passable (groupsIn (now e) (now nested) (now extends) (now inverses)) (Dull purpose (now bytes) (now n) (now kept)) (held tally (now memo) (now out) (now notes)) (now calm) ⌝ }
     ensures { λ z. ⌜ stateOf z (now (memo .exit)) (now (out .exit)) (now (notes .exit))
         ≡ run (taken purpose (now (bytes .entry)) (now (n .entry)) (now (kept .entry))) (going (held tally (now (memo .entry)) (now (out .entry)) (now (notes .entry))) visits)
-        (walk (groupsIn (now (e .entry)) (now (nested .entry)) (now (extends .entry)) (now (inverse .entry)))
-        (visitLink (groupsIn (now (e .entry)) (now (nested .entry)) (now (extends .entry)) (now (inverse .entry))) left) turned (take len prefix)
-        (rowsIn (groupsIn (now (e .entry)) (now (nested .entry)) (now (extends .entry)) (now (inverse .entry))) row)) ⌝ }
-    ensures { λ z. ⌜ CalmAfter z (groupsIn (now (e .entry)) (now (nested .entry)) (now (extends .entry)) (now (inverse .entry))) (Dull purpose (now (bytes .entry)) (now (n .entry)) (now (kept .entry)))
+        (walk (groupsIn (now (e .entry)) (now (nested .entry)) (now (extends .entry)) (now (inverses .entry)))
+        (visitLink (groupsIn (now (e .entry)) (now (nested .entry)) (now (extends .entry)) (now (inverses .entry))) left) inverse (take len prefix)
+        (rowsIn (groupsIn (now (e .entry)) (now (nested .entry)) (now (extends .entry)) (now (inverses .entry))) row)) ⌝ }
+    ensures { λ z. ⌜ CalmAfter z (groupsIn (now (e .entry)) (now (nested .entry)) (now (extends .entry)) (now (inverses .entry))) (Dull purpose (now (bytes .entry)) (now (n .entry)) (now (kept .entry)))
         (now (memo .exit)) (now (out .exit)) (now (notes .exit)) (now (calm .exit)) ⌝ }
 {
     let count = e.len() / 8;
@@ -337,7 +338,7 @@ fn walk_features(
                 let feature = Feature {
                     name: name,
                     kind: number_at(e, place + 3),
-                    direction: turn(turned, number_at(e, place + 4)),
+                    direction: turn(inverse, number_at(e, place + 4)),
                     prefix: prefix,
                     len: len,
                 };
@@ -359,7 +360,7 @@ fn walk_features(
                     e,
                     nested,
                     extends,
-                    inverse,
+                    inverses,
                     bytes,
                     n,
                     kept,
@@ -369,7 +370,7 @@ fn walk_features(
                     calm,
                     purpose,
                     to,
-                    turned,
+                    inverse,
                     longer,
                     len + 1,
                     left,

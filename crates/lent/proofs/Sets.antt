@@ -3,11 +3,11 @@
 use mathlib.Core.Path.{_≡_, refl, sym, ap, _∙_}
 use mathlib.Core.List.{List, [], _∷_, _++_, append-assoc, append-nil}
 use Prim.Native.Nat.{ℕ, zero, suc, _+_, _-_, _≤_, _<_}
-use native.Mathlib.Nat.{add-zero, add-suc, suc-add, not-suc-le-zero, le-of-suc-le-suc, sub-zero, zero-sub, suc-sub-suc}
+use native.Mathlib.Nat.{add-zero, add-suc, suc-add, sub-zero, zero-sub, suc-sub-suc}
 use native.Mathlib.Numerals.{add-one}
 use native.Mathlib.Omega.{arith}
-use lib.ListN.{length, take, drop, getD, set, length-set, drop-of-length-le}
-use lib.Seq.{sets, sets-eq, length-sets, drop-cons, set-out, getD-set-same, getD-set-other, take-set-le, drop-set-lt, take-append-seam, drop-at, length-take-le}
+use lib.ListN.{length, take, drop, getD, set, drop-of-length-le}
+use lib.Seq.{sets, sets-eq, length-sets, drop-cons, set-out, getD-set-other, drop-set-lt, take-append-seam, drop-at, length-take-le}
 use Rattle.as5506.specs.Lists.{zeros}
 
 -- ---- writing
@@ -44,20 +44,6 @@ pub sets-other : (vs l : List ℕ) (i j : ℕ) → (i ≤ j → j < i + length v
 sets-other [] l i j h = refl
 sets-other (v ∷ vs) l i j h =
     sets-other vs (set l i v) (suc i) j (λ p q. h (omega arith) (omega arith)) ∙ getD-set-other l i j v 0 (λ e. h (omega arith) (omega arith))
-
--- a place inside the block has the block's number
-pub sets-inside : (vs l : List ℕ) (i j : ℕ) → i + length vs ≤ length l → j < length vs → getD (sets l i vs) (i + j) 0 ≡ getD vs j 0
-sets-inside [] l i j h k = absurd (not-suc-le-zero k)
-sets-inside (v ∷ vs) l i zero h k =
-    rw (add-zero i) (sets-other vs (set l i v) (suc i) i (λ p q. omega arith) ∙ getD-set-same l i v 0 (omega arith))
-sets-inside (v ∷ vs) l i (suc j) h k =
-    let e : i + suc j ≡ suc i + j = omega arith in
-    rw e (sets-inside vs (set l i v) (suc i) j (rw length-set (omega arith)) (le-of-suc-le-suc k))
-
--- what stands before the block stays
-pub sets-before : (vs l : List ℕ) (n i : ℕ) → n ≤ i → take n (sets l i vs) ≡ take n l
-sets-before [] l n i h = refl
-sets-before (v ∷ vs) l n i h = sets-before vs (set l i v) n (suc i) (omega arith) ∙ take-set-le n l i v h
 
 -- what stands behind the block stays
 pub sets-behind : (vs l : List ℕ) (n i : ℕ) → i + length vs ≤ n → drop n (sets l i vs) ≡ drop n l

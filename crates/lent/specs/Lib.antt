@@ -1,4 +1,4 @@
--- What the calls of this crate do beyond lib's lists.
+-- What the calls of this crate do beyond lib's lists, and how contracts of other crates speak of what is lent.
 --
 --     Append     pieces written one behind the other into an output, and how much of it is used
 --     Answered   what an output holds after an answer, before a refusal clears it

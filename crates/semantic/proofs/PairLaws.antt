@@ -20,7 +20,7 @@ use Rattle.trace.specs.Steps.{sideOf}
 use Rattle.trace.specs.Ends.{theEnd, rowAlong, rowsAtEnd, rowsBehind}
 use Rattle.trace.specs.Writing.{Written}
 use Rattle.semantic.specs.declared.Start.{Start}
-use Rattle.semantic.specs.declared.Start.the-variants.{Element, Owner}
+use Rattle.semantic.specs.declared.Start.the-variants.{Child, Owner}
 use Rattle.semantic.specs.Rows.{edgeOf, startOn, componentOf, limitOf, pairOn, namedFrom, rowsBeside, rowsAll, rowsZip, rowsFrom}
 use Rattle.semantic.proofs.Naming.{named-from-start}
 
@@ -28,11 +28,11 @@ use Rattle.semantic.proofs.Naming.{named-from-start}
 
 reach-is : (m : Tables) (s : TheSide) (x : ℕ) (a : Start) → reach m s stepLimit (startOn m s x a) ≡ chains m s (limitOf a) (componentOf a) (xFeat m s x)
 unfolding chains chainsBy
-reach-is m s x (Element i) = refl
+reach-is m s x (Child i) = refl
 reach-is m s x (Owner i) = refl
 
 pub limit-low : (a : Start) → limitOf a ≤ 20
-limit-low (Element i) = omega arith
+limit-low (Child i) = omega arith
 limit-low (Owner i) = omega arith
 
 pair-rows : (m : Tables) (x : ℕ) (a b : Start)
@@ -61,7 +61,7 @@ module _ (m : Tables) (x : ℕ) (side : Side) (a b : Start) (out : List ℕ) (co
 -- ---- one child more
 
 module _ (m : Tables) (x : ℕ) where
-  pub beside-next : (s : TheSide) (b : Start) (l r : List ℕ) (i : ℕ) → l ≡ i ∷ r → rowsBeside m x s b l ≡ pairRows m stepLimit x (pairOn m x s (Element i) b) ++ rowsBeside m x s b r
+  pub beside-next : (s : TheSide) (b : Start) (l r : List ℕ) (i : ℕ) → l ≡ i ∷ r → rowsBeside m x s b l ≡ pairRows m stepLimit x (pairOn m x s (Child i) b) ++ rowsBeside m x s b r
   unfolding rowsBeside
   beside-next s b l r i e = rw e
 
@@ -69,7 +69,7 @@ module _ (m : Tables) (x : ℕ) where
   unfolding rowsBeside
   beside-done s b l e = rw e
 
-  pub all-next : (l r : List ℕ) (i : ℕ) → l ≡ i ∷ r → rowsAll m x l ≡ rowsBeside m x destination (Element i) (namedFrom m destination x 0) ++ rowsAll m x r
+  pub all-next : (l r : List ℕ) (i : ℕ) → l ≡ i ∷ r → rowsAll m x l ≡ rowsBeside m x destination (Child i) (namedFrom m destination x 0) ++ rowsAll m x r
   unfolding rowsAll
   all-next l r i e = rw e
 
@@ -81,9 +81,9 @@ module _ (m : Tables) (x : ℕ) where
   pub all-barren : (l : List ℕ) → namedFrom m destination x 0 ≡ [] → rowsAll m x l ≡ []
   unfolding rowsAll
   all-barren [] e = refl
-  all-barren (i ∷ l) e = ap₂ _++_ (beside-done destination (Element i) (namedFrom m destination x 0) e) (all-barren l e)
+  all-barren (i ∷ l) e = ap₂ _++_ (beside-done destination (Child i) (namedFrom m destination x 0) e) (all-barren l e)
 
-  pub zip-next : (l r l′ r′ : List ℕ) (a b : ℕ) → l ≡ a ∷ l′ → r ≡ b ∷ r′ → rowsZip m x l r ≡ pairRows m stepLimit x (pairOn m x source (Element a) (Element b)) ++ rowsZip m x l′ r′
+  pub zip-next : (l r l′ r′ : List ℕ) (a b : ℕ) → l ≡ a ∷ l′ → r ≡ b ∷ r′ → rowsZip m x l r ≡ pairRows m stepLimit x (pairOn m x source (Child a) (Child b)) ++ rowsZip m x l′ r′
   unfolding rowsZip pairOn
   zip-next l r l′ r′ a b e f = rw (e, f)
 
@@ -102,7 +102,7 @@ module _ (m : Tables) (x : ℕ) where
   unfolding pairsBy rowsZip
   across-one e = rw (e, named-from-start m source x, named-from-start m destination x)
 
-  all-pairs : (l r : List ℕ) → each (pairRows m stepLimit x) (allAs (pairAcross m x) l r) ≡ each (λ a. rowsBeside m x destination (Element a) r) l
+  all-pairs : (l r : List ℕ) → each (pairRows m stepLimit x) (allAs (pairAcross m x) l r) ≡ each (λ a. rowsBeside m x destination (Child a) r) l
   unfolding rowsBeside pairOn
   all-pairs l r =
       each-each (pairRows m stepLimit x) (λ a. map (pairAcross m x a) r) l

@@ -8,7 +8,7 @@ use Rattle.as5506.specs.Tracing.{Start as TheStart, child, owner, Pair, Traced,
 use Rattle.as5506.specs.Tracing.{Shape as TheShape}
 use Rattle.children.specs.Found.{foundFrom}
 use Rattle.semantic.specs.declared.Start.{Start}
-use Rattle.semantic.specs.declared.Start.the-variants.{Element, Owner}
+use Rattle.semantic.specs.declared.Start.the-variants.{Child, Owner}
 use Rattle.semantic.specs.declared.Shape.{Shape}
 use Rattle.semantic.specs.declared.Shape.the-variants.{Faulty, Across, Upward, Downward, Neither}
 
@@ -27,17 +27,17 @@ edgeOf destination = downward
 
 -- an end of X row x on side s
 abbrev pub startOn : Tables → TheSide → ℕ → Start → TheStart
-startOn m s x (Element i) = child i (xFeat m s x)
+startOn m s x (Child i) = child i (xFeat m s x)
 startOn m s x (Owner i) = owner i (xFeat m s x)
 
 -- its component
 abbrev pub componentOf : Start → ℕ
-componentOf (Element i) = i
+componentOf (Child i) = i
 componentOf (Owner i) = i
 
 -- the steps that are made from it: the owner "is not traced"
 abbrev pub limitOf : Start → ℕ
-limitOf (Element i) = stepLimit
+limitOf (Child i) = stepLimit
 limitOf (Owner i) = 0
 
 -- the pair of an end on side s and one on the other
@@ -51,11 +51,11 @@ namedFrom m s x j = foundFrom m (xOwner m x) (nameOf m (xSub m s x)) j
 
 -- the rows of the children l on side s, each with the end b on the other
 unfoldable pub rowsBeside : Tables → ℕ → TheSide → Start → List ℕ → List Traced
-rowsBeside m x s b l = each (λ i. pairRows m stepLimit x (pairOn m x s (Element i) b)) l
+rowsBeside m x s b l = each (λ i. pairRows m stepLimit x (pairOn m x s (Child i) b)) l
 
 -- the rows of the children l on the source's side, each with all children of the destination
 unfoldable pub rowsAll : Tables → ℕ → List ℕ → List Traced
-rowsAll m x l = each (λ a. rowsBeside m x destination (Element a) (namedFrom m destination x 0)) l
+rowsAll m x l = each (λ a. rowsBeside m x destination (Child a) (namedFrom m destination x 0)) l
 
 -- the rows of two lists of children, pair by pair
 unfoldable pub rowsZip : Tables → ℕ → List ℕ → List ℕ → List Traced

@@ -114,7 +114,7 @@ pub fn component_of(at: Start) -> u32
     ensures { λ r. ⌜ r ≡ componentOf at ⌝ }
 {
     match at {
-        Start::Element(i) => i,
+        Start::Child(i) => i,
         Start::Owner(i) => i,
     }
 }
@@ -124,7 +124,7 @@ pub fn limit_of(at: Start) -> usize
     ensures { λ r. ⌜ r ≡ limitOf at ⌝ }
 {
     match at {
-        Start::Element(_) => STEPS,
+        Start::Child(_) => STEPS,
         Start::Owner(_) => 0,
     }
 }

@@ -22,6 +22,6 @@ pub enum Shape {
 
 // An end of a connection, to be paired with one on the other side: a child, which is traced, or the owner, which is not.
 pub enum Start {
-    Element(u32),
+    Child(u32),
     Owner(u32),
 }

@@ -125,7 +125,7 @@ fn trace_beside(
                     out,
                     i,
                     side,
-                    Start::Element(k as u32),
+                    Start::Child(k as u32),
                     far,
                     done,
                 ) {
@@ -177,7 +177,7 @@ fn trace_all_to_all(
                     out,
                     i,
                     Side::Destination,
-                    Start::Element(k as u32),
+                    Start::Child(k as u32),
                     done,
                 ) {
                     Wrote::Full => {
@@ -227,8 +227,8 @@ fn trace_one_to_one(
             x,
             out,
             i,
-            Start::Element(a as u32),
-            Start::Element(b as u32),
+            Start::Child(a as u32),
+            Start::Child(b as u32),
             done,
         ) {
             Wrote::Full => {

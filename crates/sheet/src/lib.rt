@@ -1,6 +1,6 @@
 // The reader of a sheet: from any bytes to tables, or to one refusal. A first pass checks every line and writes nothing; then each table is
 // written by a pass of its own over the lines of its letter, which begins where the pass of the letter before ended: the letters stand in order. So
-// nothing has to be taken back, and a table's contract speaks of that table alone. (Each line is checked once and written once, the N lines twice: a
+// nothing has to be taken back, and the contract of a pass speaks of its table alone. (Each line is checked once and written once, the N lines twice: a
 // pass for their bytes and one for their rows. bench/sheet says how long that takes.)
 // Definitions: as5506, Sheet and Fields; specs/Read.antt says what a call gives, specs/Steps.antt what the private functions say beside that.
 // Laws for callers: proofs/Model.antt.

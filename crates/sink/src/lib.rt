@@ -87,7 +87,7 @@ fn find_partner(bytes: &[u8], n: &[u32], kept: &[u32], count: usize, name: u32) 
     Place::Nowhere
 }
 
-// The same, searched once for each name: the memory has 0 for a name not yet asked for, `NO_PARTNER`, or the partner's place and 2.
+// The same, searched once for each name: the memory has 0 for a name not yet asked for, `NO_PARTNER`, or the partner's place plus 2.
 fn partner(
     bytes: &[u8],
     n: &[u32],

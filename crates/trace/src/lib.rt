@@ -89,7 +89,7 @@ fn same_feature(bytes: &[u8], n: &[u32], j: u32, k: u32) -> bool
 }
 
 // Whether X row i is a connection of the component that leads from its feature towards the side.
-fn leads(
+fn is_step(
     bytes: &[u8],
     n: &[u32],
     x: &[u32],
@@ -135,7 +135,7 @@ fn next_child(
         ≡ afterChild (leadsTo (wiringIn (now (bytes .entry)) (now (n .entry)) (now (c .entry)) (now (x .entry))) (sideOf side) component feature i) r ⌝ }
     ensures { λ r. ⌜ Inside (now (c .entry)) r ⌝ }
 {
-    if leads(bytes, n, x, side, component, feature, i) {
+    if is_step(bytes, n, x, side, component, feature, i) {
         return children::find_child_by_name(
             bytes,
             n,
@@ -330,7 +330,7 @@ pub fn trace(
         }
     }
     let len = here.len;
-    let trail = here.path;
+    let so_far = here.path;
     let mut done = count;
     let mut i = 0;
     let mut j = 0;
@@ -340,7 +340,7 @@ pub fn trace(
                 return Wrote::Count(done);
             }
             Step::At(row, child, far) => {
-                let mut path = trail;
+                let mut path = so_far;
                 path[len] = row as u32;
                 let deeper = End {
                     component: child as u32,

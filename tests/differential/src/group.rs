@@ -99,6 +99,7 @@ pub fn compare(sheet: &Sheet, renames: Renames, met: &mut Met) -> Result<(), Str
         diagnostics: exact.diagnostics + 1000,
     };
     listed(&tables, huge, &listing, met)?;
+    listed(&tables.with_more_names(), exact, &listing, met)?;
     too_short(&tables, exact, met)
 }
 

@@ -1,6 +1,6 @@
 //! The tables of a model as a caller lends them.
 
-use oracle::sheet::{LETTERS, Sheet};
+use oracle::sheet::{LETTERS, NAME_ROWS, Sheet};
 
 /// A missing field.
 pub const MISSING: u32 = u32::MAX;
@@ -29,6 +29,17 @@ impl Tables {
                 let numbers = row.iter().map(|field| field.unwrap_or(MISSING));
                 tables.letters[rank].extend(numbers);
             }
+        }
+        tables
+    }
+
+    /// The same model with more names than the program conlist reads: its first name again and again, which nothing refers to.
+    /// The group listing works in other room then.
+    pub fn with_more_names(&self) -> Tables {
+        let mut tables = self.clone();
+        let first = [self.letters[0][0], self.letters[0][1]];
+        while tables.letters[0].len() / 2 <= NAME_ROWS {
+            tables.letters[0].extend(first);
         }
         tables
     }

@@ -37,7 +37,7 @@ pub fn compare(sheet: &Sheet, seed: usize, met: &mut Met) -> Result<(), String> 
         refused(&broken, [10, 0, LETTERS[first].into()], met)?;
     }
 
-    // too many rows, of P names at every other letter too; a broken row elsewhere comes first
+    // too many rows; a broken row of an earlier table comes first
     let mut long = tables.clone();
     long.letters[rank].resize((ROWS + 1 + seed % 5) * WIDTHS[rank], 0);
     refused(&long, [10, ROWS as u64, LETTERS[rank].into()], met)?;
@@ -52,11 +52,16 @@ pub fn compare(sheet: &Sheet, seed: usize, met: &mut Met) -> Result<(), String> 
         let row = seed % names;
         let mut named = tables.clone();
         let (offset, length) = (named.letters[0][row * 2], named.letters[0][row * 2 + 1]);
-        match seed % 5 {
+        match seed % 6 {
             0 => named.letters[0][row * 2] = named.bytes.len() as u32 - length + 1,
             1 => named.letters[0][row * 2 + 1] = 0,
             2 => named.letters[0][row * 2] = u32::MAX,
             3 => named.letters[0][row * 2 + 1] = u32::MAX,
+            4 => {
+                named.letters[0][row * 2] = named.bytes.len() as u32;
+                named.letters[0][row * 2 + 1] = 64;
+                named.bytes.extend([b'x'; 64]);
+            }
             _ => named.bytes[offset as usize] = 0x7F,
         }
         refused(&named, [10, row as u64, b'N'.into()], met)?;

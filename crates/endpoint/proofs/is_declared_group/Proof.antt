@@ -55,8 +55,8 @@ add-number-at-3 c = search needs
 number-at-requires-4 : tie.Need-number-at-requires-4
 number-at-requires-4 c κs = search needs
 
-same-feature-requires : tie.Need-same-feature-requires
-same-feature-requires c κs = search needs
+same-folded-feature-requires : tie.Need-same-folded-feature-requires
+same-folded-feature-requires c κs = search needs
 
 returns-4 : tie.Need-returns-4
 unfolding isDeclared
@@ -65,7 +65,7 @@ returns-4 c =
     part-holds _ _ _ (equal _ _ (c .before .before .before .before .before .before .before .number-at .ensures) _ (c .before .before .before .before .before .before .if1 .left))
     (part-holds _ _ _ (equal _ _ (first-field (s .e .now) (s .i * 8) _ (c .before .before .before .before .before .number-at2 .ensures)) 0 (c .before .before .before .before .if2 .left))
     (part-holds _ _ _ (equal _ _ (c .before .before .before .number-at3 .ensures) featureKindGroup (c .before .before .if3 .left))
-    (same-key (declaredIn (s .bytes .now) (s .n .now) (s .e .now)) _ _ _ _ (c .before .number-at4 .ensures) (c .same-feature .ensures))))
+    (same-key (declaredIn (s .bytes .now) (s .n .now) (s .e .now)) _ _ _ _ (c .before .number-at4 .ensures) (c .same-folded-feature .ensures))))
 
 pub is-declared-group-spec : {M : Type 1} → statement M
 is-declared-group-spec =
@@ -83,5 +83,5 @@ is-declared-group-spec =
     returns-3
     add-number-at-3
     number-at-requires-4
-    same-feature-requires
+    same-folded-feature-requires
     returns-4)

@@ -37,8 +37,8 @@ returns-2 c =
 number-at-requires-3 : tie.Need-number-at-requires-3
 number-at-requires-3 c κs = search needs
 
-same-feature-requires : tie.Need-same-feature-requires
-same-feature-requires c κs = search needs
+same-folded-feature-requires : tie.Need-same-folded-feature-requires
+same-folded-feature-requires c κs = search needs
 
 returns-3 : tie.Need-returns-3
 unfolding isGroup
@@ -46,7 +46,7 @@ returns-3 c =
     let s = c .before .before .before .before .before .before .before .before .before .args in
     part-holds _ _ _ (equal _ _ (c .before .before .before .before .before .number-at .ensures) _ (c .before .before .before .before .if1 .left))
     (part-holds _ _ _ (equal _ _ (c .before .before .before .number-at2 .ensures) featureKindGroup (c .before .before .if2 .left))
-    (same-key (featuresIn (s .bytes .now) (s .n .now) (s .f .now)) _ _ _ _ (first-field (s .f .now) (s .i * 3) _ (c .before .number-at3 .ensures)) (c .same-feature .ensures)))
+    (same-key (featuresIn (s .bytes .now) (s .n .now) (s .f .now)) _ _ _ _ (first-field (s .f .now) (s .i * 3) _ (c .before .number-at3 .ensures)) (c .same-folded-feature .ensures)))
 
 pub is-group-feature-spec : {M : Type 1} → statement M
 is-group-feature-spec =
@@ -60,5 +60,5 @@ is-group-feature-spec =
     number-at-requires-2
     returns-2
     number-at-requires-3
-    same-feature-requires
+    same-folded-feature-requires
     returns-3)

@@ -132,8 +132,8 @@ returns-4 c =
     (end-means (model s) source (s .args .row) (a .result) (At (i .0 .0)) (a .ensures) (i .1))
     (end-means (model s) destination (s .args .row) (b .result) (At (j .0 .0)) (b .ensures) (j .1))
     (f .result) (g .result) (f .ensures) (g .ensures) _ _
-    (c .before .before .before .before .before .before .before .before .before .before .before .before .before .before .before .before .before .before .group-link .ensures (s .args .x .now) (s .args .nested .now) (s .args .extends .now) (s .args .inverse .now) (s .pre .1 .0))
-    (c .before .before .before .before .before .before .before .before .before .before .before .before .before .before .before .before .group-link2 .ensures (s .args .x .now) (s .args .nested .now) (s .args .extends .now) (s .args .inverse .now) (s .pre .1 .0))
+    (c .before .before .before .before .before .before .before .before .before .before .before .before .before .before .before .before .before .before .group-link .ensures (s .args .x .now) (s .args .nested .now) (s .args .extends .now) (s .args .inverses .now) (s .pre .1 .0))
+    (c .before .before .before .before .before .before .before .before .before .before .before .before .before .before .before .before .group-link2 .ensures (s .args .x .now) (s .args .nested .now) (s .args .extends .now) (s .args .inverses .now) (s .pre .1 .0))
 
 pub match-connection-spec : {M : Type 1} → statement M
 match-connection-spec =

@@ -11,11 +11,11 @@ use Rattle.group_match.proofs.match_connections.Statement.{statement}
 use Rattle.group_match.proofs.match_connections.Tie as tie
 
 abbrev Inv-loop : tie.InvT-loop
-Inv-loop bytes n c f x p i t q u e r nested extends inverse kept₀ memo₀ calm₀ rows₀ notes₀ count tally₀ row₀ kept memo calm rows notes tally row =
+Inv-loop bytes n c f x p i t q u e r nested extends inverses kept₀ memo₀ calm₀ rows₀ notes₀ count tally₀ row₀ kept memo calm rows notes tally row =
     (length kept ≡ length kept₀) × (length memo ≡ length memo₀) × (length calm ≡ length calm₀) × Goes (tablesOf bytes n c f x p i t q u e r) rows₀ notes₀ rows notes tally row
 
 abbrev μ-loop : tie.MeasureT-loop
-μ-loop bytes n c f x p i t q u e r nested extends inverse kept₀ memo₀ calm₀ rows₀ notes₀ count tally₀ row₀ kept memo calm rows notes tally row = count - row
+μ-loop bytes n c f x p i t q u e r nested extends inverses kept₀ memo₀ calm₀ rows₀ notes₀ count tally₀ row₀ kept memo calm rows notes tally row = count - row
 
 loop-holds : tie.Need-loop-holds Inv-loop μ-loop
 loop-holds c = (refl, refl, refl, goes-start _ _ _)

@@ -94,7 +94,7 @@ walk-claims t = (belongs-reads.Asked, belongs-reads.Learnt, number-at-reads.Aske
 
 module _ (t : ℕ) (s : expand-type-lts.Start (type-claims t) (expand-type-at t) expand-type.Post) where
   abbrev type-groups : Groups
-  type-groups = groupsIn (s .args .e .now) (s .args .nested .now) (s .args .extends .now) (s .args .inverse .now)
+  type-groups = groupsIn (s .args .e .now) (s .args .nested .now) (s .args .extends .now) (s .args .inverses .now)
 
   abbrev type-doing : Take
   type-doing = taken (s .args .purpose) (s .args .bytes .now) (s .args .n .now) (s .args .kept .now)
@@ -112,39 +112,39 @@ module _ (t : ℕ) (s : expand-type-lts.Start (type-claims t) (expand-type-at t)
   type-entry = going type-given (s .args .visits)
 
   abbrev type-whole : State
-  type-whole = run type-doing type-entry (meant type-groups type-below (s .args .turned) type-names (s .args .row))
+  type-whole = run type-doing type-entry (meant type-groups type-below (s .args .inverse) type-names (s .args .row))
 
   abbrev type-own-features : Expansion
-  type-own-features = own type-groups type-below (s .args .turned) type-names (s .args .row)
+  type-own-features = own type-groups type-below (s .args .inverse) type-names (s .args .row)
 
-  module _ (back : ℕ) (b : back ≡ getD (s .args .inverse .now) (s .args .row) 0) where
-    by-inverse : (back ≡ missing → ⊥) → type-whole ≡ run type-doing type-entry (type-below back (not (s .args .turned)) type-names)
-    by-inverse = type-inverse type-doing type-groups type-below (s .args .turned) type-names (s .args .row) type-given (s .args .visits) back b
+  module _ (back : ℕ) (b : back ≡ getD (s .args .inverses .now) (s .args .row) 0) where
+    by-inverse : (back ≡ missing → ⊥) → type-whole ≡ run type-doing type-entry (type-below back (not (s .args .inverse)) type-names)
+    by-inverse = type-inverse type-doing type-groups type-below (s .args .inverse) type-names (s .args .row) type-given (s .args .visits) back b
 
     module _ (i : back ≡ missing) (up : ℕ) (e : up ≡ getD (s .args .extends .now) (s .args .row) 0) where
       by-own : up ≡ missing → type-whole ≡ run type-doing type-entry type-own-features
-      by-own = type-own type-doing type-groups type-below (s .args .turned) type-names (s .args .row) type-given (s .args .visits) back b i up e (s .pre .1 .0 .3)
+      by-own = type-own type-doing type-groups type-below (s .args .inverse) type-names (s .args .row) type-given (s .args .visits) back b i up e (s .pre .1 .0 .3)
 
-      by-both : (up ≡ missing → ⊥) → type-whole ≡ run type-doing (run type-doing type-entry (type-below up (s .args .turned) type-names)) type-own-features
-      by-both = type-both type-doing type-groups type-below (s .args .turned) type-names (s .args .row) type-given (s .args .visits) back b i up e
+      by-both : (up ≡ missing → ⊥) → type-whole ≡ run type-doing (run type-doing type-entry (type-below up (s .args .inverse) type-names)) type-own-features
+      by-both = type-both type-doing type-groups type-below (s .args .inverse) type-names (s .args .row) type-given (s .args .visits) back b i up e
 
   -- what it extends is visited
   module _ (up : ℕ) (r : Walked) (memo out notes calm : List ℕ)
-      (e : (stateOf r memo out notes ≡ run type-doing type-entry (type-below up (s .args .turned) type-names))
+      (e : (stateOf r memo out notes ≡ run type-doing type-entry (type-below up (s .args .inverse) type-names))
       × CalmAfter r type-groups (Dull (s .args .purpose) (s .args .bytes .now) (s .args .n .now) (s .args .kept .now)) memo out notes calm) where
-    up-over : r ≡ Over → over ≡ run type-doing (run type-doing type-entry (type-below up (s .args .turned) type-names)) type-own-features
-    up-over q = over-then type-doing r memo out notes type-entry (type-below up (s .args .turned) type-names) (e .0) q type-own-features
+    up-over : r ≡ Over → over ≡ run type-doing (run type-doing type-entry (type-below up (s .args .inverse) type-names)) type-own-features
+    up-over q = over-then type-doing r memo out notes type-entry (type-below up (s .args .inverse) type-names) (e .0) q type-own-features
 
     module _ (tally : Tally) (visits : ℕ) (q : r ≡ Done tally visits) where
-      up-done : run type-doing (run type-doing type-entry (type-below up (s .args .turned) type-names)) type-own-features
+      up-done : run type-doing (run type-doing type-entry (type-below up (s .args .inverse) type-names)) type-own-features
           ≡ run type-doing (going (held tally memo out notes) visits) type-own-features
-      up-done = done-then type-doing r memo out notes type-entry (type-below up (s .args .turned) type-names) (e .0) tally visits q type-own-features
+      up-done = done-then type-doing r memo out notes type-entry (type-below up (s .args .inverse) type-names) (e .0) tally visits q type-own-features
 
       up-good : Ready (s .args .purpose) (s .args .bytes .now) (s .args .n .now) (s .args .kept .now) memo × (visits ≤ visitLimit)
       up-good =
           done-good type-doing (Ready (s .args .purpose) (s .args .bytes .now) (s .args .n .now) (s .args .kept .now))
           (taken-ready (s .args .purpose) (s .args .bytes .now) (s .args .n .now) (s .args .kept .now)) r memo out notes type-given (s .args .visits)
-          (type-below up (s .args .turned) type-names) tally visits (e .0) q (s .pre .1 .0 .0)
+          (type-below up (s .args .inverse) type-names) tally visits (e .0) q (s .pre .1 .0 .0)
 
       up-passable : Passable type-groups (Dull (s .args .purpose) (s .args .bytes .now) (s .args .n .now) (s .args .kept .now)) (held tally memo out notes) calm
       up-passable = after-done type-groups (Dull (s .args .purpose) (s .args .bytes .now) (s .args .n .now) (s .args .kept .now)) r memo out notes calm tally visits q (e .1)
@@ -244,7 +244,7 @@ expand-type-returns-4 t c = (
 
 module _ (t : ℕ) (s : visit-lts.Start (visit-claims t) (visit-at t) visit.Post) where
   abbrev groups : Groups
-  groups = groupsIn (s .args .e .now) (s .args .nested .now) (s .args .extends .now) (s .args .inverse .now)
+  groups = groupsIn (s .args .e .now) (s .args .nested .now) (s .args .extends .now) (s .args .inverses .now)
 
   abbrev doing : Take
   doing = taken (s .args .purpose) (s .args .bytes .now) (s .args .n .now) (s .args .kept .now)
@@ -269,7 +269,7 @@ module _ (t : ℕ) (s : visit-lts.Start (visit-claims t) (visit-at t) visit.Post
   next = going given (s .args .visits + 1)
 
   abbrev whole : State
-  whole = run doing (going given (s .args .visits)) (visitLink groups (s .args .left) (s .args .to) (s .args .turned) names)
+  whole = run doing (going given (s .args .visits)) (visitLink groups (s .args .left) (s .args .to) (s .args .inverse) names)
 
   module _ (some-left : s .args .left ≡ 0 → ⊥) (within : s .args .visits < visitLimit) where
     -- where it is known to change nothing
@@ -277,29 +277,29 @@ module _ (t : ℕ) (s : visit-lts.Start (visit-claims t) (visit-at t) visit.Post
       passed-over : visitLimit < s .args .visits + known → over ≡ whole
       passed-over =
           known-over doing dulls law groups given (s .args .calm .now) (s .pre .1 .1) (s .args .to) known q (s .args .left) some-left (omega (arith, s .pre .1 .0 .2)) e
-          (s .args .turned) names (s .args .visits)
+          (s .args .inverse) names (s .args .visits)
 
       passed-done : s .args .visits + known ≤ visitLimit → going given (s .args .visits + known) ≡ whole
       passed-done =
           known-done doing dulls law groups given (s .args .calm .now) (s .pre .1 .1) (s .args .to) known q (s .args .left) some-left (omega (arith, s .pre .1 .0 .2)) e
-          (s .args .turned) names (s .args .visits)
+          (s .args .inverse) names (s .args .visits)
 
     -- where what it means is expanded
     module _ (row : s .args .to < unfound) (r : Walked) (memo out notes calm : List ℕ)
-        (e : (stateOf r memo out notes ≡ run doing next (meant groups below (s .args .turned) names (s .args .to))) × CalmAfter r groups dulls memo out notes calm) where
-      opened : whole ≡ run doing next (meant groups below (s .args .turned) names (s .args .to))
-      opened = visit-type doing groups (s .args .to) (s .args .turned) names given (s .args .visits) (s .args .left) some-left within row
+        (e : (stateOf r memo out notes ≡ run doing next (meant groups below (s .args .inverse) names (s .args .to))) × CalmAfter r groups dulls memo out notes calm) where
+      opened : whole ≡ run doing next (meant groups below (s .args .inverse) names (s .args .to))
+      opened = visit-type doing groups (s .args .to) (s .args .inverse) names given (s .args .visits) (s .args .left) some-left within row
 
       expanded-over : r ≡ Over → over ≡ whole
-      expanded-over q = over-is doing r memo out notes next (meant groups below (s .args .turned) names (s .args .to)) (e .0) q ∙ sym opened
+      expanded-over q = over-is doing r memo out notes next (meant groups below (s .args .inverse) names (s .args .to)) (e .0) q ∙ sym opened
 
       module _ (tally : Tally) (visits : ℕ) (q : r ≡ Done tally visits) where
         expanded-done : stateOf (Done tally visits) memo out notes ≡ whole
-        expanded-done = done-is doing r memo out notes next (meant groups below (s .args .turned) names (s .args .to)) (e .0) tally visits q ∙ sym opened
+        expanded-done = done-is doing r memo out notes next (meant groups below (s .args .inverse) names (s .args .to)) (e .0) tally visits q ∙ sym opened
 
         expanded-more : s .args .visits ≤ visits
         expanded-more =
-            let d = run-done doing tally visits memo out notes given (s .args .visits) (visitLink groups (s .args .left) (s .args .to) (s .args .turned) names) expanded-done in
+            let d = run-done doing tally visits memo out notes given (s .args .visits) (visitLink groups (s .args .left) (s .args .to) (s .args .inverse) names) expanded-done in
             omega (arith, d .1)
 
         expanded-passable : Passable groups dulls (held tally memo out notes) calm
@@ -310,23 +310,23 @@ module _ (t : ℕ) (s : visit-lts.Start (visit-claims t) (visit-at t) visit.Post
           expanded-calm : Passable groups dulls (held tally memo out notes) (set calm (s .args .to * levels + (s .args .left - 1)) (visits - s .args .visits))
           unfolding Passable
           expanded-calm =
-              passable-put doing dulls law groups tally visits memo out notes given (s .args .visits) (s .args .to) (s .args .left) some-left (omega (arith, s .pre .1 .0 .2)) (s .args .turned) names
+              passable-put doing dulls law groups tally visits memo out notes given (s .args .visits) (s .args .to) (s .args .left) some-left (omega (arith, s .pre .1 .0 .2)) (s .args .inverse) names
               expanded-done calm (s .pre .1 .1 .0) u v expanded-passable
 
 visit-returns : (t : ℕ) → visit-lts.Need-returns (visit-claims t) (visit-at t) visit.Post
 unfolding stateOf CalmAfter
-visit-returns t c = let s = c .before .before .before .before .before .before .before .before .before .before .before .before in (visit-over (doing t s) (groups t s) (s .args .to) (s .args .turned) (names t s) (given t s) (s .args .visits) (s .args .left) (omega (arith, c .if1 .taken)), tt)
+visit-returns t c = let s = c .before .before .before .before .before .before .before .before .before .before .before .before in (visit-over (doing t s) (groups t s) (s .args .to) (s .args .inverse) (names t s) (given t s) (s .args .visits) (s .args .left) (omega (arith, c .if1 .taken)), tt)
 
 visit-add-next : (t : ℕ) → visit-lts.Need-add-next (visit-claims t) (visit-at t) visit.Post
 visit-add-next t c = omega (arith, c .if1 .left)
 
 visit-returns-2 : (t : ℕ) → visit-lts.Need-returns-2 (visit-claims t) (visit-at t) visit.Post
 unfolding stateOf CalmAfter
-visit-returns-2 t c = let s = c .before .before .before .before .before .before .before .before .before .before .before .before .before in (visit-past (doing t s) (groups t s) (s .args .to) (s .args .turned) (names t s) (given t s) (s .args .visits) (s .args .left) (c .if2 .taken) (omega (arith, c .before .if1 .left)), s .pre .1 .1)
+visit-returns-2 t c = let s = c .before .before .before .before .before .before .before .before .before .before .before .before .before in (visit-past (doing t s) (groups t s) (s .args .to) (s .args .inverse) (names t s) (given t s) (s .args .visits) (s .args .left) (c .if2 .taken) (omega (arith, c .before .if1 .left)), s .pre .1 .1)
 
 visit-returns-3 : (t : ℕ) → visit-lts.Need-returns-3 (visit-claims t) (visit-at t) visit.Post
 unfolding stateOf CalmAfter
-visit-returns-3 t c = let s = c .before .before .before .before .before .before .before .before .before .before .before .before .before .before in (visit-nothing (doing t s) (groups t s) (s .args .to) (s .args .turned) (names t s) (given t s) (s .args .visits) (s .args .left) (c .before .if2 .left) (omega (arith, c .before .before .if1 .left)) (c .if3 .taken), s .pre .1 .1)
+visit-returns-3 t c = let s = c .before .before .before .before .before .before .before .before .before .before .before .before .before .before in (visit-nothing (doing t s) (groups t s) (s .args .to) (s .args .inverse) (names t s) (given t s) (s .args .visits) (s .args .left) (c .before .if2 .left) (omega (arith, c .before .before .if1 .left)) (c .if3 .taken), s .pre .1 .1)
 
 visit-sub-below : (t : ℕ) → visit-lts.Need-sub-below (visit-claims t) (visit-at t) visit.Post
 visit-sub-below t c = omega (arith, c .before .if2 .left)
@@ -448,15 +448,15 @@ unfolding CalmAfter
 visit-returns-9 t c = (expanded-done t (c .before .before .before .before .before .before .before .before .before .before .before .before .before .before .before .before .before .before .before .before .before .before .before .before .before .before .before .before .before .before .before .before .before .before .before .before) (c .before .before .before .before .before .before .before .before .before .before .before .before .before .before .before .before .before .before .before .before .before .before .before .if2 .left) (omega (arith, c .before .before .before .before .before .before .before .before .before .before .before .before .before .before .before .before .before .before .before .before .before .before .before .before .if1 .left)) (c .before .before .before .before .before .before .before .before .before .before .before .before .before .before .before .before .before .before .before .before .before .before .if3 .left) (c .before .before .before .before .before .before .before .before .before .before .before .before .before .before .expand-type .result) (c .before .before .before .before .before .before .before .before .before .before .before .before .before .before .expand-type .last .1 .1 .1 .1 .1 .1 .1 .0) (c .before .before .before .before .before .before .before .before .before .before .before .before .before .before .expand-type .last .1 .1 .1 .1 .1 .1 .1 .1 .0) (c .before .before .before .before .before .before .before .before .before .before .before .before .before .before .expand-type .last .1 .1 .1 .1 .1 .1 .1 .1 .1 .0) (c .before .before .before .before .before .before .before .before .before .before .before .before .before .before .expand-type .last .1 .1 .1 .1 .1 .1 .1 .1 .1 .1 .0) (c .before .before .before .before .before .before .before .before .before .before .before .before .before .before .expand-type .ensures) (c .before .before .before .before .then .given .0 .0) (c .before .before .before .before .then .given .0 .1 .0) (c .before .before .before .before .then .given .1), expanded-passable t (c .before .before .before .before .before .before .before .before .before .before .before .before .before .before .before .before .before .before .before .before .before .before .before .before .before .before .before .before .before .before .before .before .before .before .before .before) (c .before .before .before .before .before .before .before .before .before .before .before .before .before .before .before .before .before .before .before .before .before .before .before .if2 .left) (omega (arith, c .before .before .before .before .before .before .before .before .before .before .before .before .before .before .before .before .before .before .before .before .before .before .before .before .if1 .left)) (c .before .before .before .before .before .before .before .before .before .before .before .before .before .before .before .before .before .before .before .before .before .before .if3 .left) (c .before .before .before .before .before .before .before .before .before .before .before .before .before .before .expand-type .result) (c .before .before .before .before .before .before .before .before .before .before .before .before .before .before .expand-type .last .1 .1 .1 .1 .1 .1 .1 .0) (c .before .before .before .before .before .before .before .before .before .before .before .before .before .before .expand-type .last .1 .1 .1 .1 .1 .1 .1 .1 .0) (c .before .before .before .before .before .before .before .before .before .before .before .before .before .before .expand-type .last .1 .1 .1 .1 .1 .1 .1 .1 .1 .0) (c .before .before .before .before .before .before .before .before .before .before .before .before .before .before .expand-type .last .1 .1 .1 .1 .1 .1 .1 .1 .1 .1 .0) (c .before .before .before .before .before .before .before .before .before .before .before .before .before .before .expand-type .ensures) (c .before .before .before .before .then .given .0 .0) (c .before .before .before .before .then .given .0 .1 .0) (c .before .before .before .before .then .given .1))
 
 abbrev walk-features-Inv-loop : walk-features-lts.InvT-loop
-walk-features-Inv-loop e nested extends inverse bytes n kept memo₀ out₀ notes₀ calm₀ purpose row turned prefix len left visits count so-far₀ seen₀ i₀ memo out notes calm so-far seen i =
+walk-features-Inv-loop e nested extends inverses bytes n kept memo₀ out₀ notes₀ calm₀ purpose row inverse prefix len left visits count so-far₀ seen₀ i₀ memo out notes calm so-far seen i =
     (i ≤ length e / 8) × (length memo ≡ length memo₀) × (length out ≡ length out₀) × (length notes ≡ length notes₀) × (length calm ≡ length calm₀)
     × Ready purpose bytes n kept memo × (seen ≤ 65536)
-    × (onFrom (taken purpose bytes n kept) (groupsIn e nested extends inverse) (visitLink (groupsIn e nested extends inverse) left) turned (take len prefix) row (going (held so-far memo out notes) seen) i
-    ≡ run (taken purpose bytes n kept) (going (held so-far₀ memo₀ out₀ notes₀) visits) (walk (groupsIn e nested extends inverse) (visitLink (groupsIn e nested extends inverse) left) turned (take len prefix) (rowsIn (groupsIn e nested extends inverse) row)))
-    × Passable (groupsIn e nested extends inverse) (Dull purpose bytes n kept) (held so-far memo out notes) calm
+    × (onFrom (taken purpose bytes n kept) (groupsIn e nested extends inverses) (visitLink (groupsIn e nested extends inverses) left) inverse (take len prefix) row (going (held so-far memo out notes) seen) i
+    ≡ run (taken purpose bytes n kept) (going (held so-far₀ memo₀ out₀ notes₀) visits) (walk (groupsIn e nested extends inverses) (visitLink (groupsIn e nested extends inverses) left) inverse (take len prefix) (rowsIn (groupsIn e nested extends inverses) row)))
+    × Passable (groupsIn e nested extends inverses) (Dull purpose bytes n kept) (held so-far memo out notes) calm
 
 abbrev walk-features-μ-loop : walk-features-lts.MeasureT-loop
-walk-features-μ-loop e nested extends inverse bytes n kept memo₀ out₀ notes₀ calm₀ purpose row turned prefix len left visits count so-far₀ seen₀ i₀ memo out notes calm so-far seen i = length e / 8 - i
+walk-features-μ-loop e nested extends inverses bytes n kept memo₀ out₀ notes₀ calm₀ purpose row inverse prefix len left visits count so-far₀ seen₀ i₀ memo out notes calm so-far seen i = length e / 8 - i
 
 -- ---- `walk_features`, at a row
 
@@ -473,7 +473,7 @@ module _ (t : ℕ) (c : walk-features-lts.After-belongs (walk-claims t) (walk-fe
   top = c .before .before .before .before .before .before .before .before .before .before .before .before .before .before
 
   abbrev groups-here : Groups
-  groups-here = groupsIn (top .args .e .now) (top .args .nested .now) (top .args .extends .now) (top .args .inverse .now)
+  groups-here = groupsIn (top .args .e .now) (top .args .nested .now) (top .args .extends .now) (top .args .inverses .now)
 
   abbrev does : Take
   does = taken (top .args .purpose) (top .args .bytes .now) (top .args .n .now) (top .args .kept .now)
@@ -495,27 +495,27 @@ module _ (t : ℕ) (c : walk-features-lts.After-belongs (walk-claims t) (walk-fe
 
   -- the rows after this one
   abbrev onward : State → State
-  onward s = onFrom does groups-here deeper (top .args .turned) names-here (top .args .row) s (row + 1)
+  onward s = onFrom does groups-here deeper (top .args .inverse) names-here (top .args .row) s (row + 1)
 
   -- the invariant at the row after this one
   abbrev Next : List ℕ → List ℕ → List ℕ → List ℕ → Tally → ℕ → Type 0
   Next memo out notes calm tally seen =
-      walk-features-Inv-loop (top .args .e .now) (top .args .nested .now) (top .args .extends .now) (top .args .inverse .now) (top .args .bytes .now) (top .args .n .now) (top .args .kept .now)
-      (top .args .memo .now) (top .args .out .now) (top .args .notes .now) (top .args .calm .now) (top .args .purpose) (top .args .row) (top .args .turned) (top .args .prefix) (top .args .len) (top .args .left) (top .args .visits)
+      walk-features-Inv-loop (top .args .e .now) (top .args .nested .now) (top .args .extends .now) (top .args .inverses .now) (top .args .bytes .now) (top .args .n .now) (top .args .kept .now)
+      (top .args .memo .now) (top .args .out .now) (top .args .notes .now) (top .args .calm .now) (top .args .purpose) (top .args .row) (top .args .inverse) (top .args .prefix) (top .args .len) (top .args .left) (top .args .visits)
       (length (top .args .e .now) / 8) (top .args .tally) (top .args .visits) 0 memo out notes calm tally seen (row + 1)
 
   -- what is to come from this row on
   abbrev here : State
-  here = onFrom does groups-here deeper (top .args .turned) names-here (top .args .row) (going carried (at-row .loop .seen)) row
+  here = onFrom does groups-here deeper (top .args .inverse) names-here (top .args .row) (going carried (at-row .loop .seen)) row
 
   passed : c .belongs .result ≡ false → onward (going carried (at-row .loop .seen)) ≡ here
-  passed = row-passed does groups-here deeper (top .args .turned) names-here (top .args .row) row (c .before .loop-test .taken) carried (at-row .loop .seen) (c .belongs .result) (c .belongs .ensures)
+  passed = row-passed does groups-here deeper (top .args .inverse) names-here (top .args .row) row (c .before .loop-test .taken) carried (at-row .loop .seen) (c .belongs .result) (c .belongs .ensures)
 
   module _ (q : c .belongs .result ≡ true) (to : ℕ) (n : to ≡ getD (top .args .nested .now) row 0) where
-    module _ (a : Held) (f : Feature) (is : f ≡ featureAt (top .args .e .now) (top .args .turned) names-here row) (d : a ≡ does f carried) where
+    module _ (a : Held) (f : Feature) (is : f ≡ featureAt (top .args .e .now) (top .args .inverse) names-here row) (d : a ≡ does f carried) where
       listed : to ≡ missing → onward (going a (at-row .loop .seen)) ≡ here
       listed m =
-          row-listed does groups-here deeper (top .args .turned) names-here (top .args .row) row (c .before .loop-test .taken) carried (at-row .loop .seen) (c .belongs .result) (c .belongs .ensures) q to n m (at-row .loop .inv .6) a
+          row-listed does groups-here deeper (top .args .inverse) names-here (top .args .row) row (c .before .loop-test .taken) carried (at-row .loop .seen) (c .belongs .result) (c .belongs .ensures) q to n m (at-row .loop .inv .6) a
           (d ∙ ap (λ (g : Feature). does g carried) is)
 
       listed-ready : Ready (top .args .purpose) (top .args .bytes .now) (top .args .n .now) (top .args .kept .now) (a .memo)
@@ -529,26 +529,26 @@ module _ (t : ℕ) (c : walk-features-lts.After-belongs (walk-claims t) (walk-fe
           (passable-stays does dulls-here (passing (top .args .purpose) (top .args .bytes .now) (top .args .n .now) (top .args .kept .now)) groups-here f carried (at-row .loop .calm) (at-row .loop .inv .8))
 
     module _ (m : to ≡ missing → ⊥) (name : ℕ) (is : name ≡ eName (declaredIn [] [] (top .args .e .now)) row) (r : Walked) (memo out notes calm : List ℕ)
-        (e : (stateOf r memo out notes ≡ run does (going carried (at-row .loop .seen)) (deeper to (top .args .turned) (take (top .args .len + 1) (set (top .args .prefix) (top .args .len) name))))
+        (e : (stateOf r memo out notes ≡ run does (going carried (at-row .loop .seen)) (deeper to (top .args .inverse) (take (top .args .len + 1) (set (top .args .prefix) (top .args .len) name))))
         × CalmAfter r groups-here dulls-here memo out notes calm) where
       longer : take (top .args .len + 1) (set (top .args .prefix) (top .args .len) name) ≡ names-here ++ eName (declaredIn [] [] (top .args .e .now)) row ∷ []
       longer = prefix-more (top .args .prefix) (top .args .len) name (omega (arith, top .pre .1 .0 .1, top .pre .1 .0 .2)) ∙ ap (λ (x : ℕ). names-here ++ x ∷ []) is
 
       stopped : r ≡ Over → over ≡ here
       stopped =
-          row-over does groups-here deeper (top .args .turned) names-here (top .args .row) row (c .before .loop-test .taken) carried (at-row .loop .seen) (c .belongs .result) (c .belongs .ensures) q to n m
+          row-over does groups-here deeper (top .args .inverse) names-here (top .args .row) row (c .before .loop-test .taken) carried (at-row .loop .seen) (c .belongs .result) (c .belongs .ensures) q to n m
           (take (top .args .len + 1) (set (top .args .prefix) (top .args .len) name)) longer r memo out notes (e .0)
 
       module _ (tally : Tally) (visits : ℕ) (z : r ≡ Done tally visits) where
         nested : onward (going (held tally memo out notes) visits) ≡ here
         nested =
-            row-done does groups-here deeper (top .args .turned) names-here (top .args .row) row (c .before .loop-test .taken) carried (at-row .loop .seen) (c .belongs .result) (c .belongs .ensures) q to n m
+            row-done does groups-here deeper (top .args .inverse) names-here (top .args .row) row (c .before .loop-test .taken) carried (at-row .loop .seen) (c .belongs .result) (c .belongs .ensures) q to n m
             (take (top .args .len + 1) (set (top .args .prefix) (top .args .len) name)) longer r memo out notes (e .0) tally visits z
 
         nested-good : Ready (top .args .purpose) (top .args .bytes .now) (top .args .n .now) (top .args .kept .now) memo × (visits ≤ visitLimit)
         nested-good =
             done-good does (Ready (top .args .purpose) (top .args .bytes .now) (top .args .n .now) (top .args .kept .now)) (taken-ready (top .args .purpose) (top .args .bytes .now) (top .args .n .now) (top .args .kept .now))
-            r memo out notes carried (at-row .loop .seen) (deeper to (top .args .turned) (take (top .args .len + 1) (set (top .args .prefix) (top .args .len) name))) tally visits (e .0) z (at-row .loop .inv .5)
+            r memo out notes carried (at-row .loop .seen) (deeper to (top .args .inverse) (take (top .args .len + 1) (set (top .args .prefix) (top .args .len) name))) tally visits (e .0) z (at-row .loop .inv .5)
 
         nested-passable : Passable groups-here dulls-here (held tally memo out notes) calm
         nested-passable = after-done groups-here dulls-here r memo out notes calm tally visits z (e .1)
@@ -563,7 +563,7 @@ walk-features-loop-holds t c =
       refl,
       s .pre .1 .0 .0,
       s .pre .1 .0 .3,
-      rw (rows-start (groupsIn (s .args .e .now) (s .args .nested .now) (s .args .extends .now) (s .args .inverse .now)) (s .args .row)),
+      rw (rows-start (groupsIn (s .args .e .now) (s .args .nested .now) (s .args .extends .now) (s .args .inverses .now)) (s .args .row)),
       s .pre .1 .1,
     )
 
@@ -661,10 +661,10 @@ walk-features-loop-again t c =
       w .10 .kept .1 .1 .1 .1 .0 ∙ k .loop .inv .2,
       w .10 .kept .1 .1 .1 .1 .1 .0 ∙ k .loop .inv .3,
       k .loop .inv .4,
-      listed-ready t f (w .0 .taken) (w .2 .result) (w .2 .ensures) (held (w .10 .result) (w .10 .last .1 .1 .1 .0) (w .10 .last .1 .1 .1 .1 .0) (w .10 .last .1 .1 .1 .1 .1 .0)) _ (feature-is (s .args .e .now) (s .args .turned) (take (s .args .len) (s .args .prefix)) (k .loop .i) (w .1 .result) (w .4 .result) (w .5 .result) (w .6 .result) (w .1 .ensures) (w .4 .ensures) (w .5 .ensures) (w .6 .ensures)) (w .10 .ensures),
+      listed-ready t f (w .0 .taken) (w .2 .result) (w .2 .ensures) (held (w .10 .result) (w .10 .last .1 .1 .1 .0) (w .10 .last .1 .1 .1 .1 .0) (w .10 .last .1 .1 .1 .1 .1 .0)) _ (feature-is (s .args .e .now) (s .args .inverse) (take (s .args .len) (s .args .prefix)) (k .loop .i) (w .1 .result) (w .4 .result) (w .5 .result) (w .6 .result) (w .1 .ensures) (w .4 .ensures) (w .5 .ensures) (w .6 .ensures)) (w .10 .ensures),
       k .loop .inv .6,
-      listed t f (w .0 .taken) (w .2 .result) (w .2 .ensures) (held (w .10 .result) (w .10 .last .1 .1 .1 .0) (w .10 .last .1 .1 .1 .1 .0) (w .10 .last .1 .1 .1 .1 .1 .0)) _ (feature-is (s .args .e .now) (s .args .turned) (take (s .args .len) (s .args .prefix)) (k .loop .i) (w .1 .result) (w .4 .result) (w .5 .result) (w .6 .result) (w .1 .ensures) (w .4 .ensures) (w .5 .ensures) (w .6 .ensures)) (w .10 .ensures) (w .3 .taken) ∙ k .loop .inv .7,
-      listed-passable t f (w .0 .taken) (w .2 .result) (w .2 .ensures) (held (w .10 .result) (w .10 .last .1 .1 .1 .0) (w .10 .last .1 .1 .1 .1 .0) (w .10 .last .1 .1 .1 .1 .1 .0)) _ (feature-is (s .args .e .now) (s .args .turned) (take (s .args .len) (s .args .prefix)) (k .loop .i) (w .1 .result) (w .4 .result) (w .5 .result) (w .6 .result) (w .1 .ensures) (w .4 .ensures) (w .5 .ensures) (w .6 .ensures)) (w .10 .ensures),
+      listed t f (w .0 .taken) (w .2 .result) (w .2 .ensures) (held (w .10 .result) (w .10 .last .1 .1 .1 .0) (w .10 .last .1 .1 .1 .1 .0) (w .10 .last .1 .1 .1 .1 .1 .0)) _ (feature-is (s .args .e .now) (s .args .inverse) (take (s .args .len) (s .args .prefix)) (k .loop .i) (w .1 .result) (w .4 .result) (w .5 .result) (w .6 .result) (w .1 .ensures) (w .4 .ensures) (w .5 .ensures) (w .6 .ensures)) (w .10 .ensures) (w .3 .taken) ∙ k .loop .inv .7,
+      listed-passable t f (w .0 .taken) (w .2 .result) (w .2 .ensures) (held (w .10 .result) (w .10 .last .1 .1 .1 .0) (w .10 .last .1 .1 .1 .1 .0) (w .10 .last .1 .1 .1 .1 .1 .0)) _ (feature-is (s .args .e .now) (s .args .inverse) (take (s .args .len) (s .args .prefix)) (k .loop .i) (w .1 .result) (w .4 .result) (w .5 .result) (w .6 .result) (w .1 .ensures) (w .4 .ensures) (w .5 .ensures) (w .6 .ensures)) (w .10 .ensures),
     ))
     (⊎-elim
     (λ w.
@@ -701,7 +701,7 @@ unfolding stateOf CalmAfter
 walk-features-returns-2 t c =
     let s = c .before .before .before .before .before .before .before .before .before .before .before .before .before in
     let k = c .before in (
-      sym (walk-end (taken (s .args .purpose) (s .args .bytes .now) (s .args .n .now) (s .args .kept .now)) (groupsIn (s .args .e .now) (s .args .nested .now) (s .args .extends .now) (s .args .inverse .now)) (visitLink (groupsIn (s .args .e .now) (s .args .nested .now) (s .args .extends .now) (s .args .inverse .now)) (s .args .left)) (s .args .turned) (take (s .args .len) (s .args .prefix)) (s .args .row)
+      sym (walk-end (taken (s .args .purpose) (s .args .bytes .now) (s .args .n .now) (s .args .kept .now)) (groupsIn (s .args .e .now) (s .args .nested .now) (s .args .extends .now) (s .args .inverses .now)) (visitLink (groupsIn (s .args .e .now) (s .args .nested .now) (s .args .extends .now) (s .args .inverses .now)) (s .args .left)) (s .args .inverse) (take (s .args .len) (s .args .prefix)) (s .args .row)
           (k .loop .i) (held (k .loop .so-far) (k .loop .memo) (k .loop .out) (k .loop .notes)) (k .loop .seen) (c .loop-test .left) (k .loop .inv .6))
           ∙ k .loop .inv .7,
       k .loop .inv .8,

@@ -1,31 +1,26 @@
+-- `group_walk::belongs` meets its contract. One law of Laws for each return. Assumes nothing.
 use Rattle.group_walk.proofs.Laws.{not-of, of-by}
 use borrow.Author.Needs.{needs}
 use Rattle.group_walk.proofs.belongs.Statement.{statement}
 use Rattle.group_walk.proofs.belongs.Tie as tie
 
--- src/lib.rt:48:17
 mul-place : tie.Need-mul-place
 mul-place c = search needs
 
--- src/lib.rt:49:21
 add-number-at : tie.Need-add-number-at
 add-number-at c = search needs
 
--- src/lib.rt:49:8
 number-at-requires : tie.Need-number-at-requires
 number-at-requires c κs = tt
 
--- src/lib.rt:50:9
 returns : tie.Need-returns
 returns c =
     let s = c .before .before .before .args in
     not-of (s .e .now) (s .row) (s .i) (c .before .number-at .result) (c .before .number-at .ensures) (c .if1 .taken)
 
--- src/lib.rt:52:5
 number-at-requires-2 : tie.Need-number-at-requires-2
 number-at-requires-2 c κs = tt
 
--- src/lib.rt:44:1
 returns-2 : tie.Need-returns-2
 returns-2 c =
     let s = c .before .before .before .before .args in

@@ -37,12 +37,12 @@ abbrev claims : ℕ → trace-lts.Claims
 claims t = (first-step-reads.Asked, first-step-reads.Learnt, trace-below t, trace.Post, put-row-reads.Asked, put-row-reads.Learnt, next-step-reads.Asked, next-step-reads.Learnt)
 
 abbrev trace-Inv-loop : trace-lts.InvT-loop
-trace-Inv-loop bytes n c x out₀ side conn left other limit count component feature len trail done₀ i₀ j₀ out done i j =
-    Remains 49 (tracedBlock (wiringIn bytes n c x)) (rowsBehind (wiringIn bytes n c x) (sideOf side) conn limit (endOf other) (take len trail) (chains (wiringIn bytes n c x) (sideOf side) left component feature))
-    out₀ count out done (leftRows (wiringIn bytes n c x) (sideOf side) conn limit (endOf other) (take len trail) left (stepsFrom (wiringIn bytes n c x) (sideOf side) component feature i j))
+trace-Inv-loop bytes n c x out₀ side conn left other limit count component feature len so-far done₀ i₀ j₀ out done i j =
+    Remains 49 (tracedBlock (wiringIn bytes n c x)) (rowsBehind (wiringIn bytes n c x) (sideOf side) conn limit (endOf other) (take len so-far) (chains (wiringIn bytes n c x) (sideOf side) left component feature))
+    out₀ count out done (leftRows (wiringIn bytes n c x) (sideOf side) conn limit (endOf other) (take len so-far) left (stepsFrom (wiringIn bytes n c x) (sideOf side) component feature i j))
 
 abbrev trace-μ-loop : trace-lts.MeasureT-loop
-trace-μ-loop bytes n c x out₀ side conn left other limit count component feature len trail done₀ i₀ j₀ out done i j =
+trace-μ-loop bytes n c x out₀ side conn left other limit count component feature len so-far done₀ i₀ j₀ out done i j =
     length (stepsFrom (wiringIn bytes n c x) (sideOf side) component feature i j)
 
 trace-first-step-requires : (t : ℕ) → trace-lts.Need-first-step-requires (claims t) (trace-at t) trace.Post trace-Inv-loop trace-μ-loop

@@ -1,4 +1,4 @@
--- `trace::leads` meets its contract. Part by part, up to the first that fails: one law of Scan for each return. Assumes nothing.
+-- `trace::is_step` meets its contract. Part by part, up to the first that fails: one law of Scan for each return. Assumes nothing.
 use Rattle.trace.proofs.Scan.{not-own, no-sub, near-sub, no-near-feature, by-feature}
 use Rattle.trace.specs.Steps.{sideOf}
 use Rattle.as5506.specs.Tables.{Side as TheSide}
@@ -6,8 +6,8 @@ use Rattle.as5506.specs.Tables.{xSub, xFeat}
 use mathlib.Core.List.{[]}
 use mathlib.Core.Path.{ap, _∙_}
 use borrow.Author.Needs.{needs}
-use Rattle.trace.proofs.leads.Statement.{statement}
-use Rattle.trace.proofs.leads.Tie as tie
+use Rattle.trace.proofs.is_step.Statement.{statement}
+use Rattle.trace.proofs.is_step.Tie as tie
 use Rattle.lent.specs.Lent.{connectionsIn}
 
 mul-number-at : tie.Need-mul-number-at
@@ -62,8 +62,8 @@ returns-5 c =
     _ (c .before .before .before .before .subcomponent-of2 .ensures ∙ ap (λ (t : TheSide). xSub (connectionsIn [] [] (s .x .now)) t (s .i)) (c .before .before .before .before .before .opposite .ensures)) (c .before .before .before .if3 .left)
     _ (c .before .before .feature-of .ensures ∙ ap (λ (t : TheSide). xFeat (connectionsIn [] [] (s .x .now)) t (s .i)) (c .before .before .before .before .before .opposite .ensures)) (c .before .if4 .left) _ (c .same-feature .ensures)
 
-pub leads-spec : {M : Type 1} → statement M
-leads-spec =
+pub is-step-spec : {M : Type 1} → statement M
+is-step-spec =
     tie.close
     (tie.spec
     mul-number-at
