@@ -1,6 +1,7 @@
 //! Sheets whose text is known, refused ones above all: the text of each, what the reader leaves, and every call on tables that are
 //! read but not accepted.
 
+use oracle::sheet::Sheet;
 use oracle::stream::Case;
 
 use crate::lent::Lent;
@@ -42,6 +43,15 @@ pub fn compare(case: &Case, met: &mut Met) -> Result<(), String> {
                 told => Err(format!("the checks told {told:?} of tables that are good")),
             }
         }
+    }
+}
+
+/// The reader makes the tables of an accepted sheet.
+pub fn read_again(bytes: &[u8], sheet: &Sheet) -> Result<(), String> {
+    if read(bytes)? == Ok(Tables::of(sheet)) {
+        Ok(())
+    } else {
+        Err("the reader makes other tables".to_string())
     }
 }
 

@@ -5,6 +5,7 @@
 //! Each model is handed over as a sheet and as tables, with outputs that are exactly full, one number too short, a little too long
 //! and far too long, full of rubbish before the call and with guards around them.
 
+mod both;
 mod damaged;
 mod expansion;
 mod group;
@@ -75,6 +76,7 @@ struct Met {
     traced: traced::Met,
     expansion: expansion::Met,
     group: group::Met,
+    both: both::Met,
     text: text::Met,
     unaccepted: unaccepted::Met,
 }
@@ -90,6 +92,8 @@ impl Met {
         let found = traced::compare(&sheet, &mut self.traced)
             .and_then(|()| expansion::compare(&sheet, renames, &mut self.expansion))
             .and_then(|()| group::compare(&sheet, renames, &mut self.group))
+            .and_then(|()| both::compare(&sheet, &mut self.both))
+            .and_then(|()| damaged::read_again(&case.sheet, &sheet))
             .and_then(|()| {
                 let options = Options {
                     renames,
@@ -130,6 +134,10 @@ impl Met {
         println!(
             "group listing: {} rows, {} diagnostics; {} calls, refused 11, 12, 13, 14: {:?}; {} models that the original is too long at",
             group.rows, group.diagnostics, group.calls, group.refused, group.slow,
+        );
+        println!(
+            "both listings in one call: {} calls, {} refused",
+            self.both.calls, self.both.refused,
         );
         println!(
             "conlist: {} sheets, {} of them refused, {} bytes of text; {} calls",
