@@ -1,6 +1,6 @@
 // Both listings.
 ghost use mathlib.Core.Path.{_≡_};
-ghost use Rattle.as5506.specs.Tables.{tablesOf};
+ghost use Rattle.lent.specs.Lent.{tablesAt};
 ghost use Rattle.listing.specs.Answer.{listed, outputs, answerFor, BothInto};
 ghost use Rattle.conlist_c.specs.Numbers.{bothNumbers};
 use listing::Both;
@@ -28,8 +28,8 @@ pub extern "C" fn conlist_list_connections(
     group_diagnostics: &mut [u32],
     told: &mut [u64; 5],
 )
-    ensures { λ _. ⌜ now (told .exit) ≡ bothNumbers (listed (answerFor (tablesOf (now (bytes .entry)) (now (n .entry)) (now (c .entry)) (now (f .entry)) (now (x .entry)) (now (p .entry)) (now (i .entry)) (now (t .entry)) (now (q .entry)) (now (u .entry)) (now (e .entry)) (now (r .entry))) (outputs (now (rows .entry)) (now (diagnostics .entry)) (now («group_rows» .entry)) (now (names .entry)) (now («group_diagnostics» .entry))))) ⌝ }
-    ensures { λ _. ⌜ BothInto (tablesOf (now (bytes .entry)) (now (n .entry)) (now (c .entry)) (now (f .entry)) (now (x .entry)) (now (p .entry)) (now (i .entry)) (now (t .entry)) (now (q .entry)) (now (u .entry)) (now (e .entry)) (now (r .entry))) (outputs (now (rows .entry)) (now (diagnostics .entry)) (now («group_rows» .entry)) (now (names .entry)) (now («group_diagnostics» .entry))) (listed (answerFor (tablesOf (now (bytes .entry)) (now (n .entry)) (now (c .entry)) (now (f .entry)) (now (x .entry)) (now (p .entry)) (now (i .entry)) (now (t .entry)) (now (q .entry)) (now (u .entry)) (now (e .entry)) (now (r .entry))) (outputs (now (rows .entry)) (now (diagnostics .entry)) (now («group_rows» .entry)) (now (names .entry)) (now («group_diagnostics» .entry))))) (outputs (now (rows .exit)) (now (diagnostics .exit)) (now («group_rows» .exit)) (now (names .exit)) (now («group_diagnostics» .exit))) ⌝ }
+    ensures { λ _. ⌜ now (told .exit) ≡ bothNumbers (listed (answerFor (tablesAt bytes n c f x p i t q u e r) (outputs (now (rows .entry)) (now (diagnostics .entry)) (now («group_rows» .entry)) (now (names .entry)) (now («group_diagnostics» .entry))))) ⌝ }
+    ensures { λ _. ⌜ BothInto (tablesAt bytes n c f x p i t q u e r) (outputs (now (rows .entry)) (now (diagnostics .entry)) (now («group_rows» .entry)) (now (names .entry)) (now («group_diagnostics» .entry))) (listed (answerFor (tablesAt bytes n c f x p i t q u e r) (outputs (now (rows .entry)) (now (diagnostics .entry)) (now («group_rows» .entry)) (now (names .entry)) (now («group_diagnostics» .entry))))) (outputs (now (rows .exit)) (now (diagnostics .exit)) (now («group_rows» .exit)) (now (names .exit)) (now («group_diagnostics» .exit))) ⌝ }
 {
     let answer = listing::list_connections(
         bytes,

@@ -1,6 +1,6 @@
 // The tables' checks.
 ghost use mathlib.Core.Path.{_≡_};
-ghost use Rattle.as5506.specs.Tables.{tablesOf};
+ghost use Rattle.lent.specs.Lent.{tablesAt};
 ghost use Rattle.as5506.specs.Refusals.{faults};
 ghost use Rattle.tables.specs.Answer.{checked};
 ghost use Rattle.conlist_c.specs.Numbers.{checkedNumbers};
@@ -23,7 +23,7 @@ pub extern "C" fn conlist_check_tables(
     r: &[u32],
     told: &mut [u64; 3],
 )
-    ensures { λ _. ⌜ now (told .exit) ≡ checkedNumbers (checked (faults (tablesOf (now (bytes .entry)) (now (n .entry)) (now (c .entry)) (now (f .entry)) (now (x .entry)) (now (p .entry)) (now (i .entry)) (now (t .entry)) (now (q .entry)) (now (u .entry)) (now (e .entry)) (now (r .entry))))) ⌝ }
+    ensures { λ _. ⌜ now (told .exit) ≡ checkedNumbers (checked (faults (tablesAt bytes n c f x p i t q u e r))) ⌝ }
 {
     let answer = tables::check_tables(bytes, n, c, f, x, p, i, t, q, u, e, r);
     match answer {

@@ -1,6 +1,6 @@
 // The expansion of a feature group.
 ghost use mathlib.Core.Path.{_≡_};
-ghost use Rattle.as5506.specs.Tables.{tablesOf};
+ghost use Rattle.lent.specs.Lent.{tablesAt};
 ghost use Rattle.feature_group.specs.Answer.{expanded, answerFor, ExpandedInto};
 ghost use Rattle.conlist_c.specs.Numbers.{expandedNumbers};
 use feature_group::Expanded;
@@ -27,8 +27,8 @@ pub extern "C" fn conlist_expand_feature_group(
     inverse: bool,
     told: &mut [u64; 3],
 )
-    ensures { λ _. ⌜ now (told .exit) ≡ expandedNumbers (expanded (answerFor (tablesOf (now (bytes .entry)) (now (n .entry)) (now (c .entry)) (now (f .entry)) (now (x .entry)) (now (p .entry)) (now (i .entry)) (now (t .entry)) (now (q .entry)) (now (u .entry)) (now (e .entry)) (now (r .entry))) (now (out .entry)) from «type_name» inverse)) ⌝ }
-    ensures { λ _. ⌜ ExpandedInto (tablesOf (now (bytes .entry)) (now (n .entry)) (now (c .entry)) (now (f .entry)) (now (x .entry)) (now (p .entry)) (now (i .entry)) (now (t .entry)) (now (q .entry)) (now (u .entry)) (now (e .entry)) (now (r .entry))) (now (out .entry)) from «type_name» inverse (expanded (answerFor (tablesOf (now (bytes .entry)) (now (n .entry)) (now (c .entry)) (now (f .entry)) (now (x .entry)) (now (p .entry)) (now (i .entry)) (now (t .entry)) (now (q .entry)) (now (u .entry)) (now (e .entry)) (now (r .entry))) (now (out .entry)) from «type_name» inverse)) (now (out .exit)) ⌝ }
+    ensures { λ _. ⌜ now (told .exit) ≡ expandedNumbers (expanded (answerFor (tablesAt bytes n c f x p i t q u e r) (now (out .entry)) from «type_name» inverse)) ⌝ }
+    ensures { λ _. ⌜ ExpandedInto (tablesAt bytes n c f x p i t q u e r) (now (out .entry)) from «type_name» inverse (expanded (answerFor (tablesAt bytes n c f x p i t q u e r) (now (out .entry)) from «type_name» inverse)) (now (out .exit)) ⌝ }
 {
     let answer = feature_group::expand_feature_group(
         bytes,

@@ -1,6 +1,6 @@
 // The group listing.
 ghost use mathlib.Core.Path.{_≡_};
-ghost use Rattle.as5506.specs.Tables.{tablesOf};
+ghost use Rattle.lent.specs.Lent.{tablesAt};
 ghost use Rattle.group_list.specs.Answer.{listed, answerFor, GroupListedInto};
 ghost use Rattle.conlist_c.specs.Numbers.{groupNumbers};
 use group_list::GroupListed;
@@ -26,8 +26,8 @@ pub extern "C" fn conlist_expand_feature_group_connections(
     diagnostics: &mut [u32],
     told: &mut [u64; 3],
 )
-    ensures { λ _. ⌜ now (told .exit) ≡ groupNumbers (listed (answerFor (tablesOf (now (bytes .entry)) (now (n .entry)) (now (c .entry)) (now (f .entry)) (now (x .entry)) (now (p .entry)) (now (i .entry)) (now (t .entry)) (now (q .entry)) (now (u .entry)) (now (e .entry)) (now (r .entry))) (now (rows .entry)) (now (names .entry)) (now (diagnostics .entry)))) ⌝ }
-    ensures { λ _. ⌜ GroupListedInto (tablesOf (now (bytes .entry)) (now (n .entry)) (now (c .entry)) (now (f .entry)) (now (x .entry)) (now (p .entry)) (now (i .entry)) (now (t .entry)) (now (q .entry)) (now (u .entry)) (now (e .entry)) (now (r .entry))) (now (rows .entry)) (now (names .entry)) (now (diagnostics .entry)) (listed (answerFor (tablesOf (now (bytes .entry)) (now (n .entry)) (now (c .entry)) (now (f .entry)) (now (x .entry)) (now (p .entry)) (now (i .entry)) (now (t .entry)) (now (q .entry)) (now (u .entry)) (now (e .entry)) (now (r .entry))) (now (rows .entry)) (now (names .entry)) (now (diagnostics .entry)))) (now (rows .exit)) (now (names .exit)) (now (diagnostics .exit)) ⌝ }
+    ensures { λ _. ⌜ now (told .exit) ≡ groupNumbers (listed (answerFor (tablesAt bytes n c f x p i t q u e r) (now (rows .entry)) (now (names .entry)) (now (diagnostics .entry)))) ⌝ }
+    ensures { λ _. ⌜ GroupListedInto (tablesAt bytes n c f x p i t q u e r) (now (rows .entry)) (now (names .entry)) (now (diagnostics .entry)) (listed (answerFor (tablesAt bytes n c f x p i t q u e r) (now (rows .entry)) (now (names .entry)) (now (diagnostics .entry)))) (now (rows .exit)) (now (names .exit)) (now (diagnostics .exit)) ⌝ }
 {
     let answer = group_list::expand_feature_group_connections(
         bytes,

@@ -1,6 +1,6 @@
 // The sheet's reader.
 ghost use mathlib.Core.Path.{_≡_};
-ghost use Rattle.as5506.specs.Tables.{tablesOf};
+ghost use Rattle.lent.specs.Lent.{tablesAt, tablesLeft};
 ghost use Rattle.as5506.specs.Sheet.{lentOf, readSheet};
 ghost use Rattle.sheet.specs.Read.{sheetRead, ReadInto};
 ghost use Rattle.conlist_c.specs.Numbers.{readNumbers};
@@ -25,8 +25,8 @@ pub extern "C" fn conlist_read_sheet(
     r: &mut [u32],
     told: &mut [u64; 13],
 )
-    ensures { λ _. ⌜ now (told .exit) ≡ readNumbers (sheetRead (readSheet (lentOf (tablesOf (now (bytes .entry)) (now (n .entry)) (now (c .entry)) (now (f .entry)) (now (x .entry)) (now (p .entry)) (now (i .entry)) (now (t .entry)) (now (q .entry)) (now (u .entry)) (now (e .entry)) (now (r .entry)))) (now (sheet .entry)))) ⌝ }
-    ensures { λ _. ⌜ ReadInto (tablesOf (now (bytes .entry)) (now (n .entry)) (now (c .entry)) (now (f .entry)) (now (x .entry)) (now (p .entry)) (now (i .entry)) (now (t .entry)) (now (q .entry)) (now (u .entry)) (now (e .entry)) (now (r .entry))) (now (sheet .entry)) (sheetRead (readSheet (lentOf (tablesOf (now (bytes .entry)) (now (n .entry)) (now (c .entry)) (now (f .entry)) (now (x .entry)) (now (p .entry)) (now (i .entry)) (now (t .entry)) (now (q .entry)) (now (u .entry)) (now (e .entry)) (now (r .entry)))) (now (sheet .entry)))) (tablesOf (now (bytes .exit)) (now (n .exit)) (now (c .exit)) (now (f .exit)) (now (x .exit)) (now (p .exit)) (now (i .exit)) (now (t .exit)) (now (q .exit)) (now (u .exit)) (now (e .exit)) (now (r .exit))) ⌝ }
+    ensures { λ _. ⌜ now (told .exit) ≡ readNumbers (sheetRead (readSheet (lentOf (tablesAt bytes n c f x p i t q u e r)) (now (sheet .entry)))) ⌝ }
+    ensures { λ _. ⌜ ReadInto (tablesAt bytes n c f x p i t q u e r) (now (sheet .entry)) (sheetRead (readSheet (lentOf (tablesAt bytes n c f x p i t q u e r)) (now (sheet .entry)))) (tablesLeft bytes n c f x p i t q u e r) ⌝ }
 {
     let answer = sheet::read_sheet(sheet, bytes, n, c, f, x, p, i, t, q, u, e, r);
     match answer {

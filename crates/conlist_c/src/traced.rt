@@ -1,6 +1,6 @@
 // The traced listing.
 ghost use mathlib.Core.Path.{_≡_};
-ghost use Rattle.as5506.specs.Tables.{tablesOf};
+ghost use Rattle.lent.specs.Lent.{tablesAt};
 ghost use Rattle.instance.specs.Answer.{listed, answerFor, TracedInto};
 ghost use Rattle.conlist_c.specs.Numbers.{tracedNumbers};
 use instance::Listed;
@@ -25,8 +25,8 @@ pub extern "C" fn conlist_compute_semantic_connections(
     diagnostics: &mut [u32],
     told: &mut [u64; 3],
 )
-    ensures { λ _. ⌜ now (told .exit) ≡ tracedNumbers (listed (answerFor (tablesOf (now (bytes .entry)) (now (n .entry)) (now (c .entry)) (now (f .entry)) (now (x .entry)) (now (p .entry)) (now (i .entry)) (now (t .entry)) (now (q .entry)) (now (u .entry)) (now (e .entry)) (now (r .entry))) (now (rows .entry)) (now (diagnostics .entry)))) ⌝ }
-    ensures { λ _. ⌜ TracedInto (tablesOf (now (bytes .entry)) (now (n .entry)) (now (c .entry)) (now (f .entry)) (now (x .entry)) (now (p .entry)) (now (i .entry)) (now (t .entry)) (now (q .entry)) (now (u .entry)) (now (e .entry)) (now (r .entry))) (now (rows .entry)) (now (diagnostics .entry)) (listed (answerFor (tablesOf (now (bytes .entry)) (now (n .entry)) (now (c .entry)) (now (f .entry)) (now (x .entry)) (now (p .entry)) (now (i .entry)) (now (t .entry)) (now (q .entry)) (now (u .entry)) (now (e .entry)) (now (r .entry))) (now (rows .entry)) (now (diagnostics .entry)))) (now (rows .exit)) (now (diagnostics .exit)) ⌝ }
+    ensures { λ _. ⌜ now (told .exit) ≡ tracedNumbers (listed (answerFor (tablesAt bytes n c f x p i t q u e r) (now (rows .entry)) (now (diagnostics .entry)))) ⌝ }
+    ensures { λ _. ⌜ TracedInto (tablesAt bytes n c f x p i t q u e r) (now (rows .entry)) (now (diagnostics .entry)) (listed (answerFor (tablesAt bytes n c f x p i t q u e r) (now (rows .entry)) (now (diagnostics .entry)))) (now (rows .exit)) (now (diagnostics .exit)) ⌝ }
 {
     let answer = instance::compute_semantic_connections(
         bytes,

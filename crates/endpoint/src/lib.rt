@@ -13,7 +13,7 @@ ghost use lib.ListN.{length};
 ghost use Rattle.as5506.specs.Tables.{Tables, tablesOf, nameIn, present, cPackage, eClassifier};
 ghost use Rattle.as5506.specs.Names.{key, sameFolded};
 ghost use Rattle.as5506.specs.GroupList.{isGroupConnection, isGroupFeature, declaredGroup, classifierBy, endComponent, endpoint as theEndpoint};
-ghost use Rattle.lent.specs.Lent.{featuresIn, connectionsIn, declaredIn, wiringIn};
+ghost use Rattle.lent.specs.Lent.{featuresIn, connectionsIn, declaredIn, wiringAt};
 ghost use Rattle.trace.specs.Steps.{sideOf};
 ghost use Rattle.resolver.specs.Found.{rowOf};
 ghost use Rattle.endpoint.specs.Ends.{componentOf, expandedAt, isGroup, isDeclared};
@@ -46,7 +46,7 @@ pub fn is_group_connection(x: &[u32], i: usize) -> bool
 // The component at an end of X row i: the first child of the name, or the owner where no subcomponent is named.
 pub fn end_component(bytes: &[u8], n: &[u32], c: &[u32], x: &[u32], side: Side, i: usize) -> Child
     requires { ⌜ i < length (now x) / 7 ⌝ }
-    ensures { λ z. ⌜ componentOf z ≡ endComponent (wiringIn (now (bytes .entry)) (now (n .entry)) (now (c .entry)) (now (x .entry))) (sideOf side) i ⌝ }
+    ensures { λ z. ⌜ componentOf z ≡ endComponent (wiringAt bytes n c x) (sideOf side) i ⌝ }
 {
     let owner = number_at(x, i * 7 + 1);
     let sub = trace::subcomponent_of(x, side, i);

@@ -11,7 +11,7 @@ ghost use mathlib.Core.Path.{_≡_};
 ghost use mathlib.Core.List.{[]};
 ghost use Prim.Native.Nat.{suc, _/_};
 ghost use lib.ListN.{length};
-ghost use Rattle.as5506.specs.Tables.{tablesOf};
+ghost use Rattle.lent.specs.Lent.{tablesAt};
 ghost use Rattle.as5506.specs.Groups.{depthLimit};
 ghost use Rattle.as5506.specs.Listing.{expansionWithin};
 ghost use Rattle.as5506.specs.Layout.{expansionNumbers};
@@ -97,8 +97,8 @@ fn expand(
     type_name: u32,
     inverse: bool,
 ) -> Expanded
-    ensures { λ z. ⌜ z ≡ expanded (answerFor (tablesOf (now (bytes .entry)) (now (n .entry)) (now (c .entry)) (now (f .entry)) (now (x .entry)) (now (p .entry)) (now (i .entry)) (now (t .entry)) (now (q .entry)) (now (u .entry)) (now (e .entry)) (now (r .entry))) (now (out .entry)) from «type_name» inverse) ⌝ }
-    ensures { λ _. ⌜ AnswerIn expansionNumbers (answerFor (tablesOf (now (bytes .entry)) (now (n .entry)) (now (c .entry)) (now (f .entry)) (now (x .entry)) (now (p .entry)) (now (i .entry)) (now (t .entry)) (now (q .entry)) (now (u .entry)) (now (e .entry)) (now (r .entry))) (now (out .entry)) from «type_name» inverse) (now (out .entry)) (now (out .exit)) ⌝ }
+    ensures { λ z. ⌜ z ≡ expanded (answerFor (tablesAt bytes n c f x p i t q u e r) (now (out .entry)) from «type_name» inverse) ⌝ }
+    ensures { λ _. ⌜ AnswerIn expansionNumbers (answerFor (tablesAt bytes n c f x p i t q u e r) (now (out .entry)) from «type_name» inverse) (now (out .entry)) (now (out .exit)) ⌝ }
 {
     if let Checked::Refused(reason) = tables::check_tables(bytes, n, c, f, x, p, i, t, q, u, e, r) {
         return Expanded::Refused(reason);
@@ -158,7 +158,7 @@ pub fn expand_feature_group(
     inverse: bool,
 ) -> Expanded
     ensures { λ z. ⌜ ExpandedInto
-        (tablesOf (now (bytes .entry)) (now (n .entry)) (now (c .entry)) (now (f .entry)) (now (x .entry)) (now (p .entry)) (now (i .entry)) (now (t .entry)) (now (q .entry)) (now (u .entry)) (now (e .entry)) (now (r .entry)))
+        (tablesAt bytes n c f x p i t q u e r)
         (now (out .entry)) from «type_name» inverse z (now (out .exit)) ⌝ }
 {
     lent::clear_numbers(out);

@@ -12,7 +12,7 @@ ghost use Prim.Native.Nat.{_*_, _/_, _≤_};
 ghost use lib.Dec.{T};
 ghost use lib.ListN.{length};
 ghost use Rattle.as5506.specs.Lists.{zeros};
-ghost use Rattle.as5506.specs.Tables.{tablesOf};
+ghost use Rattle.lent.specs.Lent.{tablesAt, tablesLent};
 ghost use Rattle.as5506.specs.Refusals.{accepted};
 ghost use Rattle.as5506.specs.Layout.{groupRowNumbers, groupDiagNumbers, composedNames};
 ghost use Rattle.lent.specs.Answered.{AnswerIn};
@@ -54,11 +54,11 @@ fn match_in(
     rows: &mut [u32],
     notes: &mut [u32],
 ) -> Matched
-    requires { ⌜ T (accepted (tablesOf (now bytes) (now n) (now c) (now f) (now x) (now p) (now i) (now t) (now q) (now u) (now e) (now r))) ⌝ }
+    requires { ⌜ T (accepted (tablesLent bytes n c f x p i t q u e r)) ⌝ }
     requires { ⌜ (length (now e) / 8 ≤ length (now nested)) × (length (now u) / 9 ≤ length (now extends)) × (length (now u) / 9 ≤ length (now inverse)) ⌝ }
     requires { ⌜ (length (now n) / 2 ≤ length (now memo)) × (length (now memo) * 14 ≤ length (now kept)) × (length (now u) / 9 * 11 ≤ length (now calm)) ⌝ }
     ensures { λ z. ⌜ MatchedInto
-        (tablesOf (now (bytes .entry)) (now (n .entry)) (now (c .entry)) (now (f .entry)) (now (x .entry)) (now (p .entry)) (now (i .entry)) (now (t .entry)) (now (q .entry)) (now (u .entry)) (now (e .entry)) (now (r .entry)))
+        (tablesAt bytes n c f x p i t q u e r)
         (now (rows .entry)) (now (notes .entry)) z (now (rows .exit)) (now (notes .exit)) ⌝ }
 {
     links::link_groups(bytes, n, p, i, t, q, u, e, r, nested, extends, inverse);
@@ -105,10 +105,10 @@ fn match_small(
     rows: &mut [u32],
     notes: &mut [u32],
 ) -> Matched
-    requires { ⌜ T (accepted (tablesOf (now bytes) (now n) (now c) (now f) (now x) (now p) (now i) (now t) (now q) (now u) (now e) (now r))) ⌝ }
+    requires { ⌜ T (accepted (tablesLent bytes n c f x p i t q u e r)) ⌝ }
     requires { ⌜ (length (now n) / 2 ≤ 256) × (length (now u) / 9 ≤ 96) × (length (now e) / 8 ≤ 96) ⌝ }
     ensures { λ z. ⌜ MatchedInto
-        (tablesOf (now (bytes .entry)) (now (n .entry)) (now (c .entry)) (now (f .entry)) (now (x .entry)) (now (p .entry)) (now (i .entry)) (now (t .entry)) (now (q .entry)) (now (u .entry)) (now (e .entry)) (now (r .entry)))
+        (tablesAt bytes n c f x p i t q u e r)
         (now (rows .entry)) (now (notes .entry)) z (now (rows .exit)) (now (notes .exit)) ⌝ }
 {
     let mut nested = [0u32; SMALL_ROWS];
@@ -158,9 +158,9 @@ fn match_large(
     rows: &mut [u32],
     notes: &mut [u32],
 ) -> Matched
-    requires { ⌜ T (accepted (tablesOf (now bytes) (now n) (now c) (now f) (now x) (now p) (now i) (now t) (now q) (now u) (now e) (now r))) ⌝ }
+    requires { ⌜ T (accepted (tablesLent bytes n c f x p i t q u e r)) ⌝ }
     ensures { λ z. ⌜ MatchedInto
-        (tablesOf (now (bytes .entry)) (now (n .entry)) (now (c .entry)) (now (f .entry)) (now (x .entry)) (now (p .entry)) (now (i .entry)) (now (t .entry)) (now (q .entry)) (now (u .entry)) (now (e .entry)) (now (r .entry)))
+        (tablesAt bytes n c f x p i t q u e r)
         (now (rows .entry)) (now (notes .entry)) z (now (rows .exit)) (now (notes .exit)) ⌝ }
 {
     let mut nested = [0u32; TABLE_ROWS];
@@ -210,9 +210,9 @@ fn match_all(
     rows: &mut [u32],
     notes: &mut [u32],
 ) -> Matched
-    requires { ⌜ T (accepted (tablesOf (now bytes) (now n) (now c) (now f) (now x) (now p) (now i) (now t) (now q) (now u) (now e) (now r))) ⌝ }
+    requires { ⌜ T (accepted (tablesLent bytes n c f x p i t q u e r)) ⌝ }
     ensures { λ z. ⌜ MatchedInto
-        (tablesOf (now (bytes .entry)) (now (n .entry)) (now (c .entry)) (now (f .entry)) (now (x .entry)) (now (p .entry)) (now (i .entry)) (now (t .entry)) (now (q .entry)) (now (u .entry)) (now (e .entry)) (now (r .entry)))
+        (tablesAt bytes n c f x p i t q u e r)
         (now (rows .entry)) (now (notes .entry)) z (now (rows .exit)) (now (notes .exit)) ⌝ }
 {
     if n.len() / 2 <= SMALL_NAMES && u.len() / 9 <= SMALL_ROWS && e.len() / 8 <= SMALL_ROWS {
@@ -240,13 +240,13 @@ pub fn list_accepted(
     names: &mut [u8],
     diagnostics: &mut [u32],
 ) -> GroupListed
-    requires { ⌜ T (accepted (tablesOf (now bytes) (now n) (now c) (now f) (now x) (now p) (now i) (now t) (now q) (now u) (now e) (now r))) ⌝ }
-    ensures { λ z. ⌜ z ≡ listed (answerOf (tablesOf (now (bytes .entry)) (now (n .entry)) (now (c .entry)) (now (f .entry)) (now (x .entry)) (now (p .entry)) (now (i .entry)) (now (t .entry)) (now (q .entry)) (now (u .entry)) (now (e .entry)) (now (r .entry))) (now (rows .entry)) (now (names .entry)) (now (diagnostics .entry))) ⌝ }
-    ensures { λ _. ⌜ AnswerIn groupRowNumbers (answerOf (tablesOf (now (bytes .entry)) (now (n .entry)) (now (c .entry)) (now (f .entry)) (now (x .entry)) (now (p .entry)) (now (i .entry)) (now (t .entry)) (now (q .entry)) (now (u .entry)) (now (e .entry)) (now (r .entry))) (now (rows .entry)) (now (names .entry)) (now (diagnostics .entry)))
+    requires { ⌜ T (accepted (tablesLent bytes n c f x p i t q u e r)) ⌝ }
+    ensures { λ z. ⌜ z ≡ listed (answerOf (tablesAt bytes n c f x p i t q u e r) (now (rows .entry)) (now (names .entry)) (now (diagnostics .entry))) ⌝ }
+    ensures { λ _. ⌜ AnswerIn groupRowNumbers (answerOf (tablesAt bytes n c f x p i t q u e r) (now (rows .entry)) (now (names .entry)) (now (diagnostics .entry)))
         (now (rows .entry)) (now (rows .exit)) ⌝ }
-    ensures { λ _. ⌜ AnswerIn composedNames (answerOf (tablesOf (now (bytes .entry)) (now (n .entry)) (now (c .entry)) (now (f .entry)) (now (x .entry)) (now (p .entry)) (now (i .entry)) (now (t .entry)) (now (q .entry)) (now (u .entry)) (now (e .entry)) (now (r .entry))) (now (rows .entry)) (now (names .entry)) (now (diagnostics .entry)))
+    ensures { λ _. ⌜ AnswerIn composedNames (answerOf (tablesAt bytes n c f x p i t q u e r) (now (rows .entry)) (now (names .entry)) (now (diagnostics .entry)))
         (now (names .entry)) (now (names .exit)) ⌝ }
-    ensures { λ _. ⌜ AnswerIn groupDiagNumbers (answerOf (tablesOf (now (bytes .entry)) (now (n .entry)) (now (c .entry)) (now (f .entry)) (now (x .entry)) (now (p .entry)) (now (i .entry)) (now (t .entry)) (now (q .entry)) (now (u .entry)) (now (e .entry)) (now (r .entry))) (now (rows .entry)) (now (names .entry)) (now (diagnostics .entry)))
+    ensures { λ _. ⌜ AnswerIn groupDiagNumbers (answerOf (tablesAt bytes n c f x p i t q u e r) (now (rows .entry)) (now (names .entry)) (now (diagnostics .entry)))
         (now (diagnostics .entry)) (now (diagnostics .exit)) ⌝ }
 {
     let matched = match_all(bytes, n, c, f, x, p, i, t, q, u, e, r, rows, diagnostics);
@@ -290,7 +290,7 @@ pub fn expand_feature_group_connections(
     diagnostics: &mut [u32],
 ) -> GroupListed
     ensures { λ z. ⌜ GroupListedInto
-        (tablesOf (now (bytes .entry)) (now (n .entry)) (now (c .entry)) (now (f .entry)) (now (x .entry)) (now (p .entry)) (now (i .entry)) (now (t .entry)) (now (q .entry)) (now (u .entry)) (now (e .entry)) (now (r .entry)))
+        (tablesAt bytes n c f x p i t q u e r)
         (now (rows .entry)) (now (names .entry)) (now (diagnostics .entry)) z (now (rows .exit)) (now (names .exit)) (now (diagnostics .exit)) ⌝ }
 {
     clear(rows, names, diagnostics);

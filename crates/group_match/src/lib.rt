@@ -22,7 +22,7 @@ ghost use Rattle.as5506.specs.Tables.{Tables, tablesOf};
 ghost use Rattle.as5506.specs.Refusals.{accepted};
 ghost use Rattle.as5506.specs.GroupList.{endpoint as theEndpoint};
 ghost use Rattle.lent.specs.Append.{filled};
-ghost use Rattle.lent.specs.Lent.{namesIn};
+ghost use Rattle.lent.specs.Lent.{namesIn, tablesAt, tablesLent};
 ghost use Rattle.links.specs.Links.{Linked};
 ghost use Rattle.links.specs.Walk.{groupsIn, visitLink};
 ghost use Rattle.sink.specs.Take.{held, taken, Ready};
@@ -286,11 +286,11 @@ fn match_connection(
     row: usize,
     tally: Tally,
 ) -> Matched
-    requires { ⌜ T (accepted (tablesOf (now bytes) (now n) (now c) (now f) (now x) (now p) (now i) (now t) (now q) (now u) (now e) (now r))) ⌝ }
-    requires { ⌜ Linked (tablesOf (now bytes) (now n) (now c) (now f) (now x) (now p) (now i) (now t) (now q) (now u) (now e) (now r)) (now nested) (now extends) (now inverses) ⌝ }
+    requires { ⌜ T (accepted (tablesLent bytes n c f x p i t q u e r)) ⌝ }
+    requires { ⌜ Linked (tablesLent bytes n c f x p i t q u e r) (now nested) (now extends) (now inverses) ⌝ }
     requires { ⌜ Workplace (now e) (now memo) (now kept) × (row < length (now x) / 7) × (tally .used ≤ length (now rows) + 1) × (tally .noted ≤ length (now notes) + 1) ⌝ }
     ensures { λ z.
-        ⌜ (let m : Tables = tablesOf (now (bytes .entry)) (now (n .entry)) (now (c .entry)) (now (f .entry)) (now (x .entry)) (now (p .entry)) (now (i .entry)) (now (t .entry)) (now (q .entry)) (now (u .entry)) (now (e .entry)) (now (r .entry)) in
+        ⌜ (let m : Tables = tablesAt bytes n c f x p i t q u e r in
         listsOf z (now (rows .exit)) (now (notes .exit)) ≡ afterAll m (connectionsAt m row) (lists (filled (now (rows .entry)) (tally .used)) (filled (now (notes .entry)) (tally .noted)))) ⌝ }
 {
     if !endpoint::is_group_connection(x, row) {
@@ -379,11 +379,11 @@ pub fn match_connections(
     rows: &mut [u32],
     notes: &mut [u32],
 ) -> Matched
-    requires { ⌜ T (accepted (tablesOf (now bytes) (now n) (now c) (now f) (now x) (now p) (now i) (now t) (now q) (now u) (now e) (now r))) ⌝ }
-    requires { ⌜ Linked (tablesOf (now bytes) (now n) (now c) (now f) (now x) (now p) (now i) (now t) (now q) (now u) (now e) (now r)) (now nested) (now extends) (now inverses) ⌝ }
+    requires { ⌜ T (accepted (tablesLent bytes n c f x p i t q u e r)) ⌝ }
+    requires { ⌜ Linked (tablesLent bytes n c f x p i t q u e r) (now nested) (now extends) (now inverses) ⌝ }
     requires { ⌜ (length (now n) / 2 ≤ length (now memo)) × (length (now memo) ≤ 4096) × (length (now memo) * 14 ≤ length (now kept)) ⌝ }
     ensures { λ z. ⌜ MatchedInto
-        (tablesOf (now (bytes .entry)) (now (n .entry)) (now (c .entry)) (now (f .entry)) (now (x .entry)) (now (p .entry)) (now (i .entry)) (now (t .entry)) (now (q .entry)) (now (u .entry)) (now (e .entry)) (now (r .entry)))
+        (tablesAt bytes n c f x p i t q u e r)
         (now (rows .entry)) (now (notes .entry)) z (now (rows .exit)) (now (notes .exit)) ⌝ }
 {
     let count = x.len() / 7;

@@ -1,6 +1,6 @@
 // The traced listing (instance.rs, `compute_semantic_connections`) over the caller's tables and outputs.
 ghost use mathlib.Core.Path.{_≡_};
-ghost use Rattle.as5506.specs.Tables.{tablesOf};
+ghost use Rattle.lent.specs.Lent.{tablesAt};
 ghost use Rattle.as5506.specs.Layout.{tracedRowNumbers, tracedDiagNumbers};
 ghost use Rattle.lent.specs.Answered.{AnswerIn};
 ghost use Rattle.instance.specs.Answer.{listed, answerFor, TracedInto};
@@ -31,9 +31,9 @@ fn list(
     rows: &mut [u32],
     diagnostics: &mut [u32],
 ) -> Listed
-    ensures { λ z. ⌜ z ≡ listed (answerFor (tablesOf (now (bytes .entry)) (now (n .entry)) (now (c .entry)) (now (f .entry)) (now (x .entry)) (now (p .entry)) (now (i .entry)) (now (t .entry)) (now (q .entry)) (now (u .entry)) (now (e .entry)) (now (r .entry))) (now (rows .entry)) (now (diagnostics .entry))) ⌝ }
-    ensures { λ _. ⌜ AnswerIn (tracedRowNumbers (tablesOf (now (bytes .entry)) (now (n .entry)) (now (c .entry)) (now (f .entry)) (now (x .entry)) (now (p .entry)) (now (i .entry)) (now (t .entry)) (now (q .entry)) (now (u .entry)) (now (e .entry)) (now (r .entry)))) (answerFor (tablesOf (now (bytes .entry)) (now (n .entry)) (now (c .entry)) (now (f .entry)) (now (x .entry)) (now (p .entry)) (now (i .entry)) (now (t .entry)) (now (q .entry)) (now (u .entry)) (now (e .entry)) (now (r .entry))) (now (rows .entry)) (now (diagnostics .entry))) (now (rows .entry)) (now (rows .exit)) ⌝ }
-    ensures { λ _. ⌜ AnswerIn tracedDiagNumbers (answerFor (tablesOf (now (bytes .entry)) (now (n .entry)) (now (c .entry)) (now (f .entry)) (now (x .entry)) (now (p .entry)) (now (i .entry)) (now (t .entry)) (now (q .entry)) (now (u .entry)) (now (e .entry)) (now (r .entry))) (now (rows .entry)) (now (diagnostics .entry))) (now (diagnostics .entry)) (now (diagnostics .exit)) ⌝ }
+    ensures { λ z. ⌜ z ≡ listed (answerFor (tablesAt bytes n c f x p i t q u e r) (now (rows .entry)) (now (diagnostics .entry))) ⌝ }
+    ensures { λ _. ⌜ AnswerIn (tracedRowNumbers (tablesAt bytes n c f x p i t q u e r)) (answerFor (tablesAt bytes n c f x p i t q u e r) (now (rows .entry)) (now (diagnostics .entry))) (now (rows .entry)) (now (rows .exit)) ⌝ }
+    ensures { λ _. ⌜ AnswerIn tracedDiagNumbers (answerFor (tablesAt bytes n c f x p i t q u e r) (now (rows .entry)) (now (diagnostics .entry))) (now (diagnostics .entry)) (now (diagnostics .exit)) ⌝ }
 {
     if let Checked::Refused(reason) = tables::check_tables(bytes, n, c, f, x, p, i, t, q, u, e, r) {
         return Listed::Refused(reason);
@@ -65,7 +65,7 @@ pub fn compute_semantic_connections(
     diagnostics: &mut [u32],
 ) -> Listed
     ensures { λ z. ⌜ TracedInto
-        (tablesOf (now (bytes .entry)) (now (n .entry)) (now (c .entry)) (now (f .entry)) (now (x .entry)) (now (p .entry)) (now (i .entry)) (now (t .entry)) (now (q .entry)) (now (u .entry)) (now (e .entry)) (now (r .entry)))
+        (tablesAt bytes n c f x p i t q u e r)
         (now (rows .entry)) (now (diagnostics .entry)) z (now (rows .exit)) (now (diagnostics .exit)) ⌝ }
 {
     lent::clear_numbers(rows);

@@ -10,7 +10,7 @@ ghost use Rattle.as5506.specs.Lists.{when};
 ghost use Rattle.as5506.specs.Rows.{diag};
 ghost use Rattle.as5506.specs.Tracing.{diagsBy, diagsAt, tracedDiags, across};
 ghost use Rattle.as5506.specs.Layout.{diagBlock};
-ghost use Rattle.lent.specs.Lent.{wiringIn};
+ghost use Rattle.lent.specs.Lent.{wiringAt};
 ghost use Rattle.name.specs.Pattern.{saysOneToOne};
 ghost use Rattle.trace.specs.Steps.{sideOf};
 ghost use Rattle.trace.specs.Writing.{Written};
@@ -88,7 +88,7 @@ fn diagnose_across(
     count: usize,
 ) -> Wrote
     requires { ⌜ (length (now c) / 6 ≤ 4096) × (length (now x) / 7 ≤ 4096) × (count ≤ length (now out) / 4) × (i < length (now x) / 7) ⌝ }
-    ensures { λ r. ⌜ Written 4 diagBlock (diagsBy (wiringIn (now (bytes .entry)) (now (n .entry)) (now (c .entry)) (now (x .entry))) i across) (now (out .entry)) count r (now (out .exit)) ⌝ }
+    ensures { λ r. ⌜ Written 4 diagBlock (diagsBy (wiringAt bytes n c x) i across) (now (out .entry)) count r (now (out .exit)) ⌝ }
 {
     let conn = i as u32;
     let s = ends::count_named(bytes, n, c, x, Side::Source, i);
@@ -135,7 +135,7 @@ fn diagnose_edge(
     count: usize,
 ) -> Wrote
     requires { ⌜ (length (now c) / 6 ≤ 4096) × (length (now x) / 7 ≤ 4096) × (count ≤ length (now out) / 4) × (i < length (now x) / 7) ⌝ }
-    ensures { λ r. ⌜ Written 4 diagBlock (diagsBy (wiringIn (now (bytes .entry)) (now (n .entry)) (now (c .entry)) (now (x .entry))) i (edgeOf (sideOf side))) (now (out .entry)) count r (now (out .exit)) ⌝ }
+    ensures { λ r. ⌜ Written 4 diagBlock (diagsBy (wiringAt bytes n c x) i (edgeOf (sideOf side))) (now (out .entry)) count r (now (out .exit)) ⌝ }
 {
     if ends::has_parent(c, ends::owner_of(x, i)) {
         return Wrote::Count(count);
@@ -163,7 +163,7 @@ fn diagnose_connection(
     count: usize,
 ) -> Wrote
     requires { ⌜ (length (now c) / 6 ≤ 4096) × (length (now x) / 7 ≤ 4096) × (count ≤ length (now out) / 4) × (i < length (now x) / 7) ⌝ }
-    ensures { λ r. ⌜ Written 4 diagBlock (diagsAt (wiringIn (now (bytes .entry)) (now (n .entry)) (now (c .entry)) (now (x .entry))) i) (now (out .entry)) count r (now (out .exit)) ⌝ }
+    ensures { λ r. ⌜ Written 4 diagBlock (diagsAt (wiringAt bytes n c x) i) (now (out .entry)) count r (now (out .exit)) ⌝ }
 {
     match ends::shape_of(x, i) {
         Shape::Faulty => put_diagnostic(out, 1, i as u32, 0, 0, count),
@@ -177,7 +177,7 @@ fn diagnose_connection(
 // Writes the diagnostics of all X rows, from the front of the output on.
 pub fn diagnose_connections(bytes: &[u8], n: &[u32], c: &[u32], x: &[u32], out: &mut [u32]) -> Wrote
     requires { ⌜ (length (now c) / 6 ≤ 4096) × (length (now x) / 7 ≤ 4096) ⌝ }
-    ensures { λ r. ⌜ Written 4 diagBlock (tracedDiags (wiringIn (now (bytes .entry)) (now (n .entry)) (now (c .entry)) (now (x .entry)))) (now (out .entry)) 0 r (now (out .exit)) ⌝ }
+    ensures { λ r. ⌜ Written 4 diagBlock (tracedDiags (wiringAt bytes n c x)) (now (out .entry)) 0 r (now (out .exit)) ⌝ }
 {
     let rows = x.len() / 7;
     let mut done = 0;

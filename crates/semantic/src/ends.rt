@@ -5,7 +5,7 @@ ghost use Prim.Native.Nat.{_+_, _*_, _/_, _<_, _≤_};
 ghost use lib.ListN.{length};
 ghost use Rattle.as5506.specs.Tables.{present, xOwner, cParent};
 ghost use Rattle.as5506.specs.Tracing.{shape, named, oneToOne};
-ghost use Rattle.lent.specs.Lent.{componentsIn, connectionsIn, wiringIn};
+ghost use Rattle.lent.specs.Lent.{componentsIn, connectionsIn, wiringAt};
 ghost use Rattle.name.specs.Pattern.{saysOneToOne};
 ghost use Rattle.children.specs.Found.{afterChild, Inside};
 ghost use Rattle.trace.specs.Steps.{sideOf};
@@ -80,8 +80,8 @@ pub fn next_named(
     from: usize,
 ) -> Child
     requires { ⌜ i < length (now x) / 7 ⌝ }
-    ensures { λ r. ⌜ namedFrom (wiringIn (now (bytes .entry)) (now (n .entry)) (now (c .entry)) (now (x .entry))) (sideOf side) i from
-        ≡ afterChild (namedFrom (wiringIn (now (bytes .entry)) (now (n .entry)) (now (c .entry)) (now (x .entry))) (sideOf side) i) r ⌝ }
+    ensures { λ r. ⌜ namedFrom (wiringAt bytes n c x) (sideOf side) i from
+        ≡ afterChild (namedFrom (wiringAt bytes n c x) (sideOf side) i) r ⌝ }
     ensures { λ r. ⌜ Inside (now (c .entry)) r ⌝ }
 {
     children::find_child_by_name(
@@ -97,7 +97,7 @@ pub fn next_named(
 // How many children X row i names on a side.
 pub fn count_named(bytes: &[u8], n: &[u32], c: &[u32], x: &[u32], side: Side, i: usize) -> usize
     requires { ⌜ i < length (now x) / 7 ⌝ }
-    ensures { λ r. ⌜ r ≡ length (named (wiringIn (now (bytes .entry)) (now (n .entry)) (now (c .entry)) (now (x .entry))) (sideOf side) i) ⌝ }
+    ensures { λ r. ⌜ r ≡ length (named (wiringAt bytes n c x) (sideOf side) i) ⌝ }
     ensures { λ r. ⌜ r ≤ length (now (c .entry)) / 6 ⌝ }
 {
     children::count_children(

@@ -5,7 +5,7 @@ ghost use Rattle.as5506.specs.Tables.{source, destination};
 ghost use Rattle.as5506.specs.Tracing.{pairRows, rowsAt, traced, stepLimit, pairsBy, across};
 ghost use Rattle.as5506.specs.Lists.{each};
 ghost use Rattle.as5506.specs.Layout.{tracedBlock};
-ghost use Rattle.lent.specs.Lent.{wiringIn};
+ghost use Rattle.lent.specs.Lent.{wiringAt};
 ghost use Rattle.trace.specs.Steps.{sideOf};
 ghost use Rattle.trace.specs.Writing.{Written};
 ghost use Rattle.semantic.specs.Rows.{pairOn, namedFrom, rowsBeside, rowsAll, rowsZip, edgeOf};
@@ -31,9 +31,9 @@ fn trace_pair(
     count: usize,
 ) -> Wrote
     requires { ⌜ (length (now c) / 6 ≤ 4096) × (length (now x) / 7 ≤ 4096) × (count ≤ length (now out) / 49) × (i < length (now x) / 7) ⌝ }
-    ensures { λ r. ⌜ Written 49 (tracedBlock (wiringIn (now (bytes .entry)) (now (n .entry)) (now (c .entry)) (now (x .entry))))
-        (pairRows (wiringIn (now (bytes .entry)) (now (n .entry)) (now (c .entry)) (now (x .entry))) stepLimit i
-        (pairOn (wiringIn (now (bytes .entry)) (now (n .entry)) (now (c .entry)) (now (x .entry))) i source from to))
+    ensures { λ r. ⌜ Written 49 (tracedBlock (wiringAt bytes n c x))
+        (pairRows (wiringAt bytes n c x) stepLimit i
+        (pairOn (wiringAt bytes n c x) i source from to))
         (now (out .entry)) count r (now (out .exit)) ⌝ }
 {
     let mut path = [0u32; 21];
@@ -80,9 +80,9 @@ fn trace_on(
     count: usize,
 ) -> Wrote
     requires { ⌜ (length (now c) / 6 ≤ 4096) × (length (now x) / 7 ≤ 4096) × (count ≤ length (now out) / 49) × (i < length (now x) / 7) ⌝ }
-    ensures { λ r. ⌜ Written 49 (tracedBlock (wiringIn (now (bytes .entry)) (now (n .entry)) (now (c .entry)) (now (x .entry))))
-        (pairRows (wiringIn (now (bytes .entry)) (now (n .entry)) (now (c .entry)) (now (x .entry))) stepLimit i
-        (pairOn (wiringIn (now (bytes .entry)) (now (n .entry)) (now (c .entry)) (now (x .entry))) i (sideOf side) near far))
+    ensures { λ r. ⌜ Written 49 (tracedBlock (wiringAt bytes n c x))
+        (pairRows (wiringAt bytes n c x) stepLimit i
+        (pairOn (wiringAt bytes n c x) i (sideOf side) near far))
         (now (out .entry)) count r (now (out .exit)) ⌝ }
 {
     match side {
@@ -104,9 +104,9 @@ fn trace_beside(
     count: usize,
 ) -> Wrote
     requires { ⌜ (length (now c) / 6 ≤ 4096) × (length (now x) / 7 ≤ 4096) × (count ≤ length (now out) / 49) × (i < length (now x) / 7) ⌝ }
-    ensures { λ r. ⌜ Written 49 (tracedBlock (wiringIn (now (bytes .entry)) (now (n .entry)) (now (c .entry)) (now (x .entry))))
-        (rowsBeside (wiringIn (now (bytes .entry)) (now (n .entry)) (now (c .entry)) (now (x .entry))) i (sideOf side) far
-        (namedFrom (wiringIn (now (bytes .entry)) (now (n .entry)) (now (c .entry)) (now (x .entry))) (sideOf side) i 0))
+    ensures { λ r. ⌜ Written 49 (tracedBlock (wiringAt bytes n c x))
+        (rowsBeside (wiringAt bytes n c x) i (sideOf side) far
+        (namedFrom (wiringAt bytes n c x) (sideOf side) i 0))
         (now (out .entry)) count r (now (out .exit)) ⌝ }
 {
     let mut done = count;
@@ -153,9 +153,9 @@ fn trace_all_to_all(
     count: usize,
 ) -> Wrote
     requires { ⌜ (length (now c) / 6 ≤ 4096) × (length (now x) / 7 ≤ 4096) × (count ≤ length (now out) / 49) × (i < length (now x) / 7) ⌝ }
-    ensures { λ r. ⌜ Written 49 (tracedBlock (wiringIn (now (bytes .entry)) (now (n .entry)) (now (c .entry)) (now (x .entry))))
-        (rowsAll (wiringIn (now (bytes .entry)) (now (n .entry)) (now (c .entry)) (now (x .entry))) i
-        (namedFrom (wiringIn (now (bytes .entry)) (now (n .entry)) (now (c .entry)) (now (x .entry))) source i 0))
+    ensures { λ r. ⌜ Written 49 (tracedBlock (wiringAt bytes n c x))
+        (rowsAll (wiringAt bytes n c x) i
+        (namedFrom (wiringAt bytes n c x) source i 0))
         (now (out .entry)) count r (now (out .exit)) ⌝ }
 {
     if let Child::Nothing = ends::next_named(bytes, n, c, x, Side::Destination, i, 0) {
@@ -204,10 +204,10 @@ fn trace_one_to_one(
     count: usize,
 ) -> Wrote
     requires { ⌜ (length (now c) / 6 ≤ 4096) × (length (now x) / 7 ≤ 4096) × (count ≤ length (now out) / 49) × (i < length (now x) / 7) ⌝ }
-    ensures { λ r. ⌜ Written 49 (tracedBlock (wiringIn (now (bytes .entry)) (now (n .entry)) (now (c .entry)) (now (x .entry))))
-        (rowsZip (wiringIn (now (bytes .entry)) (now (n .entry)) (now (c .entry)) (now (x .entry))) i
-        (namedFrom (wiringIn (now (bytes .entry)) (now (n .entry)) (now (c .entry)) (now (x .entry))) source i 0)
-        (namedFrom (wiringIn (now (bytes .entry)) (now (n .entry)) (now (c .entry)) (now (x .entry))) destination i 0))
+    ensures { λ r. ⌜ Written 49 (tracedBlock (wiringAt bytes n c x))
+        (rowsZip (wiringAt bytes n c x) i
+        (namedFrom (wiringAt bytes n c x) source i 0)
+        (namedFrom (wiringAt bytes n c x) destination i 0))
         (now (out .entry)) count r (now (out .exit)) ⌝ }
 {
     let mut done = count;
@@ -254,9 +254,9 @@ fn trace_across(
     count: usize,
 ) -> Wrote
     requires { ⌜ (length (now c) / 6 ≤ 4096) × (length (now x) / 7 ≤ 4096) × (count ≤ length (now out) / 49) × (i < length (now x) / 7) ⌝ }
-    ensures { λ r. ⌜ Written 49 (tracedBlock (wiringIn (now (bytes .entry)) (now (n .entry)) (now (c .entry)) (now (x .entry))))
-        (each (pairRows (wiringIn (now (bytes .entry)) (now (n .entry)) (now (c .entry)) (now (x .entry))) stepLimit i)
-        (pairsBy (wiringIn (now (bytes .entry)) (now (n .entry)) (now (c .entry)) (now (x .entry))) i across))
+    ensures { λ r. ⌜ Written 49 (tracedBlock (wiringAt bytes n c x))
+        (each (pairRows (wiringAt bytes n c x) stepLimit i)
+        (pairsBy (wiringAt bytes n c x) i across))
         (now (out .entry)) count r (now (out .exit)) ⌝ }
 {
     match ends::resolve_connection_pattern(bytes, n, c, ends::owner_of(x, i)) {
@@ -277,9 +277,9 @@ fn trace_edge(
     count: usize,
 ) -> Wrote
     requires { ⌜ (length (now c) / 6 ≤ 4096) × (length (now x) / 7 ≤ 4096) × (count ≤ length (now out) / 49) × (i < length (now x) / 7) ⌝ }
-    ensures { λ r. ⌜ Written 49 (tracedBlock (wiringIn (now (bytes .entry)) (now (n .entry)) (now (c .entry)) (now (x .entry))))
-        (each (pairRows (wiringIn (now (bytes .entry)) (now (n .entry)) (now (c .entry)) (now (x .entry))) stepLimit i)
-        (pairsBy (wiringIn (now (bytes .entry)) (now (n .entry)) (now (c .entry)) (now (x .entry))) i (edgeOf (sideOf side))))
+    ensures { λ r. ⌜ Written 49 (tracedBlock (wiringAt bytes n c x))
+        (each (pairRows (wiringAt bytes n c x) stepLimit i)
+        (pairsBy (wiringAt bytes n c x) i (edgeOf (sideOf side))))
         (now (out .entry)) count r (now (out .exit)) ⌝ }
 {
     let owner = ends::owner_of(x, i);
@@ -300,8 +300,8 @@ fn trace_connection(
     count: usize,
 ) -> Wrote
     requires { ⌜ (length (now c) / 6 ≤ 4096) × (length (now x) / 7 ≤ 4096) × (count ≤ length (now out) / 49) × (i < length (now x) / 7) ⌝ }
-    ensures { λ r. ⌜ Written 49 (tracedBlock (wiringIn (now (bytes .entry)) (now (n .entry)) (now (c .entry)) (now (x .entry))))
-        (rowsAt (wiringIn (now (bytes .entry)) (now (n .entry)) (now (c .entry)) (now (x .entry))) stepLimit i)
+    ensures { λ r. ⌜ Written 49 (tracedBlock (wiringAt bytes n c x))
+        (rowsAt (wiringAt bytes n c x) stepLimit i)
         (now (out .entry)) count r (now (out .exit)) ⌝ }
 {
     match ends::shape_of(x, i) {
@@ -316,8 +316,8 @@ fn trace_connection(
 // Writes the rows of all X rows, from the front of the output on.
 pub fn trace_connections(bytes: &[u8], n: &[u32], c: &[u32], x: &[u32], out: &mut [u32]) -> Wrote
     requires { ⌜ (length (now c) / 6 ≤ 4096) × (length (now x) / 7 ≤ 4096) ⌝ }
-    ensures { λ r. ⌜ Written 49 (tracedBlock (wiringIn (now (bytes .entry)) (now (n .entry)) (now (c .entry)) (now (x .entry))))
-        (traced stepLimit (wiringIn (now (bytes .entry)) (now (n .entry)) (now (c .entry)) (now (x .entry))))
+    ensures { λ r. ⌜ Written 49 (tracedBlock (wiringAt bytes n c x))
+        (traced stepLimit (wiringAt bytes n c x))
         (now (out .entry)) 0 r (now (out .exit)) ⌝ }
 {
     let rows = x.len() / 7;

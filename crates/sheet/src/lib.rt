@@ -12,11 +12,12 @@ ghost use lib.Dec.{leb};
 ghost use lib.ListN.{length, drop, getD};
 ghost use lib.Seq.{sets};
 ghost use Rattle.as5506.specs.Lists.{each};
-ghost use Rattle.as5506.specs.Tables.{letterN, tablesOf};
+ghost use Rattle.as5506.specs.Tables.{letterN};
 ghost use Rattle.as5506.specs.Answers.{refusal, line, told};
 ghost use Rattle.as5506.specs.Sheet.{ended, letterOf, linesOf, linesWith, lineName, keepsRules, hasPlace, lineFaults, nameBytes, placed, rowsRead, tablesRead, readSheet};
 ghost use Rattle.sheet.specs.Read.{countsOf, sheetRead, ReadInto};
 ghost use Rattle.sheet.specs.Steps.{letterAt, rankOf, indexOf, lentBy, Counted, firstFault, answerFrom, texts, inOrder, LeftFrom, Cleared};
+ghost use Rattle.lent.specs.Lent.{tablesAt, tablesLeft};
 
 // The bytes of names, and the rows of each letter, that were read.
 pub struct Counts {
@@ -357,8 +358,8 @@ fn clear_all(
     r: &mut [u32],
 )
     ensures { λ _. ⌜ Cleared
-        (tablesOf (now (bytes .entry)) (now (n .entry)) (now (c .entry)) (now (f .entry)) (now (x .entry)) (now (p .entry)) (now (i .entry)) (now (t .entry)) (now (q .entry)) (now (u .entry)) (now (e .entry)) (now (r .entry)))
-        (tablesOf (now (bytes .exit)) (now (n .exit)) (now (c .exit)) (now (f .exit)) (now (x .exit)) (now (p .exit)) (now (i .exit)) (now (t .exit)) (now (q .exit)) (now (u .exit)) (now (e .exit)) (now (r .exit))) ⌝ }
+        (tablesAt bytes n c f x p i t q u e r)
+        (tablesLeft bytes n c f x p i t q u e r) ⌝ }
 {
     lent::clear_bytes(bytes);
     lent::clear_numbers(n);
@@ -391,9 +392,9 @@ pub fn read_sheet(
     r: &mut [u32],
 ) -> SheetRead
     ensures { λ z. ⌜ ReadInto
-        (tablesOf (now (bytes .entry)) (now (n .entry)) (now (c .entry)) (now (f .entry)) (now (x .entry)) (now (p .entry)) (now (i .entry)) (now (t .entry)) (now (q .entry)) (now (u .entry)) (now (e .entry)) (now (r .entry)))
+        (tablesAt bytes n c f x p i t q u e r)
         (now (sheet .entry)) z
-        (tablesOf (now (bytes .exit)) (now (n .exit)) (now (c .exit)) (now (f .exit)) (now (x .exit)) (now (p .exit)) (now (i .exit)) (now (t .exit)) (now (q .exit)) (now (u .exit)) (now (e .exit)) (now (r .exit))) ⌝ }
+        (tablesLeft bytes n c f x p i t q u e r) ⌝ }
 {
     let room = Room {
         bytes: bytes.len(),

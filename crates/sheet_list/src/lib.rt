@@ -6,12 +6,11 @@ ghost use mathlib.Core.Path.{_≡_};
 ghost use Prim.Native.Nat.{_*_, _≤_};
 ghost use lib.ListN.{length};
 ghost use Rattle.as5506.specs.Lists.{zeros};
-ghost use Rattle.as5506.specs.Tables.{tablesOf};
+ghost use Rattle.lent.specs.Lent.{tablesAt, wiringAt};
 ghost use Rattle.as5506.specs.Listing.{bothAnswer};
 ghost use Rattle.as5506.specs.Layout.{rowsBack, groupRowsBack, diagsBack};
 ghost use Rattle.as5506.specs.Text.{textWithin};
 ghost use Rattle.as5506.specs.Program.{room, namesLent, textOrRefusal, printedOrRefusal};
-ghost use Rattle.lent.specs.Lent.{wiringIn};
 ghost use Rattle.text.specs.Printing.{listOf, refusalOf};
 ghost use Rattle.sheet_list.specs.Printing.{TextInto, Shown};
 
@@ -48,8 +47,8 @@ fn print_both(
     requires { ⌜ (now text ≡ zeros (length (now text))) × («traced_count» * 49 ≤ length (now traced)) × («group_count» * 49 ≤ length (now group)) × («diagnostic_count» * 4 ≤ length (now diagnostics)) × («group_diagnostic_count» * 4 ≤ length (now «group_diagnostics»)) ⌝ }
     ensures { λ z. ⌜ Shown
         (textOrRefusal (textWithin (length (now (text .entry)))
-        (listOf (wiringIn (now (bytes .entry)) (now (n .entry)) (now (c .entry)) (now (x .entry)))
-        (rowsBack (wiringIn (now (bytes .entry)) (now (n .entry)) (now (c .entry)) (now (x .entry))) «traced_count» (now (traced .entry)))
+        (listOf (wiringAt bytes n c x)
+        (rowsBack (wiringAt bytes n c x) «traced_count» (now (traced .entry)))
         (groupRowsBack «group_count» (now (group .entry)) (now (names .entry)))
         (diagsBack «diagnostic_count» (now (diagnostics .entry)))
         (diagsBack «group_diagnostic_count» (now («group_diagnostics» .entry))))))
@@ -97,9 +96,9 @@ fn list_tables(
     requires { ⌜ now text ≡ zeros (length (now text)) ⌝ }
     ensures { λ z. ⌜ Shown
         (printedOrRefusal (length (now (text .entry)))
-        (tablesOf (now (bytes .entry)) (now (n .entry)) (now (c .entry)) (now (f .entry)) (now (x .entry)) (now (p .entry)) (now (i .entry)) (now (t .entry)) (now (q .entry)) (now (u .entry)) (now (e .entry)) (now (r .entry)))
+        (tablesAt bytes n c f x p i t q u e r)
         (bothAnswer room room namesLent
-        (tablesOf (now (bytes .entry)) (now (n .entry)) (now (c .entry)) (now (f .entry)) (now (x .entry)) (now (p .entry)) (now (i .entry)) (now (t .entry)) (now (q .entry)) (now (u .entry)) (now (e .entry)) (now (r .entry)))))
+        (tablesAt bytes n c f x p i t q u e r)))
         (now (text .entry)) z (now (text .exit)) ⌝ }
 {
     let mut rows = [0u32; 3136];

@@ -3,7 +3,7 @@
 // A letter goes by its place `k` in the order N C F X P I T Q U E R, 0 to 10; `lens` has the length of each letter's table.
 ghost use mathlib.Core.Path.{_≡_};
 ghost use Prim.Native.Nat.{_≤_, _<_, _+_};
-ghost use Rattle.as5506.specs.Tables.{tablesOf};
+ghost use Rattle.lent.specs.Lent.{tablesAt};
 ghost use Rattle.as5506.specs.Refusals.{faults};
 ghost use Rattle.tables.specs.Answer.{checked};
 ghost use Rattle.tables.specs.Tests.{farthest, rowsOf, broken, limitOf, mayMiss, fieldFits, fieldsFit, nameBad, parentBad, endBad, referenceBad, renameBad, endsBad, samePart, sameKey, keyTaken};
@@ -425,7 +425,7 @@ fn check_rule(
     e: &[u32],
     r: &[u32],
 ) -> Checked
-    ensures { λ z. ⌜ z ≡ orElse before (checkRule (tablesOf (now (bytes .entry)) (now (n .entry)) (now (c .entry)) (now (f .entry)) (now (x .entry)) (now (p .entry)) (now (i .entry)) (now (t .entry)) (now (q .entry)) (now (u .entry)) (now (e .entry)) (now (r .entry))) rule) ⌝ }
+    ensures { λ z. ⌜ z ≡ orElse before (checkRule (tablesAt bytes n c f x p i t q u e r) rule) ⌝ }
 {
     let lens = [
         n.len(),
@@ -468,7 +468,7 @@ pub fn check_tables(
     e: &[u32],
     r: &[u32],
 ) -> Checked
-    ensures { λ z. ⌜ z ≡ checked (faults (tablesOf (now (bytes .entry)) (now (n .entry)) (now (c .entry)) (now (f .entry)) (now (x .entry)) (now (p .entry)) (now (i .entry)) (now (t .entry)) (now (q .entry)) (now (u .entry)) (now (e .entry)) (now (r .entry)))) ⌝ }
+    ensures { λ z. ⌜ z ≡ checked (faults (tablesAt bytes n c f x p i t q u e r)) ⌝ }
 {
     let found = Checked::Accepted;
     let found = check_rule(found, Rule::Whole, bytes, n, c, f, x, p, i, t, q, u, e, r);

@@ -7,7 +7,7 @@ ghost use Rattle.as5506.specs.Lists.{each, bytesOf};
 ghost use Rattle.as5506.specs.Layout.{diagBack};
 ghost use Rattle.as5506.specs.Tables.{nameOf, xName};
 ghost use Rattle.as5506.specs.Text.{digits, textLine, message, pathNames, diagText};
-ghost use Rattle.lent.specs.Lent.{namesIn, connectionsIn, wiringIn};
+ghost use Rattle.lent.specs.Lent.{namesIn, connectionsIn, wiringAt};
 ghost use Rattle.text.specs.Added.{Added};
 use super::lines;
 use super::numbers;
@@ -98,7 +98,7 @@ fn put_path_names(
     text: &mut [u8],
     used: usize,
 ) -> usize
-    ensures { λ z. ⌜ Added (each (textLine (bytesOf "@")) (pathNames (wiringIn (now (bytes .entry)) (now (n .entry)) (now (c .entry)) (now (x .entry))) (diagBack (now (block .entry))) (ltb (getD (now (block .entry)) 0 0) 5)))
+    ensures { λ z. ⌜ Added (each (textLine (bytesOf "@")) (pathNames (wiringAt bytes n c x) (diagBack (now (block .entry))) (ltb (getD (now (block .entry)) 0 0) 5)))
         (now (text .entry)) used (now (text .exit)) z ⌝ }
 {
     let conn = lent::number_at(block, 1);
@@ -126,7 +126,7 @@ pub fn put_diagnostic(
     used: usize,
 ) -> usize
     requires { ⌜ length (now block) ≡ 4 ⌝ }
-    ensures { λ z. ⌜ Added (diagText (wiringIn (now (bytes .entry)) (now (n .entry)) (now (c .entry)) (now (x .entry))) (diagBack (now (block .entry)))) (now (text .entry)) used (now (text .exit)) z ⌝ }
+    ensures { λ z. ⌜ Added (diagText (wiringAt bytes n c x) (diagBack (now (block .entry)))) (now (text .entry)) used (now (text .exit)) z ⌝ }
 {
     let name = connection_name(bytes, n, x, block[1]);
     let marked = lent::append_bytes(text, used, b"D");

@@ -5,7 +5,7 @@ ghost use lib.ListN.{length, drop};
 ghost use Rattle.as5506.specs.Lists.{each};
 ghost use Rattle.as5506.specs.Layout.{rowBack, rowsBack, groupBack, groupRowsBack, namesBehind, diagsBack};
 ghost use Rattle.as5506.specs.Text.{rowText, diagText};
-ghost use Rattle.lent.specs.Lent.{namesIn, wiringIn};
+ghost use Rattle.lent.specs.Lent.{namesIn, wiringAt};
 ghost use Rattle.text.specs.Added.{Added};
 ghost use Rattle.text.specs.Printing.{listOf, refusalOf, Printed};
 use super::diagnostics;
@@ -117,7 +117,7 @@ fn put_diagnostics(
     used: usize,
 ) -> usize
     requires { ⌜ count * 4 ≤ length (now list) ⌝ }
-    ensures { λ z. ⌜ Added (each (diagText (wiringIn (now (bytes .entry)) (now (n .entry)) (now (c .entry)) (now (x .entry)))) (diagsBack count (now (list .entry)))) (now (text .entry)) used (now (text .exit)) z ⌝ }
+    ensures { λ z. ⌜ Added (each (diagText (wiringAt bytes n c x)) (diagsBack count (now (list .entry)))) (now (text .entry)) used (now (text .exit)) z ⌝ }
 {
     let mut z = used;
     let mut i: usize = 0;
@@ -150,8 +150,8 @@ pub fn print_list(
 ) -> usize
     requires { ⌜ («traced_count» * 49 ≤ length (now traced)) × («group_count» * 49 ≤ length (now group)) × («diagnostic_count» * 4 ≤ length (now diagnostics)) × («group_diagnostic_count» * 4 ≤ length (now «group_diagnostics»)) ⌝ }
     ensures { λ z. ⌜ Printed
-        (listOf (wiringIn (now (bytes .entry)) (now (n .entry)) (now (c .entry)) (now (x .entry)))
-        (rowsBack (wiringIn (now (bytes .entry)) (now (n .entry)) (now (c .entry)) (now (x .entry))) «traced_count» (now (traced .entry)))
+        (listOf (wiringAt bytes n c x)
+        (rowsBack (wiringAt bytes n c x) «traced_count» (now (traced .entry)))
         (groupRowsBack «group_count» (now (group .entry)) (now (names .entry)))
         (diagsBack «diagnostic_count» (now (diagnostics .entry)))
         (diagsBack «group_diagnostic_count» (now («group_diagnostics» .entry))))

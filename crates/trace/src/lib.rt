@@ -8,7 +8,7 @@ ghost use Rattle.as5506.specs.Lists.{has, padded, sameBytes};
 ghost use Rattle.as5506.specs.Tables.{nameIn, other, xSub, xFeat};
 ghost use Rattle.as5506.specs.Tracing.{appendNew, chains};
 ghost use Rattle.as5506.specs.Layout.{tracedBlock};
-ghost use Rattle.lent.specs.Lent.{connectionsIn, wiringIn};
+ghost use Rattle.lent.specs.Lent.{connectionsIn, wiringAt};
 ghost use Rattle.children.specs.Found.{afterChild, Inside};
 ghost use Rattle.trace.specs.Steps.{sideOf, isStep, leadsTo, stepsFrom, afterStep, Within, Begins};
 ghost use Rattle.trace.specs.Ends.{endOf, rowAlong, rowsBehind, Fit};
@@ -131,8 +131,8 @@ fn next_child(
     from: usize,
 ) -> Child
     requires { ⌜ i < length (now x) / 7 ⌝ }
-    ensures { λ r. ⌜ leadsTo (wiringIn (now (bytes .entry)) (now (n .entry)) (now (c .entry)) (now (x .entry))) (sideOf side) component feature i from
-        ≡ afterChild (leadsTo (wiringIn (now (bytes .entry)) (now (n .entry)) (now (c .entry)) (now (x .entry))) (sideOf side) component feature i) r ⌝ }
+    ensures { λ r. ⌜ leadsTo (wiringAt bytes n c x) (sideOf side) component feature i from
+        ≡ afterChild (leadsTo (wiringAt bytes n c x) (sideOf side) component feature i) r ⌝ }
     ensures { λ r. ⌜ Inside (now (c .entry)) r ⌝ }
 {
     if is_step(bytes, n, x, side, component, feature, i) {
@@ -160,8 +160,8 @@ pub fn next_step(
     row: usize,
     child: usize,
 ) -> Step
-    ensures { λ r. ⌜ stepsFrom (wiringIn (now (bytes .entry)) (now (n .entry)) (now (c .entry)) (now (x .entry))) (sideOf side) component feature row child
-        ≡ afterStep (wiringIn (now (bytes .entry)) (now (n .entry)) (now (c .entry)) (now (x .entry))) (sideOf side) component feature r ⌝ }
+    ensures { λ r. ⌜ stepsFrom (wiringAt bytes n c x) (sideOf side) component feature row child
+        ≡ afterStep (wiringAt bytes n c x) (sideOf side) component feature r ⌝ }
     ensures { λ r. ⌜ Within (now (c .entry)) (now (x .entry)) r ⌝ }
 {
     let count = x.len() / 7;
@@ -188,7 +188,7 @@ fn first_step(
     feature: u32,
     left: usize,
 ) -> Step
-    ensures { λ r. ⌜ Begins (wiringIn (now (bytes .entry)) (now (n .entry)) (now (c .entry)) (now (x .entry))) (sideOf side) left component feature r ⌝ }
+    ensures { λ r. ⌜ Begins (wiringAt bytes n c x) (sideOf side) left component feature r ⌝ }
 {
     if left == 0 {
         return Step::Done;
@@ -299,9 +299,9 @@ pub fn trace(
 ) -> Wrote
     requires { ⌜ (length (now c) / 6 ≤ 4096) × (length (now x) / 7 ≤ 4096) × (count ≤ length (now out) / 49) ⌝ }
     requires { ⌜ (length (here .path) ≡ 21) × (length (other .path) ≡ 21) × Fit side (here .len) left (other .len) limit ⌝ }
-    ensures { λ r. ⌜ Written 49 (tracedBlock (wiringIn (now (bytes .entry)) (now (n .entry)) (now (c .entry)) (now (x .entry))))
-        (rowsBehind (wiringIn (now (bytes .entry)) (now (n .entry)) (now (c .entry)) (now (x .entry))) (sideOf side) conn limit (endOf other) (take (here .len) (here .path))
-        (chains (wiringIn (now (bytes .entry)) (now (n .entry)) (now (c .entry)) (now (x .entry))) (sideOf side) left (here .component) (here .feature)))
+    ensures { λ r. ⌜ Written 49 (tracedBlock (wiringAt bytes n c x))
+        (rowsBehind (wiringAt bytes n c x) (sideOf side) conn limit (endOf other) (take (here .len) (here .path))
+        (chains (wiringAt bytes n c x) (sideOf side) left (here .component) (here .feature)))
         (now (out .entry)) count r (now (out .exit)) ⌝ }
 {
     let component = here.component;
