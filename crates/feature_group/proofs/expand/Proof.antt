@@ -13,9 +13,27 @@ check-tables-requires c κs = search needs
 enum-known-reason : tie.Need-enum-known-reason
 enum-known-reason c = search needs
 
+-- places: the way back from where an answer stands to what it uses
+abbrev Start·returns : tie.After-known-told → tie.Start
+Start·returns c = c .before .before .before .before .before .before .before .before .before .before .before .before .before .before .before .before .before
+
+abbrev Start·link-groups-requires : tie.After-inverses → tie.Start
+Start·link-groups-requires c = c .before .before .before .before .before .before .before .before .before .before .before .before .before .before .before .before .before .before .before
+
+abbrev Start·link-requires : tie.After-inverses2 → tie.Start
+Start·link-requires c = Start·link-groups-requires (c .before .before .before .before)
+
+abbrev check-tables·returns-2 : tie.After-slice-known2 → tie.After-check-tables
+check-tables·returns-2 c = c .before .before .before .before .before .before .before .before .before .before .before .before .before .before .before .before .before
+
+abbrev Start·returns-2 : tie.After-slice-known2 → tie.Start
+Start·returns-2 c = Start·link-requires (c .before .before .before .before .before .before .before .before)
+
+-- end of places
+
 returns : tie.Need-returns
 returns c =
-    let a = c .before .before .before .before .before .before .before .before .before .before .before .before .before .before .before .before .before .args in
+    let a = Start·returns c .args in
     let m = tablesOf (a .bytes .now) (a .n .now) (a .c .now) (a .f .now) (a .x .now) (a .p .now) (a .i .now) (a .t .now) (a .q .now) (a .u .now) (a .e .now) (a .r .now) in
     tables-refused m (a .from) (a .type-name) (a .inverse) (a .out .now) _ _ (c .before .before .before .check-tables .ensures) (c .before .reason .given .1) _
 
@@ -33,7 +51,7 @@ slice-aggregate-link-groups-3 c = search needs
 
 link-groups-requires : tie.Need-link-groups-requires
 link-groups-requires c κs =
-    let a = c .before .before .before .before .before .before .before .before .before .before .before .before .before .before .before .before .before .before .before .args in
+    let a = Start·link-groups-requires c .args in
     let m = tablesOf (a .bytes .now) (a .n .now) (a .c .now) (a .f .now) (a .x .now) (a .p .now) (a .i .now) (a .t .now) (a .q .now) (a .u .now) (a .e .now) (a .r .now) in
     let ok = accepted-is m _ (c .before .before .before .before .before .check-tables .ensures) (c .before .before .before .enum-told .given .1) in
     let few = facts m ok .few in
@@ -41,7 +59,7 @@ link-groups-requires c κs =
 
 link-requires : tie.Need-link-requires
 link-requires c κs =
-    let a = c .before .before .before .before .before .before .before .before .before .before .before .before .before .before .before .before .before .before .before .before .before .before .before .args in
+    let a = Start·link-requires c .args in
     let m = tablesOf (a .bytes .now) (a .n .now) (a .c .now) (a .f .now) (a .x .now) (a .p .now) (a .i .now) (a .t .now) (a .q .now) (a .u .now) (a .e .now) (a .r .now) in
     let ok = accepted-is m _ (c .before .before .before .before .before .before .before .before .before .check-tables .ensures) (c .before .before .before .before .before .before .before .enum-told .given .1) in
     facts m ok .few letterU
@@ -63,9 +81,9 @@ same-length c = search needs
 
 returns-2 : tie.Need-returns-2
 returns-2 c =
-    let a = c .before .before .before .before .before .before .before .before .before .before .before .before .before .before .before .before .before .before .before .before .before .before .before .before .before .before .before .before .before .before .before .args in
+    let a = Start·returns-2 c .args in
     let m = tablesOf (a .bytes .now) (a .n .now) (a .c .now) (a .f .now) (a .x .now) (a .p .now) (a .i .now) (a .t .now) (a .q .now) (a .u .now) (a .e .now) (a .r .now) in
-    let ok = accepted-is m _ (c .before .before .before .before .before .before .before .before .before .before .before .before .before .before .before .before .before .check-tables .ensures) (c .before .before .before .before .before .before .before .before .before .before .before .before .before .before .before .enum-told .given .1) in
+    let ok = accepted-is m _ (check-tables·returns-2 c .check-tables .ensures) (c .before .before .before .before .before .before .before .before .before .before .before .before .before .before .before .enum-told .given .1) in
     expands m (a .from) (a .type-name) (a .inverse) (a .out .now) ok _ _ _ (c .before .before .before .before .before .before .before .before .before .before .before .link-groups .ensures (a .c .now) (a .f .now) (a .x .now)) _ (c .before .before .before .before .before .before .before .link .ensures (a .c .now) (a .f .now) (a .x .now) (a .e .now)) _ _ (c .before .before .write-features .ensures)
 
 pub expand-spec : {M : Type 1} → statement M

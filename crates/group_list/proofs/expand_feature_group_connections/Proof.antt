@@ -25,18 +25,57 @@ same-length-2 c = search needs
 same-length-3 : tie.Need-same-length-3
 same-length-3 c = search needs
 
+-- places: the way back from where an answer stands to what it uses
+abbrev clear·returns : tie.After-known-told → tie.After-clear
+clear·returns c = c .before .before .before .before .before .before .before .before .before .before
+
+abbrev Start·returns : tie.After-known-told → tie.Start
+Start·returns c = clear·returns c .before .before .before .before .before .before .before .before .before .before .before .before .before .before .before .before .before .before .before
+
+abbrev Start·list-accepted-requires : tie.After-list-accepted-arg3 → tie.Start
+Start·list-accepted-requires c = c .before .before .before .before .before .before .before .before .before .before .before .before .before .before .before .before .before .before .before .before .before .before .before .before .before .before .before .before .before .before .before
+
+abbrev list-accepted·returns-2 : tie.After-enum-told2 → tie.After-list-accepted
+list-accepted·returns-2 c = c .before .before .before .before .before .before .before .before
+
+abbrev clear·returns-2 : tie.After-enum-told2 → tie.After-clear
+clear·returns-2 c = list-accepted·returns-2 c .before .before .before .before .before .before .before .before .before .before .before .before .before
+
+abbrev Start·returns-2 : tie.After-enum-told2 → tie.Start
+Start·returns-2 c = Start·list-accepted-requires (c .before .before .before .before .before .before .before .before .before)
+
+abbrev clear2·returns-3 : tie.After-slice-known12 → tie.After-clear2
+clear2·returns-3 c = c .before .before .before .before .before .before
+
+abbrev list-accepted·returns-3 : tie.After-slice-known12 → tie.After-list-accepted
+list-accepted·returns-3 c = clear2·returns-3 c .before .before .before .before .before .before .before .before .before .before .before .before
+
+abbrev enum-told·returns-3 : tie.After-slice-known12 → tie.After-enum-told
+enum-told·returns-3 c = list-accepted·returns-3 c .before .before .before .before
+
+abbrev check-tables·returns-3 : tie.After-slice-known12 → tie.After-check-tables
+check-tables·returns-3 c = enum-told·returns-3 c .before .before
+
+abbrev clear·returns-3 : tie.After-slice-known12 → tie.After-clear
+clear·returns-3 c = check-tables·returns-3 c .before .before .before .before .before .before .before
+
+abbrev Start·returns-3 : tie.After-slice-known12 → tie.Start
+Start·returns-3 c = clear·returns-3 c .before .before .before .before .before .before .before .before .before .before .before .before .before .before .before .before .before .before .before
+
+-- end of places
+
 returns : tie.Need-returns
 returns c =
-    let a = c .before .before .before .before .before .before .before .before .before .before .before .before .before .before .before .before .before .before .before .before .before .before .before .before .before .before .before .before .before .args in
+    let a = Start·returns c .args in
     let m = tablesOf (a .bytes .now) (a .n .now) (a .c .now) (a .f .now) (a .x .now) (a .p .now) (a .i .now) (a .t .now) (a .q .now) (a .u .now) (a .e .now) (a .r .now) in
-    tables-refused m (a .rows .now) (a .names .now) (a .diagnostics .now) _ _ _ (c .before .before .before .before .before .before .before .before .before .before .clear .ensures .0) (c .before .before .before .before .before .before .before .before .before .before .clear .ensures .1 .0) (c .before .before .before .before .before .before .before .before .before .before .clear .ensures .1 .1) _ _ (c .before .before .before .check-tables .ensures) (c .before .reason .given .1)
+    tables-refused m (a .rows .now) (a .names .now) (a .diagnostics .now) _ _ _ (clear·returns c .clear .ensures .0) (clear·returns c .clear .ensures .1 .0) (clear·returns c .clear .ensures .1 .1) _ _ (c .before .before .before .check-tables .ensures) (c .before .reason .given .1)
 
 enum-told : tie.Need-enum-told
 enum-told c = search needs
 
 list-accepted-requires : tie.Need-list-accepted-requires
 list-accepted-requires c κs =
-    let a = c .before .before .before .before .before .before .before .before .before .before .before .before .before .before .before .before .before .before .before .before .before .before .before .before .before .before .before .before .before .before .before .args in
+    let a = Start·list-accepted-requires c .args in
     let m = tablesOf (a .bytes .now) (a .n .now) (a .c .now) (a .f .now) (a .x .now) (a .p .now) (a .i .now) (a .t .now) (a .q .now) (a .u .now) (a .e .now) (a .r .now) in
     (accepted-is m _ (c .before .before .before .before .before .check-tables .ensures) (c .before .before .before .enum-told .given .1))
 
@@ -60,12 +99,12 @@ same-length-6 c = search needs
 
 returns-2 : tie.Need-returns-2
 returns-2 c =
-    let a = c .before .before .before .before .before .before .before .before .before .before .before .before .before .before .before .before .before .before .before .before .before .before .before .before .before .before .before .before .before .before .before .before .before .before .before .before .before .before .before .before .args in
+    let a = Start·returns-2 c .args in
     let m = tablesOf (a .bytes .now) (a .n .now) (a .c .now) (a .f .now) (a .x .now) (a .p .now) (a .i .now) (a .t .now) (a .q .now) (a .u .now) (a .e .now) (a .r .now) in
-    given-call m (a .rows .now) (a .names .now) (a .diagnostics .now) _ _ _ (c .before .before .before .before .before .before .before .before .before .before .before .before .before .before .before .before .before .before .before .before .before .clear .ensures .0) (c .before .before .before .before .before .before .before .before .before .before .before .before .before .before .before .before .before .before .before .before .before .clear .ensures .1 .0) (c .before .before .before .before .before .before .before .before .before .before .before .before .before .before .before .before .before .before .before .before .before .clear .ensures .1 .1) (accepted-is m _ (c .before .before .before .before .before .before .before .before .before .before .before .before .before .before .check-tables .ensures) (c .before .before .before .before .before .before .before .before .before .before .before .before .enum-told .given .1)) _ (c .before .before .before .before .before .before .before .before .list-accepted .ensures .0) _ _ _ _ _ (c .enum-told2 .given .1) (c .before .before .before .before .before .before .before .before .list-accepted .ensures .1 .0) (c .before .before .before .before .before .before .before .before .list-accepted .ensures .1 .1 .0) (c .before .before .before .before .before .before .before .before .list-accepted .ensures .1 .1 .1)
+    given-call m (a .rows .now) (a .names .now) (a .diagnostics .now) _ _ _ (clear·returns-2 c .clear .ensures .0) (clear·returns-2 c .clear .ensures .1 .0) (clear·returns-2 c .clear .ensures .1 .1) (accepted-is m _ (c .before .before .before .before .before .before .before .before .before .before .before .before .before .before .check-tables .ensures) (c .before .before .before .before .before .before .before .before .before .before .before .before .enum-told .given .1)) _ (list-accepted·returns-2 c .list-accepted .ensures .0) _ _ _ _ _ (c .enum-told2 .given .1) (list-accepted·returns-2 c .list-accepted .ensures .1 .0) (list-accepted·returns-2 c .list-accepted .ensures .1 .1 .0) (list-accepted·returns-2 c .list-accepted .ensures .1 .1 .1)
 
 same-length-7 : tie.Need-same-length-7
-same-length-7 c = c .before .before .before .before .before .before .clear2 .kept .0 ∙ c .before .before .before .before .before .before .before .before .before .before .before .before .before .before .before .before .before .before .list-accepted .kept .1 .1 .1 .1 .1 .1 .1 .1 .1 .1 .1 .1 .0 ∙ c .before .before .before .before .before .before .before .before .before .before .before .before .before .before .before .before .before .before .before .before .before .before .before .before .before .before .before .before .before .before .before .clear .kept .0
+same-length-7 c = clear2·returns-3 c .clear2 .kept .0 ∙ list-accepted·returns-3 c .list-accepted .kept .1 .1 .1 .1 .1 .1 .1 .1 .1 .1 .1 .1 .0 ∙ clear·returns-3 c .clear .kept .0
 
 same-length-8 : tie.Need-same-length-8
 same-length-8 c = search needs
@@ -75,9 +114,9 @@ same-length-9 c = search needs
 
 returns-3 : tie.Need-returns-3
 returns-3 c =
-    let a = c .before .before .before .before .before .before .before .before .before .before .before .before .before .before .before .before .before .before .before .before .before .before .before .before .before .before .before .before .before .before .before .before .before .before .before .before .before .before .before .before .before .before .before .before .before .before .before .before .before .before .args in
+    let a = Start·returns-3 c .args in
     let m = tablesOf (a .bytes .now) (a .n .now) (a .c .now) (a .f .now) (a .x .now) (a .p .now) (a .i .now) (a .t .now) (a .q .now) (a .u .now) (a .e .now) (a .r .now) in
-    refused-call m (a .rows .now) (a .names .now) (a .diagnostics .now) _ _ _ (c .before .before .before .before .before .before .before .before .before .before .before .before .before .before .before .before .before .before .before .before .before .before .before .before .before .before .before .before .before .before .before .clear .ensures .0) (c .before .before .before .before .before .before .before .before .before .before .before .before .before .before .before .before .before .before .before .before .before .before .before .before .before .before .before .before .before .before .before .clear .ensures .1 .0) (c .before .before .before .before .before .before .before .before .before .before .before .before .before .before .before .before .before .before .before .before .before .before .before .before .before .before .before .before .before .before .before .clear .ensures .1 .1) (accepted-is m _ (c .before .before .before .before .before .before .before .before .before .before .before .before .before .before .before .before .before .before .before .before .before .before .before .before .check-tables .ensures) (c .before .before .before .before .before .before .before .before .before .before .before .before .before .before .before .before .before .before .before .before .before .before .enum-told .given .1)) _ (c .before .before .before .before .before .before .before .before .before .before .before .before .before .before .before .before .before .before .list-accepted .ensures .0) (c .before .before .before .before .before .before .before .before .before .before .before .before .before .before .before .before .before .before .list-accepted .last .1 .1 .1 .1 .1 .1 .1 .1 .1 .1 .1 .1 .0) (c .before .before .before .before .before .before .before .before .before .before .before .before .before .before .before .before .before .before .list-accepted .last .1 .1 .1 .1 .1 .1 .1 .1 .1 .1 .1 .1 .1 .0) (c .before .before .before .before .before .before .before .before .before .before .before .before .before .before .before .before .before .before .list-accepted .last .1 .1 .1 .1 .1 .1 .1 .1 .1 .1 .1 .1 .1 .1 .0) _ (c .before .before .before .before .before .before .before .before .before .before .enum-told3 .given .1) (c .before .before .before .before .before .before .before .before .before .before .before .before .before .before .before .before .before .before .list-accepted .kept .1 .1 .1 .1 .1 .1 .1 .1 .1 .1 .1 .1 .0) (c .before .before .before .before .before .before .before .before .before .before .before .before .before .before .before .before .before .before .list-accepted .kept .1 .1 .1 .1 .1 .1 .1 .1 .1 .1 .1 .1 .1 .0) (c .before .before .before .before .before .before .before .before .before .before .before .before .before .before .before .before .before .before .list-accepted .kept .1 .1 .1 .1 .1 .1 .1 .1 .1 .1 .1 .1 .1 .1 .0) _ _ _ (c .before .before .before .before .before .before .clear2 .ensures .0) (c .before .before .before .before .before .before .clear2 .ensures .1 .0) (c .before .before .before .before .before .before .clear2 .ensures .1 .1)
+    refused-call m (a .rows .now) (a .names .now) (a .diagnostics .now) _ _ _ (clear·returns-3 c .clear .ensures .0) (clear·returns-3 c .clear .ensures .1 .0) (clear·returns-3 c .clear .ensures .1 .1) (accepted-is m _ (check-tables·returns-3 c .check-tables .ensures) (enum-told·returns-3 c .enum-told .given .1)) _ (list-accepted·returns-3 c .list-accepted .ensures .0) (list-accepted·returns-3 c .list-accepted .last .1 .1 .1 .1 .1 .1 .1 .1 .1 .1 .1 .1 .0) (list-accepted·returns-3 c .list-accepted .last .1 .1 .1 .1 .1 .1 .1 .1 .1 .1 .1 .1 .1 .0) (list-accepted·returns-3 c .list-accepted .last .1 .1 .1 .1 .1 .1 .1 .1 .1 .1 .1 .1 .1 .1 .0) _ (c .before .before .before .before .before .before .before .before .before .before .enum-told3 .given .1) (list-accepted·returns-3 c .list-accepted .kept .1 .1 .1 .1 .1 .1 .1 .1 .1 .1 .1 .1 .0) (list-accepted·returns-3 c .list-accepted .kept .1 .1 .1 .1 .1 .1 .1 .1 .1 .1 .1 .1 .1 .0) (list-accepted·returns-3 c .list-accepted .kept .1 .1 .1 .1 .1 .1 .1 .1 .1 .1 .1 .1 .1 .1 .0) _ _ _ (clear2·returns-3 c .clear2 .ensures .0) (clear2·returns-3 c .clear2 .ensures .1 .0) (clear2·returns-3 c .clear2 .ensures .1 .1)
 
 pub expand-feature-group-connections-spec : {M : Type 1} → statement M
 expand-feature-group-connections-spec =

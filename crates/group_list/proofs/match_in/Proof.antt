@@ -23,30 +23,51 @@ model s =
     tablesOf (s .args .bytes .now) (s .args .n .now) (s .args .c .now) (s .args .f .now) (s .args .x .now) (s .args .p .now) (s .args .i .now) (s .args .t .now)
     (s .args .q .now) (s .args .u .now) (s .args .e .now) (s .args .r .now)
 
+-- places: the way back from where an answer stands to what it uses
+abbrev Start·link-groups-requires : tie.After-link-groups-arg3 → tie.Start
+Start·link-groups-requires c = c .before .before .before .before .before .before .before .before .before .before .before .before .before .before .before .before .before .before .before .before .before .before .before
+
+abbrev Start·mul-places : tie.After-slice-known11 → tie.Start
+Start·mul-places c = Start·link-groups-requires (c .before .before .before .before .before .before .before)
+
+abbrev Start·slice-relend-prefix-match-connections : tie.After-match-connections-arg4 → tie.Start
+Start·slice-relend-prefix-match-connections c = Start·mul-places (c .before .before .before .before)
+
+abbrev Start·slice-relend-prefix-match-connections-2 : tie.After-match-connections-arg5 → tie.Start
+Start·slice-relend-prefix-match-connections-2 c = Start·slice-relend-prefix-match-connections (c .before)
+
+abbrev Start·slice-aggregate-match-connections-2 : tie.After-match-connections-arg6 → tie.Start
+Start·slice-aggregate-match-connections-2 c = Start·slice-relend-prefix-match-connections-2 (c .before)
+
+abbrev Start·match-connections-requires : tie.After-match-connections-arg8 → tie.Start
+Start·match-connections-requires c = Start·slice-aggregate-match-connections-2 (c .before .before)
+
+-- end of places
+
 link-groups-requires : tie.Need-link-groups-requires
 link-groups-requires c κs =
-    let s = c .before .before .before .before .before .before .before .before .before .before .before .before .before .before .before .before .before .before .before .before .before .before .before in
+    let s = Start·link-groups-requires c in
     let room = s .pre .1 .0 in
     (facts (model s) (s .pre .0) .few letterU, room .0, room .1, room .2)
 
 mul-places : tie.Need-mul-places
-mul-places c = let s = c .before .before .before .before .before .before .before .before .before .before .before .before .before .before .before .before .before .before .before .before .before .before .before .before .before .before .before .before .before .before in omega (arith, facts (model s) (s .pre .0) .few letterU)
+mul-places c = let s = Start·mul-places c in omega (arith, facts (model s) (s .pre .0) .few letterU)
 
 slice-relend-prefix-match-connections : tie.Need-slice-relend-prefix-match-connections
-slice-relend-prefix-match-connections c = c .before .before .before .before .before .before .before .before .before .before .before .before .before .before .before .before .before .before .before .before .before .before .before .before .before .before .before .before .before .before .before .before .before .before .pre .1 .1 .0
+slice-relend-prefix-match-connections c = Start·slice-relend-prefix-match-connections c .pre .1 .1 .0
 
 slice-aggregate-match-connections : tie.Need-slice-aggregate-match-connections
-slice-aggregate-match-connections c = let s = c .before .before .before .before .before .before .before .before .before .before .before .before .before .before .before .before .before .before .before .before .before .before .before .before .before .before .before .before .before .before .before .before .before .before .before in sym (length-take-le _ (s .args .memo .now) (s .pre .1 .1 .0))
+slice-aggregate-match-connections c = let s = Start·slice-relend-prefix-match-connections-2 c in sym (length-take-le _ (s .args .memo .now) (s .pre .1 .1 .0))
 
 slice-relend-prefix-match-connections-2 : tie.Need-slice-relend-prefix-match-connections-2
-slice-relend-prefix-match-connections-2 c = c .before .before .before .before .before .before .before .before .before .before .before .before .before .before .before .before .before .before .before .before .before .before .before .before .before .before .before .before .before .before .before .before .before .before .before .pre .1 .1 .2
+slice-relend-prefix-match-connections-2 c = Start·slice-relend-prefix-match-connections-2 c .pre .1 .1 .2
 
 slice-aggregate-match-connections-2 : tie.Need-slice-aggregate-match-connections-2
-slice-aggregate-match-connections-2 c = let s = c .before .before .before .before .before .before .before .before .before .before .before .before .before .before .before .before .before .before .before .before .before .before .before .before .before .before .before .before .before .before .before .before .before .before .before .before in sym (length-take-le _ (s .args .calm .now) (s .pre .1 .1 .2))
+slice-aggregate-match-connections-2 c = let s = Start·slice-aggregate-match-connections-2 c in sym (length-take-le _ (s .args .calm .now) (s .pre .1 .1 .2))
 
 match-connections-requires : tie.Need-match-connections-requires
 match-connections-requires c κs =
-    let s = c .before .before .before .before .before .before .before .before .before .before .before .before .before .before .before .before .before .before .before .before .before .before .before .before .before .before .before .before .before .before .before .before .before .before .before .before .before .before in
+    let s = Start·match-connections-requires c in
     let room = s .pre .1 .1 in
     let names = length-take-le (length (s .args .n .now) / 2) (s .args .memo .now) (room .0) in
     (s .pre .0, (c .before .before .before .before .before .before .before .before .before .before .before .before .before .before .link-groups .ensures (s .args .c .now) (s .args .f .now) (s .args .x .now), (omega (arith, names), omega (arith, names, facts (model s) (s .pre .0) .few letterN), omega (arith, names, room .0, room .1))))

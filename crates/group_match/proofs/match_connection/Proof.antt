@@ -37,15 +37,78 @@ model s =
     tablesOf (s .args .bytes .now) (s .args .n .now) (s .args .c .now) (s .args .f .now) (s .args .x .now) (s .args .p .now) (s .args .i .now) (s .args .t .now)
     (s .args .q .now) (s .args .u .now) (s .args .e .now) (s .args .r .now)
 
+-- places: the way back from where an answer stands to what it uses
+abbrev Start·is-group-connection-requires : tie.After-slice-known5 → tie.Start
+Start·is-group-connection-requires c = c .before .before .before .before .before .before .before .before .before .before .before .before .before .before .before .before .before .before .before .before
+
+abbrev Start·end-component-requires : tie.Else1 → tie.Start
+Start·end-component-requires c = Start·is-group-connection-requires (c .before .before)
+
+abbrev Start·end-component-requires-2 : tie.After-known-told → tie.Start
+Start·end-component-requires-2 c = Start·end-component-requires (c .before .before .before .before)
+
+abbrev Start·feature-of-requires : tie.After-known-told2 → tie.Start
+Start·feature-of-requires c = Start·end-component-requires-2 (c .before .before .before .before)
+
+abbrev Start·group-link-requires : tie.After-feature-of → tie.Start
+Start·group-link-requires c = Start·feature-of-requires (c .before)
+
+abbrev Start·feature-of-requires-2 : tie.After-group-link → tie.Start
+Start·feature-of-requires-2 c = Start·group-link-requires (c .before)
+
+abbrev Start·group-link-requires-2 : tie.After-feature-of2 → tie.Start
+Start·group-link-requires-2 c = Start·feature-of-requires-2 (c .before)
+
+abbrev Start·match-groups-requires : tie.After-match-groups-arg5 → tie.Start
+Start·match-groups-requires c = Start·group-link-requires-2 (c .before .before .before .before .before .before)
+
+abbrev match-groups·returns-4 : tie.After-slice-known10 → tie.After-match-groups
+match-groups·returns-4 c = c .before .before .before .before .before .before .before .before .before .before
+
+abbrev group-link2·returns-4 : tie.After-slice-known10 → tie.After-group-link2
+group-link2·returns-4 c = match-groups·returns-4 c .before .before .before .before .before .before
+
+abbrev feature-of2·returns-4 : tie.After-slice-known10 → tie.After-feature-of2
+feature-of2·returns-4 c = group-link2·returns-4 c .before
+
+abbrev group-link·returns-4 : tie.After-slice-known10 → tie.After-group-link
+group-link·returns-4 c = feature-of2·returns-4 c .before
+
+abbrev feature-of·returns-4 : tie.After-slice-known10 → tie.After-feature-of
+feature-of·returns-4 c = group-link·returns-4 c .before
+
+abbrev b·returns-4 : tie.After-slice-known10 → tie.After-b
+b·returns-4 c = feature-of·returns-4 c .before .before
+
+abbrev end-component2·returns-4 : tie.After-slice-known10 → tie.After-end-component2
+end-component2·returns-4 c = b·returns-4 c .before .before
+
+abbrev a·returns-4 : tie.After-slice-known10 → tie.After-a
+a·returns-4 c = end-component2·returns-4 c .before .before
+
+abbrev end-component·returns-4 : tie.After-slice-known10 → tie.After-end-component
+end-component·returns-4 c = a·returns-4 c .before .before
+
+abbrev Else1·returns-4 : tie.After-slice-known10 → tie.Else1
+Else1·returns-4 c = end-component·returns-4 c .before
+
+abbrev is-group-connection·returns-4 : tie.After-slice-known10 → tie.After-is-group-connection
+is-group-connection·returns-4 c = Else1·returns-4 c .before
+
+abbrev Start·returns-4 : tie.After-slice-known10 → tie.Start
+Start·returns-4 c = Start·match-groups-requires (c .before .before .before .before .before .before .before .before .before .before .before)
+
+-- end of places
+
 is-group-connection-requires : tie.Need-is-group-connection-requires
-is-group-connection-requires c κs = c .before .before .before .before .before .before .before .before .before .before .before .before .before .before .before .before .before .before .before .before .pre .1 .1 .1
+is-group-connection-requires c κs = Start·is-group-connection-requires c .pre .1 .1 .1
 
 returns : tie.Need-returns
 unfolding listsOf
 returns c = let r = c .before .is-group-connection in row-other _ _ _ (r .result) (r .ensures) (c .if1 .taken)
 
 end-component-requires : tie.Need-end-component-requires
-end-component-requires c κs = c .before .before .before .before .before .before .before .before .before .before .before .before .before .before .before .before .before .before .before .before .before .before .pre .1 .1 .1
+end-component-requires c κs = Start·end-component-requires c .pre .1 .1 .1
 
 enum-known-a : tie.Need-enum-known-a
 enum-known-a c = search needs
@@ -58,7 +121,7 @@ unfolding listsOf
 returns-2 c = let a = c .before .before .end-component in row-sourceless _ _ _ (end-means _ source _ (a .result) Nothing (a .ensures) (c .enum-told .given .1))
 
 end-component-requires-2 : tie.Need-end-component-requires-2
-end-component-requires-2 c κs = c .before .before .before .before .before .before .before .before .before .before .before .before .before .before .before .before .before .before .before .before .before .before .before .before .before .before .pre .1 .1 .1
+end-component-requires-2 c κs = Start·end-component-requires-2 c .pre .1 .1 .1
 
 enum-known-b : tie.Need-enum-known-b
 enum-known-b c = search needs
@@ -72,68 +135,68 @@ returns-3 c = let b = c .before .before .end-component2 in row-destinationless _
 
 cast-source : tie.Need-cast-source
 cast-source c =
-    let s = c .before .before .before .before .before .before .before .before .before .before .before .before .before .before .before .before .before .before .before .before .before .before .before .before .before .before .before .before .before .before in
+    let s = Start·feature-of-requires c in
     let a = c .before .before .before .before .before .before .before .end-component in
     let i = c .before .before .before .before .before .a .given in
     omega (arith, end-below (model s) (s .pre .0) source (s .args .row) (i .0 .0) (s .pre .1 .1 .1) (end-means (model s) source (s .args .row) (a .result) (At (i .0 .0)) (a .ensures) (i .1)))
 
 cast-destination : tie.Need-cast-destination
 cast-destination c =
-    let s = c .before .before .before .before .before .before .before .before .before .before .before .before .before .before .before .before .before .before .before .before .before .before .before .before .before .before .before .before .before .before in
+    let s = Start·feature-of-requires c in
     let b = c .before .before .before .end-component2 in
     let j = c .before .b .given in
     omega (arith, end-below (model s) (s .pre .0) destination (s .args .row) (j .0 .0) (s .pre .1 .1 .1) (end-means (model s) destination (s .args .row) (b .result) (At (j .0 .0)) (b .ensures) (j .1)))
 
 feature-of-requires : tie.Need-feature-of-requires
-feature-of-requires c κs = c .before .before .before .before .before .before .before .before .before .before .before .before .before .before .before .before .before .before .before .before .before .before .before .before .before .before .before .before .before .before .pre .1 .1 .1
+feature-of-requires c κs = Start·feature-of-requires c .pre .1 .1 .1
 
 group-link-requires : tie.Need-group-link-requires
-group-link-requires c κs = let s = c .before .before .before .before .before .before .before .before .before .before .before .before .before .before .before .before .before .before .before .before .before .before .before .before .before .before .before .before .before .before .before in facts (model s) (s .pre .0) .few letterU
+group-link-requires c κs = let s = Start·group-link-requires c in facts (model s) (s .pre .0) .few letterU
 
 feature-of-requires-2 : tie.Need-feature-of-requires-2
-feature-of-requires-2 c κs = c .before .before .before .before .before .before .before .before .before .before .before .before .before .before .before .before .before .before .before .before .before .before .before .before .before .before .before .before .before .before .before .before .pre .1 .1 .1
+feature-of-requires-2 c κs = Start·feature-of-requires-2 c .pre .1 .1 .1
 
 group-link-requires-2 : tie.Need-group-link-requires-2
-group-link-requires-2 c κs = let s = c .before .before .before .before .before .before .before .before .before .before .before .before .before .before .before .before .before .before .before .before .before .before .before .before .before .before .before .before .before .before .before .before .before in facts (model s) (s .pre .0) .few letterU
+group-link-requires-2 c κs = let s = Start·group-link-requires-2 c in facts (model s) (s .pre .0) .few letterU
 
 cast-match-groups : tie.Need-cast-match-groups
-cast-match-groups c = let s = c .before .before .before .before .before .before .before .before .before .before .before .before .before .before .before .before .before .before .before .before .before .before .before .before .before .before .before .before .before .before .before .before .before .before .before .before .before .before .before in omega (arith, row-below (model s) (s .pre .0) (s .args .row) (s .pre .1 .1 .1))
+cast-match-groups c = let s = Start·match-groups-requires c in omega (arith, row-below (model s) (s .pre .0) (s .args .row) (s .pre .1 .1 .1))
 
 match-groups-requires : tie.Need-match-groups-requires
-match-groups-requires c κs = let s = c .before .before .before .before .before .before .before .before .before .before .before .before .before .before .before .before .before .before .before .before .before .before .before .before .before .before .before .before .before .before .before .before .before .before .before .before .before .before .before in (s .pre .1 .1 .0, s .pre .1 .1 .2, s .pre .1 .1 .3)
+match-groups-requires c κs = let s = Start·match-groups-requires c in (s .pre .1 .1 .0, s .pre .1 .1 .2, s .pre .1 .1 .3)
 
 same-length : tie.Need-same-length
-same-length c = c .before .before .before .before .before .before .before .before .before .before .match-groups .kept .1 .1 .1 .1 .1 .1 .0
+same-length c = match-groups·returns-4 c .match-groups .kept .1 .1 .1 .1 .1 .1 .0
 
 same-length-2 : tie.Need-same-length-2
-same-length-2 c = c .before .before .before .before .before .before .before .before .before .before .match-groups .kept .1 .1 .1 .1 .1 .1 .1 .0
+same-length-2 c = match-groups·returns-4 c .match-groups .kept .1 .1 .1 .1 .1 .1 .1 .0
 
 same-length-3 : tie.Need-same-length-3
-same-length-3 c = c .before .before .before .before .before .before .before .before .before .before .match-groups .kept .1 .1 .1 .1 .1 .1 .1 .1 .0
+same-length-3 c = match-groups·returns-4 c .match-groups .kept .1 .1 .1 .1 .1 .1 .1 .1 .0
 
 same-length-4 : tie.Need-same-length-4
-same-length-4 c = c .before .before .before .before .before .before .before .before .before .before .match-groups .kept .1 .1 .1 .1 .1 .1 .1 .1 .1 .0
+same-length-4 c = match-groups·returns-4 c .match-groups .kept .1 .1 .1 .1 .1 .1 .1 .1 .1 .0
 
 same-length-5 : tie.Need-same-length-5
-same-length-5 c = c .before .before .before .before .before .before .before .before .before .before .match-groups .kept .1 .1 .1 .1 .1 .1 .1 .1 .1 .1 .0
+same-length-5 c = match-groups·returns-4 c .match-groups .kept .1 .1 .1 .1 .1 .1 .1 .1 .1 .1 .0
 
 returns-4 : tie.Need-returns-4
 returns-4 c =
-    let s = c .before .before .before .before .before .before .before .before .before .before .before .before .before .before .before .before .before .before .before .before .before .before .before .before .before .before .before .before .before .before .before .before .before .before .before .before .before .before .before .before .before .before .before .before .before .before .before .before .before .before in
-    let r = c .before .before .before .before .before .before .before .before .before .before .before .before .before .before .before .before .before .before .before .before .before .before .before .before .before .before .before .before .before .is-group-connection in
-    let a = c .before .before .before .before .before .before .before .before .before .before .before .before .before .before .before .before .before .before .before .before .before .before .before .before .before .before .before .end-component in
-    let i = c .before .before .before .before .before .before .before .before .before .before .before .before .before .before .before .before .before .before .before .before .before .before .before .before .before .a .given in
-    let b = c .before .before .before .before .before .before .before .before .before .before .before .before .before .before .before .before .before .before .before .before .before .before .before .end-component2 in
-    let j = c .before .before .before .before .before .before .before .before .before .before .before .before .before .before .before .before .before .before .before .before .before .b .given in
-    let f = c .before .before .before .before .before .before .before .before .before .before .before .before .before .before .before .before .before .before .before .feature-of in
-    let g = c .before .before .before .before .before .before .before .before .before .before .before .before .before .before .before .before .before .feature-of2 in
-    c .before .before .before .before .before .before .before .before .before .before .match-groups .ensures
-    ∙ row-matched (model s) (s .args .row) _ (r .result) (r .ensures) (c .before .before .before .before .before .before .before .before .before .before .before .before .before .before .before .before .before .before .before .before .before .before .before .before .before .before .before .before .if1 .left) (i .0 .0) (j .0 .0)
+    let s = Start·returns-4 c in
+    let r = is-group-connection·returns-4 c .is-group-connection in
+    let a = end-component·returns-4 c .end-component in
+    let i = a·returns-4 c .a .given in
+    let b = end-component2·returns-4 c .end-component2 in
+    let j = b·returns-4 c .b .given in
+    let f = feature-of·returns-4 c .feature-of in
+    let g = feature-of2·returns-4 c .feature-of2 in
+    match-groups·returns-4 c .match-groups .ensures
+    ∙ row-matched (model s) (s .args .row) _ (r .result) (r .ensures) (Else1·returns-4 c .if1 .left) (i .0 .0) (j .0 .0)
     (end-means (model s) source (s .args .row) (a .result) (At (i .0 .0)) (a .ensures) (i .1))
     (end-means (model s) destination (s .args .row) (b .result) (At (j .0 .0)) (b .ensures) (j .1))
     (f .result) (g .result) (f .ensures) (g .ensures) _ _
-    (c .before .before .before .before .before .before .before .before .before .before .before .before .before .before .before .before .before .before .group-link .ensures (s .args .x .now) (s .args .nested .now) (s .args .extends .now) (s .args .inverses .now) (s .pre .1 .0))
-    (c .before .before .before .before .before .before .before .before .before .before .before .before .before .before .before .before .group-link2 .ensures (s .args .x .now) (s .args .nested .now) (s .args .extends .now) (s .args .inverses .now) (s .pre .1 .0))
+    (group-link·returns-4 c .group-link .ensures (s .args .x .now) (s .args .nested .now) (s .args .extends .now) (s .args .inverses .now) (s .pre .1 .0))
+    (group-link2·returns-4 c .group-link2 .ensures (s .args .x .now) (s .args .nested .now) (s .args .extends .now) (s .args .inverses .now) (s .pre .1 .0))
 
 pub match-connection-spec : {M : Type 1} → statement M
 match-connection-spec =

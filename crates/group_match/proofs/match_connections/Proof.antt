@@ -20,9 +20,33 @@ abbrev μ-loop : tie.MeasureT-loop
 loop-holds : tie.Need-loop-holds Inv-loop μ-loop
 loop-holds c = (refl, refl, refl, goes-start _ _ _)
 
+-- places: the way back from where an answer stands to what it uses
+abbrev Start·match-connection-requires : tie.After-match-connection-arg5 Inv-loop μ-loop → tie.Start Inv-loop μ-loop
+Start·match-connection-requires c = c .before .before .before .before .before .before .before .before .before .before .before .before .before .before .before .before .before .before .before .before .before .before .before .before .before .before .before
+
+abbrev match-connection·returns : tie.After-enum-told Inv-loop μ-loop → tie.After-match-connection Inv-loop μ-loop
+match-connection·returns c = c .before .before .before .before .before .before .before .before .before .before .before .before
+
+abbrev In-loop·returns : tie.After-enum-told Inv-loop μ-loop → tie.In-loop Inv-loop μ-loop
+In-loop·returns c = match-connection·returns c .before .before .before .before .before .before
+
+abbrev At-loop·returns : tie.After-enum-told Inv-loop μ-loop → tie.At-loop Inv-loop μ-loop
+At-loop·returns c = In-loop·returns c .before
+
+abbrev In-loop·loop-again : tie.After-known-told Inv-loop μ-loop → tie.In-loop Inv-loop μ-loop
+In-loop·loop-again c = c .before .before .before .before .before .before .before .before .before .before .before .before .before .before .before .before .before .before .before
+
+abbrev At-loop·loop-again : tie.After-known-told Inv-loop μ-loop → tie.At-loop Inv-loop μ-loop
+At-loop·loop-again c = In-loop·loop-again c .before
+
+abbrev Start·loop-again : tie.After-known-told Inv-loop μ-loop → tie.Start Inv-loop μ-loop
+Start·loop-again c = Start·match-connection-requires (c .before .before .before .before .before .before .before .before .before .before .before .before .before .before)
+
+-- end of places
+
 match-connection-requires : tie.Need-match-connection-requires Inv-loop μ-loop
 match-connection-requires c κs =
-    let s = c .before .before .before .before .before .before .before .before .before .before .before .before .before .before .before .before .before .before .before .before .before .before .before .before .before .before .before in
+    let s = Start·match-connection-requires c in
     let g = c .before .before .before .before .before .before .loop in
     let sizes = s .pre .1 .1 in (
       s .pre .0,
@@ -36,44 +60,44 @@ enum-told : tie.Need-enum-told Inv-loop μ-loop
 enum-told c = search needs
 
 same-length : tie.Need-same-length Inv-loop μ-loop
-same-length c = c .before .before .before .before .before .before .before .before .before .before .before .before .match-connection .kept .1 .1 .1 .1 .1 .1 .1 .1 .1 .1 .1 .1 .1 .1 .1 .0 ∙ c .before .before .before .before .before .before .before .before .before .before .before .before .before .before .before .before .before .before .before .loop .inv .0
+same-length c = match-connection·returns c .match-connection .kept .1 .1 .1 .1 .1 .1 .1 .1 .1 .1 .1 .1 .1 .1 .1 .0 ∙ At-loop·returns c .loop .inv .0
 
 same-length-2 : tie.Need-same-length-2 Inv-loop μ-loop
-same-length-2 c = c .before .before .before .before .before .before .before .before .before .before .before .before .match-connection .kept .1 .1 .1 .1 .1 .1 .1 .1 .1 .1 .1 .1 .1 .1 .1 .1 .0 ∙ c .before .before .before .before .before .before .before .before .before .before .before .before .before .before .before .before .before .before .before .loop .inv .1
+same-length-2 c = match-connection·returns c .match-connection .kept .1 .1 .1 .1 .1 .1 .1 .1 .1 .1 .1 .1 .1 .1 .1 .1 .0 ∙ At-loop·returns c .loop .inv .1
 
 same-length-3 : tie.Need-same-length-3 Inv-loop μ-loop
-same-length-3 c = c .before .before .before .before .before .before .before .before .before .before .before .before .match-connection .kept .1 .1 .1 .1 .1 .1 .1 .1 .1 .1 .1 .1 .1 .1 .1 .1 .1 .0 ∙ c .before .before .before .before .before .before .before .before .before .before .before .before .before .before .before .before .before .before .before .loop .inv .2
+same-length-3 c = match-connection·returns c .match-connection .kept .1 .1 .1 .1 .1 .1 .1 .1 .1 .1 .1 .1 .1 .1 .1 .1 .1 .0 ∙ At-loop·returns c .loop .inv .2
 
 same-length-4 : tie.Need-same-length-4 Inv-loop μ-loop
-same-length-4 c = c .before .before .before .before .before .before .before .before .before .before .before .before .match-connection .kept .1 .1 .1 .1 .1 .1 .1 .1 .1 .1 .1 .1 .1 .1 .1 .1 .1 .1 .0 ∙ c .before .before .before .before .before .before .before .before .before .before .before .before .before .before .before .before .before .before .before .loop .inv .3 .rows-size
+same-length-4 c = match-connection·returns c .match-connection .kept .1 .1 .1 .1 .1 .1 .1 .1 .1 .1 .1 .1 .1 .1 .1 .1 .1 .1 .0 ∙ At-loop·returns c .loop .inv .3 .rows-size
 
 same-length-5 : tie.Need-same-length-5 Inv-loop μ-loop
-same-length-5 c = c .before .before .before .before .before .before .before .before .before .before .before .before .match-connection .kept .1 .1 .1 .1 .1 .1 .1 .1 .1 .1 .1 .1 .1 .1 .1 .1 .1 .1 .1 .0 ∙ c .before .before .before .before .before .before .before .before .before .before .before .before .before .before .before .before .before .before .before .loop .inv .3 .notes-size
+same-length-5 c = match-connection·returns c .match-connection .kept .1 .1 .1 .1 .1 .1 .1 .1 .1 .1 .1 .1 .1 .1 .1 .1 .1 .1 .1 .0 ∙ At-loop·returns c .loop .inv .3 .notes-size
 
 returns : tie.Need-returns Inv-loop μ-loop
 unfolding listsOf
 returns c =
-    let r = c .before .before .before .before .before .before .before .before .before .before .before .before .match-connection in
-    goes-over _ _ _ _ _ _ _ (c .before .before .before .before .before .before .before .before .before .before .before .before .before .before .before .before .before .before .before .loop .inv .3) (c .before .before .before .before .before .before .before .before .before .before .before .before .before .before .before .before .before .before .loop-test .taken) (r .result) _ _ (r .ensures) (c .enum-told .given .1)
+    let r = match-connection·returns c .match-connection in
+    goes-over _ _ _ _ _ _ _ (At-loop·returns c .loop .inv .3) (In-loop·returns c .loop-test .taken) (r .result) _ _ (r .ensures) (c .enum-told .given .1)
 
 enum-known-then : tie.Need-enum-known-then Inv-loop μ-loop
 enum-known-then c = search needs
 
 add-row : tie.Need-add-row Inv-loop μ-loop
-add-row c = omega (arith, c .before .before .before .before .before .before .before .before .before .before .before .before .before .before .before .before .before .before .before .loop-test .taken, c .before .before .before .before .before .before .before .before .before .before .before .before .before .before .before .before .before .before .before .before .before .before .before .before .before .before .before .before .before .before .before .before .before .before .before .before .before .before .before .before .before .good)
+add-row c = omega (arith, In-loop·loop-again c .loop-test .taken, Start·loop-again c .good)
 
 loop-less : tie.Need-loop-less Inv-loop μ-loop
-loop-less c = omega (arith, c .before .before .before .before .before .before .before .before .before .before .before .before .before .before .before .before .before .before .before .loop-test .taken)
+loop-less c = omega (arith, In-loop·loop-again c .loop-test .taken)
 
 loop-again : tie.Need-loop-again Inv-loop μ-loop
 loop-again c =
-    let g = c .before .before .before .before .before .before .before .before .before .before .before .before .before .before .before .before .before .before .before .before .loop in
+    let g = At-loop·loop-again c .loop in
     let r = c .before .before .before .before .before .before .before .before .before .before .before .before .before .match-connection in
     let t = c .before .then .given in (
       r .kept .1 .1 .1 .1 .1 .1 .1 .1 .1 .1 .1 .1 .1 .1 .1 .0 ∙ g .inv .0,
       r .kept .1 .1 .1 .1 .1 .1 .1 .1 .1 .1 .1 .1 .1 .1 .1 .1 .0 ∙ g .inv .1,
       r .kept .1 .1 .1 .1 .1 .1 .1 .1 .1 .1 .1 .1 .1 .1 .1 .1 .1 .0 ∙ g .inv .2,
-      goes-turn _ _ _ _ _ _ _ (g .inv .3) (c .before .before .before .before .before .before .before .before .before .before .before .before .before .before .before .before .before .before .before .loop-test .taken) (r .result) _ _ (r .ensures) (t .0 .0) (t .1) (r .kept .1 .1 .1 .1 .1 .1 .1 .1 .1 .1 .1 .1 .1 .1 .1 .1 .1 .1 .0) (r .kept .1 .1 .1 .1 .1 .1 .1 .1 .1 .1 .1 .1 .1 .1 .1 .1 .1 .1 .1 .0),
+      goes-turn _ _ _ _ _ _ _ (g .inv .3) (In-loop·loop-again c .loop-test .taken) (r .result) _ _ (r .ensures) (t .0 .0) (t .1) (r .kept .1 .1 .1 .1 .1 .1 .1 .1 .1 .1 .1 .1 .1 .1 .1 .1 .1 .1 .0) (r .kept .1 .1 .1 .1 .1 .1 .1 .1 .1 .1 .1 .1 .1 .1 .1 .1 .1 .1 .1 .0),
     )
 
 same-length-6 : tie.Need-same-length-6 Inv-loop μ-loop

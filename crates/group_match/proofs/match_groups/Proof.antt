@@ -16,40 +16,76 @@ enum-known-purpose c = search needs
 enum-told : tie.Need-enum-told
 enum-told c = search needs
 
+-- places: the way back from where an answer stands to what it uses
+abbrev prepare·returns : tie.After-enum-told → tie.After-prepare
+prepare·returns c = c .before .before .before .before .before .before .before .before
+
+abbrev prepare·returns-2 : tie.Then1 → tie.After-prepare
+prepare·returns-2 c = c .before .before .before .before .before .before .before .before .before .before
+
+abbrev Start·walk-requires : tie.After-walk-arg5 → tie.Start
+Start·walk-requires c = c .before .before .before .before .before .before .before .before .before .before .before .before .before .before .before .before .before .before .before .before .before .before .before .before .before .before .before .before .before .before
+
+abbrev walk·returns-3 : tie.After-enum-told2 → tie.After-walk
+walk·returns-3 c = c .before .before .before .before .before .before .before .before .before .before
+
+abbrev Else1·returns-3 : tie.After-enum-told2 → tie.Else1
+Else1·returns-3 c = walk·returns-3 c .before .before .before .before .before .before
+
+abbrev purpose·returns-3 : tie.After-enum-told2 → tie.After-purpose
+purpose·returns-3 c = Else1·returns-3 c .before .before
+
+abbrev prepare·returns-3 : tie.After-enum-told2 → tie.After-prepare
+prepare·returns-3 c = purpose·returns-3 c .before .before .before .before .before .before .before .before
+
+abbrev walk·returns-4 : tie.After-known-told2 → tie.After-walk
+walk·returns-4 c = c .before .before .before .before .before .before .before .before .before .before .before
+
+abbrev Else1·returns-4 : tie.After-known-told2 → tie.Else1
+Else1·returns-4 c = walk·returns-4 c .before .before .before .before .before .before
+
+abbrev purpose·returns-4 : tie.After-known-told2 → tie.After-purpose
+purpose·returns-4 c = Else1·returns-4 c .before .before
+
+abbrev prepare·returns-4 : tie.After-known-told2 → tie.After-prepare
+prepare·returns-4 c = purpose·returns-4 c .before .before .before .before .before .before .before .before
+
+-- end of places
+
 same-length : tie.Need-same-length
-same-length c = c .before .before .before .before .before .before .before .before .prepare .kept .1 .1 .1 .1 .1 .1 .0
+same-length c = prepare·returns c .prepare .kept .1 .1 .1 .1 .1 .1 .0
 
 same-length-2 : tie.Need-same-length-2
-same-length-2 c = c .before .before .before .before .before .before .before .before .prepare .kept .1 .1 .1 .1 .1 .1 .1 .0
+same-length-2 c = prepare·returns c .prepare .kept .1 .1 .1 .1 .1 .1 .1 .0
 
 same-length-3 : tie.Need-same-length-3
-same-length-3 c = c .before .before .before .before .before .before .before .before .prepare .kept .1 .1 .1 .1 .1 .1 .1 .1 .0
+same-length-3 c = prepare·returns c .prepare .kept .1 .1 .1 .1 .1 .1 .1 .1 .0
 
 returns : tie.Need-returns
 unfolding listsOf
 returns c =
-    let a = c .before .before .before .before .before .before .before .before .prepare in
+    let a = prepare·returns c .prepare in
     matched-over _ _ _ _ _ _ _ _ _ _ _ _ _ (a .result) (a .ensures) (c .enum-told .given .1)
 
 same-length-4 : tie.Need-same-length-4
-same-length-4 c = c .before .before .before .before .before .before .before .before .before .before .prepare .kept .1 .1 .1 .1 .1 .1 .0
+same-length-4 c = prepare·returns-2 c .prepare .kept .1 .1 .1 .1 .1 .1 .0
 
 same-length-5 : tie.Need-same-length-5
-same-length-5 c = c .before .before .before .before .before .before .before .before .before .before .prepare .kept .1 .1 .1 .1 .1 .1 .1 .0
+same-length-5 c = prepare·returns-2 c .prepare .kept .1 .1 .1 .1 .1 .1 .1 .0
 
 same-length-6 : tie.Need-same-length-6
-same-length-6 c = c .before .before .before .before .before .before .before .before .before .before .prepare .kept .1 .1 .1 .1 .1 .1 .1 .1 .0
+same-length-6 c = prepare·returns-2 c .prepare .kept .1 .1 .1 .1 .1 .1 .1 .1 .0
 
 returns-2 : tie.Need-returns-2
 unfolding listsOf
 returns-2 c =
-    let a = c .before .before .before .before .before .before .before .before .before .before .prepare in
+    let a = prepare·returns-2 c .prepare in
     let p = c .before .before .purpose .given in
     matched-none _ _ _ _ _ _ _ _ _ _ _ _ _ (a .result) (a .ensures) (p .0 .0) (p .1) (c .if1 .taken)
 
 walk-requires : tie.Need-walk-requires
 walk-requires c κs =
-    let s = c .before .before .before .before .before .before .before .before .before .before .before .before .before .before .before .before .before .before .before .before .before .before .before .before .before .before .before .before .before .before in
+    let s = Start·walk-requires c in
     let a = c .before .before .before .before .before .before .before .before .before .before .before .before .before .before .before .prepare in
     let p = c .before .before .before .before .before .before .before .purpose .given in
     (prepared-ready _ _ _ _ _ _ _ _ (a .result) (a .ensures) (p .0 .0) (p .1) _ (a .kept .1 .1 .1 .1 .1 .1 .1 .0), s .pre .1, s .pre .2)
@@ -61,51 +97,51 @@ enum-known-then : tie.Need-enum-known-then
 enum-known-then c = search needs
 
 same-length-7 : tie.Need-same-length-7
-same-length-7 c = c .before .before .before .before .before .before .before .before .before .before .before .before .before .before .before .before .before .before .before .before .before .before .before .before .before .before .prepare .kept .1 .1 .1 .1 .1 .1 .0
+same-length-7 c = prepare·returns-3 c .prepare .kept .1 .1 .1 .1 .1 .1 .0
 
 same-length-8 : tie.Need-same-length-8
-same-length-8 c = c .before .before .before .before .before .before .before .before .before .before .walk .kept .1 .1 .1 .1 .1 .1 .1 .0 ∙ c .before .before .before .before .before .before .before .before .before .before .before .before .before .before .before .before .before .before .before .before .before .before .before .before .before .before .prepare .kept .1 .1 .1 .1 .1 .1 .1 .0
+same-length-8 c = walk·returns-3 c .walk .kept .1 .1 .1 .1 .1 .1 .1 .0 ∙ prepare·returns-3 c .prepare .kept .1 .1 .1 .1 .1 .1 .1 .0
 
 same-length-9 : tie.Need-same-length-9
-same-length-9 c = c .before .before .before .before .before .before .before .before .before .before .walk .kept .1 .1 .1 .1 .1 .1 .1 .1 .1 .1 .0 ∙ c .before .before .before .before .before .before .before .before .before .before .before .before .before .before .before .before .before .before .before .before .before .before .before .before .before .before .prepare .kept .1 .1 .1 .1 .1 .1 .1 .1 .0
+same-length-9 c = walk·returns-3 c .walk .kept .1 .1 .1 .1 .1 .1 .1 .1 .1 .1 .0 ∙ prepare·returns-3 c .prepare .kept .1 .1 .1 .1 .1 .1 .1 .1 .0
 
 same-length-10 : tie.Need-same-length-10
-same-length-10 c = c .before .before .before .before .before .before .before .before .before .before .walk .kept .1 .1 .1 .1 .1 .1 .1 .1 .0
+same-length-10 c = walk·returns-3 c .walk .kept .1 .1 .1 .1 .1 .1 .1 .1 .0
 
 same-length-11 : tie.Need-same-length-11
-same-length-11 c = c .before .before .before .before .before .before .before .before .before .before .walk .kept .1 .1 .1 .1 .1 .1 .1 .1 .1 .0
+same-length-11 c = walk·returns-3 c .walk .kept .1 .1 .1 .1 .1 .1 .1 .1 .1 .0
 
 returns-3 : tie.Need-returns-3
 unfolding listsOf
 returns-3 c =
-    let a = c .before .before .before .before .before .before .before .before .before .before .before .before .before .before .before .before .before .before .before .before .before .before .before .before .before .before .prepare in
-    let p = c .before .before .before .before .before .before .before .before .before .before .before .before .before .before .before .before .before .before .purpose .given in
-    let w = c .before .before .before .before .before .before .before .before .before .before .walk in
-    matched-far _ _ _ _ _ _ _ _ _ _ _ _ _ (a .result) (a .ensures) (p .0 .0) (p .1) (c .before .before .before .before .before .before .before .before .before .before .before .before .before .before .before .before .if1 .left) (length (a .last .1 .1 .1 .1 .1 .1 .1 .0)) _ _ _ (w .result) (w .ensures) (c .enum-told2 .given .1)
+    let a = prepare·returns-3 c .prepare in
+    let p = purpose·returns-3 c .purpose .given in
+    let w = walk·returns-3 c .walk in
+    matched-far _ _ _ _ _ _ _ _ _ _ _ _ _ (a .result) (a .ensures) (p .0 .0) (p .1) (Else1·returns-3 c .if1 .left) (length (a .last .1 .1 .1 .1 .1 .1 .1 .0)) _ _ _ (w .result) (w .ensures) (c .enum-told2 .given .1)
 
 same-length-12 : tie.Need-same-length-12
-same-length-12 c = c .before .before .before .before .before .before .before .before .before .before .before .before .before .before .before .before .before .before .before .before .before .before .before .before .before .before .before .prepare .kept .1 .1 .1 .1 .1 .1 .0
+same-length-12 c = prepare·returns-4 c .prepare .kept .1 .1 .1 .1 .1 .1 .0
 
 same-length-13 : tie.Need-same-length-13
-same-length-13 c = c .before .before .before .before .before .before .before .before .before .before .before .walk .kept .1 .1 .1 .1 .1 .1 .1 .0 ∙ c .before .before .before .before .before .before .before .before .before .before .before .before .before .before .before .before .before .before .before .before .before .before .before .before .before .before .before .prepare .kept .1 .1 .1 .1 .1 .1 .1 .0
+same-length-13 c = walk·returns-4 c .walk .kept .1 .1 .1 .1 .1 .1 .1 .0 ∙ prepare·returns-4 c .prepare .kept .1 .1 .1 .1 .1 .1 .1 .0
 
 same-length-14 : tie.Need-same-length-14
-same-length-14 c = c .before .before .before .before .before .before .before .before .before .before .before .walk .kept .1 .1 .1 .1 .1 .1 .1 .1 .1 .1 .0 ∙ c .before .before .before .before .before .before .before .before .before .before .before .before .before .before .before .before .before .before .before .before .before .before .before .before .before .before .before .prepare .kept .1 .1 .1 .1 .1 .1 .1 .1 .0
+same-length-14 c = walk·returns-4 c .walk .kept .1 .1 .1 .1 .1 .1 .1 .1 .1 .1 .0 ∙ prepare·returns-4 c .prepare .kept .1 .1 .1 .1 .1 .1 .1 .1 .0
 
 same-length-15 : tie.Need-same-length-15
-same-length-15 c = c .before .before .before .before .before .before .before .before .before .before .before .walk .kept .1 .1 .1 .1 .1 .1 .1 .1 .0
+same-length-15 c = walk·returns-4 c .walk .kept .1 .1 .1 .1 .1 .1 .1 .1 .0
 
 same-length-16 : tie.Need-same-length-16
-same-length-16 c = c .before .before .before .before .before .before .before .before .before .before .before .walk .kept .1 .1 .1 .1 .1 .1 .1 .1 .1 .0
+same-length-16 c = walk·returns-4 c .walk .kept .1 .1 .1 .1 .1 .1 .1 .1 .1 .0
 
 returns-4 : tie.Need-returns-4
 unfolding listsOf
 returns-4 c =
-    let a = c .before .before .before .before .before .before .before .before .before .before .before .before .before .before .before .before .before .before .before .before .before .before .before .before .before .before .before .prepare in
-    let p = c .before .before .before .before .before .before .before .before .before .before .before .before .before .before .before .before .before .before .before .purpose .given in
-    let w = c .before .before .before .before .before .before .before .before .before .before .before .walk in
+    let a = prepare·returns-4 c .prepare in
+    let p = purpose·returns-4 c .purpose .given in
+    let w = walk·returns-4 c .walk in
     let t = c .before .then .given in
-    matched-done _ _ _ _ _ _ _ _ _ _ _ _ _ (a .result) (a .ensures) (p .0 .0) (p .1) (c .before .before .before .before .before .before .before .before .before .before .before .before .before .before .before .before .before .if1 .left) (length (a .last .1 .1 .1 .1 .1 .1 .1 .0)) _ _ _ (w .result) (w .ensures) (t .0 .0) (t .0 .1 .0) (t .1)
+    matched-done _ _ _ _ _ _ _ _ _ _ _ _ _ (a .result) (a .ensures) (p .0 .0) (p .1) (Else1·returns-4 c .if1 .left) (length (a .last .1 .1 .1 .1 .1 .1 .1 .0)) _ _ _ (w .result) (w .ensures) (t .0 .0) (t .0 .1 .0) (t .1)
 
 pub match-groups-spec : {M : Type 1} → statement M
 match-groups-spec =

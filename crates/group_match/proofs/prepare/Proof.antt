@@ -24,35 +24,50 @@ enum-told c = search needs
 enum-known-firsts : tie.Need-enum-known-firsts
 enum-known-firsts c = search needs
 
+-- places: the way back from where an answer stands to what it uses
+abbrev walk·returns-2 : tie.After-enum-told → tie.After-walk
+walk·returns-2 c = c .before .before .before .before .before .before .before .before .before
+
+abbrev walk·returns-3 : tie.After-struct-known → tie.After-walk
+walk·returns-3 c = c .before .before .before .before .before .before .before .before .before .before .before
+
+abbrev Else1·returns-3 : tie.After-struct-known → tie.Else1
+Else1·returns-3 c = walk·returns-3 c .before .before .before .before .before .before
+
+abbrev Start·returns-3 : tie.After-struct-known → tie.Start
+Start·returns-3 c = Else1·returns-3 c .before .before .before .before .before .before .before .before .before .before
+
+-- end of places
+
 same-length : tie.Need-same-length
-same-length c = c .before .before .before .before .before .before .before .before .before .walk .kept .1 .1 .1 .1 .1 .1 .1 .1 .0
+same-length c = walk·returns-2 c .walk .kept .1 .1 .1 .1 .1 .1 .1 .1 .0
 
 same-length-2 : tie.Need-same-length-2
-same-length-2 c = c .before .before .before .before .before .before .before .before .before .walk .kept .1 .1 .1 .1 .1 .1 .1 .0
+same-length-2 c = walk·returns-2 c .walk .kept .1 .1 .1 .1 .1 .1 .1 .0
 
 same-length-3 : tie.Need-same-length-3
-same-length-3 c = c .before .before .before .before .before .before .before .before .before .walk .kept .1 .1 .1 .1 .1 .1 .1 .1 .1 .1 .0
+same-length-3 c = walk·returns-2 c .walk .kept .1 .1 .1 .1 .1 .1 .1 .1 .1 .1 .0
 
 returns-2 : tie.Need-returns-2
 returns-2 c =
-    let w = c .before .before .before .before .before .before .before .before .before .walk in
+    let w = walk·returns-2 c .walk in
     prepares-over _ _ _ _ _ _ _ _ (c .before .before .before .before .before .before .before .before .before .before .before .before .before .before .before .if1 .left) _ _ _ _ _ _ (w .result) (w .ensures) (c .enum-told .given .1)
 
 same-length-4 : tie.Need-same-length-4
-same-length-4 c = c .before .before .before .before .before .before .before .before .before .before .before .walk .kept .1 .1 .1 .1 .1 .1 .1 .1 .0
+same-length-4 c = walk·returns-3 c .walk .kept .1 .1 .1 .1 .1 .1 .1 .1 .0
 
 same-length-5 : tie.Need-same-length-5
-same-length-5 c = c .before .before .before .before .before .before .before .before .before .before .before .walk .kept .1 .1 .1 .1 .1 .1 .1 .0
+same-length-5 c = walk·returns-3 c .walk .kept .1 .1 .1 .1 .1 .1 .1 .0
 
 same-length-6 : tie.Need-same-length-6
-same-length-6 c = c .before .before .before .before .before .before .before .before .before .before .before .walk .kept .1 .1 .1 .1 .1 .1 .1 .1 .1 .1 .0
+same-length-6 c = walk·returns-3 c .walk .kept .1 .1 .1 .1 .1 .1 .1 .1 .1 .1 .0
 
 returns-3 : tie.Need-returns-3
 returns-3 c =
-    let s = c .before .before .before .before .before .before .before .before .before .before .before .before .before .before .before .before .before .before .before .before .before .before .before .before .before .before .before in
-    let w = c .before .before .before .before .before .before .before .before .before .before .before .walk in
+    let s = Start·returns-3 c in
+    let w = walk·returns-3 c .walk in
     let f = c .before .before .firsts .given in
-    prepares-done _ _ _ _ _ _ _ _ (c .before .before .before .before .before .before .before .before .before .before .before .before .before .before .before .before .before .if1 .left) _ _ _ _ _ _ (w .result) (w .ensures) (f .0 .0) (f .0 .1 .0) (f .1) (s .args .memo .now) refl (s .pre) (w .kept .1 .1 .1 .1 .1 .1 .1 .1 .0)
+    prepares-done _ _ _ _ _ _ _ _ (Else1·returns-3 c .if1 .left) _ _ _ _ _ _ (w .result) (w .ensures) (f .0 .0) (f .0 .1 .0) (f .1) (s .args .memo .now) refl (s .pre) (w .kept .1 .1 .1 .1 .1 .1 .1 .1 .0)
 
 pub prepare-spec : {M : Type 1} → statement M
 prepare-spec =

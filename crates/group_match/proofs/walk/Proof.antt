@@ -13,27 +13,39 @@ clear-numbers-requires c κs = tt
 clear-numbers-requires-2 : tie.Need-clear-numbers-requires-2
 clear-numbers-requires-2 c κs = tt
 
+-- places: the way back from where an answer stands to what it uses
+abbrev Start·visit-requires : tie.After-visit-arg4 → tie.Start
+Start·visit-requires c = c .before .before .before .before .before .before .before .before .before .before .before .before .before .before .before .before .before .before .before .before .before .before .before
+
+abbrev visit·returns : tie.After-slice-known10 → tie.After-visit
+visit·returns c = c .before .before .before .before .before .before .before .before
+
+abbrev clear-numbers·returns : tie.After-slice-known10 → tie.After-clear-numbers
+clear-numbers·returns c = visit·returns c .before .before .before .before .before .before .before .before .before .before .before
+
+-- end of places
+
 visit-requires : tie.Need-visit-requires
 visit-requires c κs =
-    let s = c .before .before .before .before .before .before .before .before .before .before .before .before .before .before .before .before .before .before .before .before .before .before .before in (
+    let s = Start·visit-requires c in (
       (cleared-ready _ _ _ _ _ _ (c .before .before .before .before .before .before .before .before .before .before .clear-numbers .ensures) (s .pre .0), refl, omega arith),
       cleared-passable _ _ _ _ _ (c .before .before .before .before .before .before .clear-numbers2 .ensures) (passable-zeros _ _ _ (length (s .args .calm .now)) (s .pre .1, s .pre .2)),
     )
 
 same-length : tie.Need-same-length
-same-length c = c .before .before .before .before .before .before .before .before .visit .kept .1 .1 .1 .1 .1 .1 .1 .0 ∙ c .before .before .before .before .before .before .before .before .before .before .before .before .before .before .before .before .before .before .before .clear-numbers .kept .0
+same-length c = visit·returns c .visit .kept .1 .1 .1 .1 .1 .1 .1 .0 ∙ clear-numbers·returns c .clear-numbers .kept .0
 
 same-length-2 : tie.Need-same-length-2
-same-length-2 c = c .before .before .before .before .before .before .before .before .visit .kept .1 .1 .1 .1 .1 .1 .1 .1 .0
+same-length-2 c = visit·returns c .visit .kept .1 .1 .1 .1 .1 .1 .1 .1 .0
 
 same-length-3 : tie.Need-same-length-3
-same-length-3 c = c .before .before .before .before .before .before .before .before .visit .kept .1 .1 .1 .1 .1 .1 .1 .1 .1 .0
+same-length-3 c = visit·returns c .visit .kept .1 .1 .1 .1 .1 .1 .1 .1 .1 .0
 
 same-length-4 : tie.Need-same-length-4
-same-length-4 c = c .before .before .before .before .before .before .before .before .visit .kept .1 .1 .1 .1 .1 .1 .1 .1 .1 .1 .0 ∙ c .before .before .before .before .before .before .before .before .before .before .before .before .before .before .before .clear-numbers2 .kept .0
+same-length-4 c = visit·returns c .visit .kept .1 .1 .1 .1 .1 .1 .1 .1 .1 .1 .0 ∙ c .before .before .before .before .before .before .before .before .before .before .before .before .before .before .before .clear-numbers2 .kept .0
 
 returns : tie.Need-returns
-returns c = c .before .before .before .before .before .before .before .before .visit .ensures .0 ∙ cleared-run _ _ _ _ _ _ _ (c .before .before .before .before .before .before .before .before .before .before .before .before .before .before .before .before .before .before .before .clear-numbers .ensures)
+returns c = visit·returns c .visit .ensures .0 ∙ cleared-run _ _ _ _ _ _ _ (clear-numbers·returns c .clear-numbers .ensures)
 
 pub walk-spec : {M : Type 1} → statement M
 walk-spec =

@@ -103,9 +103,18 @@ number-at-requires-4 c κs = search needs
 put-full-name-requires : tie.Need-put-full-name-requires
 put-full-name-requires c κs = search needs
 
+-- places: the way back from where an answer stands to what it uses
+abbrev Start·add-put-full-name-2 : tie.After-put-full-name-arg3 → tie.Start
+Start·add-put-full-name-2 c = c .before .before .before .before .before .before .before .before .before .before .before .before .before .before .before .before .before .before .before .before .before .before .before .before .before
+
+abbrev Start·put-full-name-requires-2 : tie.After-number-at5 → tie.Start
+Start·put-full-name-requires-2 c = Start·add-put-full-name-2 (c .before .before)
+
+-- end of places
+
 add-put-full-name-2 : tie.Need-add-put-full-name-2
 add-put-full-name-2 c =
-    let s = c .before .before .before .before .before .before .before .before .before .before .before .before .before .before .before .before .before .before .before .before .before .before .before .before .before in
+    let s = Start·add-put-full-name-2 c in
     omega (arith, s .pre .1, s .good)
 
 add-number-at-3 : tie.Need-add-number-at-3
@@ -116,7 +125,7 @@ number-at-requires-5 c κs = search needs
 
 put-full-name-requires-2 : tie.Need-put-full-name-requires-2
 put-full-name-requires-2 c κs =
-    let s = c .before .before .before .before .before .before .before .before .before .before .before .before .before .before .before .before .before .before .before .before .before .before .before .before .before .before .before in
+    let s = Start·put-full-name-requires-2 c in
     omega (arith, s .pre .1)
 
 same-length : tie.Need-same-length

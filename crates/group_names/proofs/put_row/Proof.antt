@@ -49,10 +49,19 @@ put-numbers-requires-2 c κs = search needs
 same-length : tie.Need-same-length
 same-length c = search needs
 
+-- places: the way back from where an answer stands to what it uses
+abbrev number-at·returns : tie.After-slice-known2 → tie.After-number-at
+number-at·returns c = c .before .before .before .before .before .before .before .before .before .before .before .before .before .before .before .before
+
+abbrev Start·returns : tie.After-slice-known2 → tie.Start
+Start·returns c = number-at·returns c .before .before .before
+
+-- end of places
+
 returns : tie.Need-returns
 returns c =
-    let s = c .before .before .before .before .before .before .before .before .before .before .before .before .before .before .before .before .before .before .before .args in
-    row-put (s .rows .now) (s .place) _ _ _ _ _ _ _ _ _ _ (c .before .before .before .before .before .before .before .before .before .before .before .before .before .before .before .before .number-at .ensures)
+    let s = Start·returns c .args in
+    row-put (s .rows .now) (s .place) _ _ _ _ _ _ _ _ _ _ (number-at·returns c .number-at .ensures)
     (c .before .before .before .before .before .before .before .before .before .before .before .before .before .before .number-at2 .ensures)
     (c .before .before .before .before .before .before .before .before .before .before .before .before .before .connection-kind .ensures)
     (c .before .before .before .before .before .before .before .before .before .before .before .number-at3 .ensures)

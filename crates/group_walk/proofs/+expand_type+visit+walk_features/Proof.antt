@@ -152,47 +152,131 @@ module _ (t : ℕ) (s : expand-type-lts.Start (type-claims t) (expand-type-at t)
 expand-type-number-at-requires : (t : ℕ) → expand-type-lts.Need-number-at-requires (type-claims t) (expand-type-at t) expand-type.Post
 expand-type-number-at-requires t c κs = tt
 
+-- places: the way back from where an answer stands to what it uses
+abbrev Start·expand-type-visit-requires : (t : ℕ) → expand-type-lts.After-visit-arg4 (type-claims t) (expand-type-at t) expand-type.Post → expand-type-lts.Start (type-claims t) (expand-type-at t) expand-type.Post
+Start·expand-type-visit-requires t c = c .before .before .before .before .before .before .before .before .before .before .before .before .before .before .before .before .before
+
+abbrev Start·expand-type-walk-features-requires : (t : ℕ) → expand-type-lts.After-walk-features-arg4 (type-claims t) (expand-type-at t) expand-type.Post → expand-type-lts.Start (type-claims t) (expand-type-at t) expand-type.Post
+Start·expand-type-walk-features-requires t c = c .before .before .before .before .before .before .before .before .before .before .before .before .before .before .before .before .before .before .before
+
+abbrev Start·expand-type-visit-requires-2 : (t : ℕ) → expand-type-lts.After-visit-arg8 (type-claims t) (expand-type-at t) expand-type.Post → expand-type-lts.Start (type-claims t) (expand-type-at t) expand-type.Post
+Start·expand-type-visit-requires-2 t c = c .before .before .before .before .before .before .before .before .before .before .before .before .before .before .before .before .before .before .before
+
+abbrev visit·expand-type-returns : (t : ℕ) → expand-type-lts.After-slice-known8 (type-claims t) (expand-type-at t) expand-type.Post → expand-type-lts.After-visit (type-claims t) (expand-type-at t) expand-type.Post
+visit·expand-type-returns t c = c .before .before .before .before .before .before .before .before
+
+abbrev number-at·expand-type-returns : (t : ℕ) → expand-type-lts.After-slice-known8 (type-claims t) (expand-type-at t) expand-type.Post → expand-type-lts.After-number-at (type-claims t) (expand-type-at t) expand-type.Post
+number-at·expand-type-returns t c = visit·expand-type-returns t c .before .before .before .before .before .before
+
+abbrev Start·expand-type-returns : (t : ℕ) → expand-type-lts.After-slice-known8 (type-claims t) (expand-type-at t) expand-type.Post → expand-type-lts.Start (type-claims t) (expand-type-at t) expand-type.Post
+Start·expand-type-returns t c = Start·expand-type-visit-requires t (c .before .before .before .before .before .before .before .before .before)
+
+abbrev walk-features·expand-type-returns-2 : (t : ℕ) → expand-type-lts.After-slice-known12 (type-claims t) (expand-type-at t) expand-type.Post → expand-type-lts.After-walk-features (type-claims t) (expand-type-at t) expand-type.Post
+walk-features·expand-type-returns-2 t c = c .before .before .before .before .before .before .before .before
+
+abbrev number-at2·expand-type-returns-2 : (t : ℕ) → expand-type-lts.After-slice-known12 (type-claims t) (expand-type-at t) expand-type.Post → expand-type-lts.After-number-at2 (type-claims t) (expand-type-at t) expand-type.Post
+number-at2·expand-type-returns-2 t c = walk-features·expand-type-returns-2 t c .before .before .before .before .before .before
+
+abbrev number-at·expand-type-returns-2 : (t : ℕ) → expand-type-lts.After-slice-known12 (type-claims t) (expand-type-at t) expand-type.Post → expand-type-lts.After-number-at (type-claims t) (expand-type-at t) expand-type.Post
+number-at·expand-type-returns-2 t c = number-at2·expand-type-returns-2 t c .before .before
+
+abbrev Start·expand-type-returns-2 : (t : ℕ) → expand-type-lts.After-slice-known12 (type-claims t) (expand-type-at t) expand-type.Post → expand-type-lts.Start (type-claims t) (expand-type-at t) expand-type.Post
+Start·expand-type-returns-2 t c = Start·expand-type-walk-features-requires t (c .before .before .before .before .before .before .before .before .before)
+
+abbrev visit2·expand-type-returns-3 : (t : ℕ) → expand-type-lts.After-enum-told (type-claims t) (expand-type-at t) expand-type.Post → expand-type-lts.After-visit2 (type-claims t) (expand-type-at t) expand-type.Post
+visit2·expand-type-returns-3 t c = c .before .before .before .before .before .before .before .before .before .before
+
+abbrev number-at2·expand-type-returns-3 : (t : ℕ) → expand-type-lts.After-enum-told (type-claims t) (expand-type-at t) expand-type.Post → expand-type-lts.After-number-at2 (type-claims t) (expand-type-at t) expand-type.Post
+number-at2·expand-type-returns-3 t c = visit2·expand-type-returns-3 t c .before .before .before .before .before .before
+
+abbrev Else1·expand-type-returns-3 : (t : ℕ) → expand-type-lts.After-enum-told (type-claims t) (expand-type-at t) expand-type.Post → expand-type-lts.Else1 (type-claims t) (expand-type-at t) expand-type.Post
+Else1·expand-type-returns-3 t c = number-at2·expand-type-returns-3 t c .before
+
+abbrev number-at·expand-type-returns-3 : (t : ℕ) → expand-type-lts.After-enum-told (type-claims t) (expand-type-at t) expand-type.Post → expand-type-lts.After-number-at (type-claims t) (expand-type-at t) expand-type.Post
+number-at·expand-type-returns-3 t c = Else1·expand-type-returns-3 t c .before
+
+abbrev Start·expand-type-returns-3 : (t : ℕ) → expand-type-lts.After-enum-told (type-claims t) (expand-type-at t) expand-type.Post → expand-type-lts.Start (type-claims t) (expand-type-at t) expand-type.Post
+Start·expand-type-returns-3 t c = Start·expand-type-visit-requires-2 t (c .before .before .before .before .before .before .before .before .before .before .before)
+
+abbrev so-far·expand-type-walk-features-requires-2 : (t : ℕ) → expand-type-lts.After-walk-features-arg8 (type-claims t) (expand-type-at t) expand-type.Post → expand-type-lts.After-so-far (type-claims t) (expand-type-at t) expand-type.Post
+so-far·expand-type-walk-features-requires-2 t c = c .before .before .before .before .before
+
+abbrev visit2·expand-type-walk-features-requires-2 : (t : ℕ) → expand-type-lts.After-walk-features-arg8 (type-claims t) (expand-type-at t) expand-type.Post → expand-type-lts.After-visit2 (type-claims t) (expand-type-at t) expand-type.Post
+visit2·expand-type-walk-features-requires-2 t c = so-far·expand-type-walk-features-requires-2 t c .before .before .before .before .before .before .before .before .before .before
+
+abbrev number-at2·expand-type-walk-features-requires-2 : (t : ℕ) → expand-type-lts.After-walk-features-arg8 (type-claims t) (expand-type-at t) expand-type.Post → expand-type-lts.After-number-at2 (type-claims t) (expand-type-at t) expand-type.Post
+number-at2·expand-type-walk-features-requires-2 t c = visit2·expand-type-walk-features-requires-2 t c .before .before .before .before .before .before
+
+abbrev Start·expand-type-walk-features-requires-2 : (t : ℕ) → expand-type-lts.After-walk-features-arg8 (type-claims t) (expand-type-at t) expand-type.Post → expand-type-lts.Start (type-claims t) (expand-type-at t) expand-type.Post
+Start·expand-type-walk-features-requires-2 t c = number-at2·expand-type-walk-features-requires-2 t c .before .before .before .before .before .before .before .before .before .before .before .before .before .before
+
+abbrev walk-features2·expand-type-returns-4 : (t : ℕ) → expand-type-lts.After-slice-known20 (type-claims t) (expand-type-at t) expand-type.Post → expand-type-lts.After-walk-features2 (type-claims t) (expand-type-at t) expand-type.Post
+walk-features2·expand-type-returns-4 t c = c .before .before .before .before .before .before .before .before
+
+abbrev so-far·expand-type-returns-4 : (t : ℕ) → expand-type-lts.After-slice-known20 (type-claims t) (expand-type-at t) expand-type.Post → expand-type-lts.After-so-far (type-claims t) (expand-type-at t) expand-type.Post
+so-far·expand-type-returns-4 t c = walk-features2·expand-type-returns-4 t c .before .before .before .before .before .before
+
+abbrev visit2·expand-type-returns-4 : (t : ℕ) → expand-type-lts.After-slice-known20 (type-claims t) (expand-type-at t) expand-type.Post → expand-type-lts.After-visit2 (type-claims t) (expand-type-at t) expand-type.Post
+visit2·expand-type-returns-4 t c = visit2·expand-type-walk-features-requires-2 t (c .before .before .before .before .before .before .before .before .before)
+
+abbrev Else2·expand-type-returns-4 : (t : ℕ) → expand-type-lts.After-slice-known20 (type-claims t) (expand-type-at t) expand-type.Post → expand-type-lts.Else2 (type-claims t) (expand-type-at t) expand-type.Post
+Else2·expand-type-returns-4 t c = visit2·expand-type-returns-4 t c .before .before .before .before .before
+
+abbrev number-at2·expand-type-returns-4 : (t : ℕ) → expand-type-lts.After-slice-known20 (type-claims t) (expand-type-at t) expand-type.Post → expand-type-lts.After-number-at2 (type-claims t) (expand-type-at t) expand-type.Post
+number-at2·expand-type-returns-4 t c = Else2·expand-type-returns-4 t c .before
+
+abbrev Else1·expand-type-returns-4 : (t : ℕ) → expand-type-lts.After-slice-known20 (type-claims t) (expand-type-at t) expand-type.Post → expand-type-lts.Else1 (type-claims t) (expand-type-at t) expand-type.Post
+Else1·expand-type-returns-4 t c = number-at2·expand-type-returns-4 t c .before
+
+abbrev number-at·expand-type-returns-4 : (t : ℕ) → expand-type-lts.After-slice-known20 (type-claims t) (expand-type-at t) expand-type.Post → expand-type-lts.After-number-at (type-claims t) (expand-type-at t) expand-type.Post
+number-at·expand-type-returns-4 t c = Else1·expand-type-returns-4 t c .before
+
+abbrev Start·expand-type-returns-4 : (t : ℕ) → expand-type-lts.After-slice-known20 (type-claims t) (expand-type-at t) expand-type.Post → expand-type-lts.Start (type-claims t) (expand-type-at t) expand-type.Post
+Start·expand-type-returns-4 t c = Start·expand-type-walk-features-requires-2 t (c .before .before .before .before .before .before .before .before .before)
+
+-- end of places
+
 expand-type-visit-requires : (t : ℕ) → expand-type-lts.Need-visit-requires (type-claims t) (expand-type-at t) expand-type.Post
-expand-type-visit-requires t c κs = let s = c .before .before .before .before .before .before .before .before .before .before .before .before .before .before .before .before .before in (omega (arith, s .pre .0), ((s .pre .1 .0 .0, s .pre .1 .0 .1, omega (arith, s .pre .1 .0 .2)), s .pre .1 .1))
+expand-type-visit-requires t c κs = let s = Start·expand-type-visit-requires t c in (omega (arith, s .pre .0), ((s .pre .1 .0 .0, s .pre .1 .0 .1, omega (arith, s .pre .1 .0 .2)), s .pre .1 .1))
 
 expand-type-same-length : (t : ℕ) → expand-type-lts.Need-same-length (type-claims t) (expand-type-at t) expand-type.Post
-expand-type-same-length t c = c .before .before .before .before .before .before .before .before .visit .kept .1 .1 .1 .1 .1 .1 .1 .0
+expand-type-same-length t c = visit·expand-type-returns t c .visit .kept .1 .1 .1 .1 .1 .1 .1 .0
 
 expand-type-same-length-2 : (t : ℕ) → expand-type-lts.Need-same-length-2 (type-claims t) (expand-type-at t) expand-type.Post
-expand-type-same-length-2 t c = c .before .before .before .before .before .before .before .before .visit .kept .1 .1 .1 .1 .1 .1 .1 .1 .0
+expand-type-same-length-2 t c = visit·expand-type-returns t c .visit .kept .1 .1 .1 .1 .1 .1 .1 .1 .0
 
 expand-type-same-length-3 : (t : ℕ) → expand-type-lts.Need-same-length-3 (type-claims t) (expand-type-at t) expand-type.Post
-expand-type-same-length-3 t c = c .before .before .before .before .before .before .before .before .visit .kept .1 .1 .1 .1 .1 .1 .1 .1 .1 .0
+expand-type-same-length-3 t c = visit·expand-type-returns t c .visit .kept .1 .1 .1 .1 .1 .1 .1 .1 .1 .0
 
 expand-type-same-length-4 : (t : ℕ) → expand-type-lts.Need-same-length-4 (type-claims t) (expand-type-at t) expand-type.Post
-expand-type-same-length-4 t c = c .before .before .before .before .before .before .before .before .visit .kept .1 .1 .1 .1 .1 .1 .1 .1 .1 .1 .0
+expand-type-same-length-4 t c = visit·expand-type-returns t c .visit .kept .1 .1 .1 .1 .1 .1 .1 .1 .1 .1 .0
 
 expand-type-returns : (t : ℕ) → expand-type-lts.Need-returns (type-claims t) (expand-type-at t) expand-type.Post
-expand-type-returns t c = (c .before .before .before .before .before .before .before .before .visit .ensures .0 ∙ sym (by-inverse t (c .before .before .before .before .before .before .before .before .before .before .before .before .before .before .before .before .before .before .before .before .before .before .before .before .before .before) (c .before .before .before .before .before .before .before .before .before .before .before .before .before .before .number-at .result) (c .before .before .before .before .before .before .before .before .before .before .before .before .before .before .number-at .ensures) (λ z. omega (arith, z, c .before .before .before .before .before .before .before .before .before .before .before .before .before .if1 .taken))), c .before .before .before .before .before .before .before .before .visit .ensures .1)
+expand-type-returns t c = (visit·expand-type-returns t c .visit .ensures .0 ∙ sym (by-inverse t (Start·expand-type-returns t c) (number-at·expand-type-returns t c .number-at .result) (number-at·expand-type-returns t c .number-at .ensures) (λ z. omega (arith, z, c .before .before .before .before .before .before .before .before .before .before .before .before .before .if1 .taken))), visit·expand-type-returns t c .visit .ensures .1)
 
 expand-type-number-at-requires-2 : (t : ℕ) → expand-type-lts.Need-number-at-requires-2 (type-claims t) (expand-type-at t) expand-type.Post
 expand-type-number-at-requires-2 t c κs = tt
 
 expand-type-walk-features-requires : (t : ℕ) → expand-type-lts.Need-walk-features-requires (type-claims t) (expand-type-at t) expand-type.Post
-expand-type-walk-features-requires t c κs = let s = c .before .before .before .before .before .before .before .before .before .before .before .before .before .before .before .before .before .before .before in (omega (arith, s .pre .0), (s .pre .1 .0, s .pre .1 .1))
+expand-type-walk-features-requires t c κs = let s = Start·expand-type-walk-features-requires t c in (omega (arith, s .pre .0), (s .pre .1 .0, s .pre .1 .1))
 
 expand-type-same-length-5 : (t : ℕ) → expand-type-lts.Need-same-length-5 (type-claims t) (expand-type-at t) expand-type.Post
-expand-type-same-length-5 t c = c .before .before .before .before .before .before .before .before .walk-features .kept .1 .1 .1 .1 .1 .1 .1 .0
+expand-type-same-length-5 t c = walk-features·expand-type-returns-2 t c .walk-features .kept .1 .1 .1 .1 .1 .1 .1 .0
 
 expand-type-same-length-6 : (t : ℕ) → expand-type-lts.Need-same-length-6 (type-claims t) (expand-type-at t) expand-type.Post
-expand-type-same-length-6 t c = c .before .before .before .before .before .before .before .before .walk-features .kept .1 .1 .1 .1 .1 .1 .1 .1 .0
+expand-type-same-length-6 t c = walk-features·expand-type-returns-2 t c .walk-features .kept .1 .1 .1 .1 .1 .1 .1 .1 .0
 
 expand-type-same-length-7 : (t : ℕ) → expand-type-lts.Need-same-length-7 (type-claims t) (expand-type-at t) expand-type.Post
-expand-type-same-length-7 t c = c .before .before .before .before .before .before .before .before .walk-features .kept .1 .1 .1 .1 .1 .1 .1 .1 .1 .0
+expand-type-same-length-7 t c = walk-features·expand-type-returns-2 t c .walk-features .kept .1 .1 .1 .1 .1 .1 .1 .1 .1 .0
 
 expand-type-same-length-8 : (t : ℕ) → expand-type-lts.Need-same-length-8 (type-claims t) (expand-type-at t) expand-type.Post
-expand-type-same-length-8 t c = c .before .before .before .before .before .before .before .before .walk-features .kept .1 .1 .1 .1 .1 .1 .1 .1 .1 .1 .0
+expand-type-same-length-8 t c = walk-features·expand-type-returns-2 t c .walk-features .kept .1 .1 .1 .1 .1 .1 .1 .1 .1 .1 .0
 
 expand-type-returns-2 : (t : ℕ) → expand-type-lts.Need-returns-2 (type-claims t) (expand-type-at t) expand-type.Post
-expand-type-returns-2 t c = (c .before .before .before .before .before .before .before .before .walk-features .ensures .0 ∙ sym (by-own t (c .before .before .before .before .before .before .before .before .before .before .before .before .before .before .before .before .before .before .before .before .before .before .before .before .before .before .before .before) (c .before .before .before .before .before .before .before .before .before .before .before .before .before .before .before .before .number-at .result) (c .before .before .before .before .before .before .before .before .before .before .before .before .before .before .before .before .number-at .ensures) (omega (arith, c .before .before .before .before .before .before .before .before .before .before .before .before .before .before .before .if1 .left)) (c .before .before .before .before .before .before .before .before .before .before .before .before .before .before .number-at2 .result) (c .before .before .before .before .before .before .before .before .before .before .before .before .before .before .number-at2 .ensures) (c .before .before .before .before .before .before .before .before .before .before .before .before .before .if2 .taken)), c .before .before .before .before .before .before .before .before .walk-features .ensures .1)
+expand-type-returns-2 t c = (walk-features·expand-type-returns-2 t c .walk-features .ensures .0 ∙ sym (by-own t (Start·expand-type-returns-2 t c) (number-at·expand-type-returns-2 t c .number-at .result) (number-at·expand-type-returns-2 t c .number-at .ensures) (omega (arith, c .before .before .before .before .before .before .before .before .before .before .before .before .before .before .before .if1 .left)) (number-at2·expand-type-returns-2 t c .number-at2 .result) (number-at2·expand-type-returns-2 t c .number-at2 .ensures) (c .before .before .before .before .before .before .before .before .before .before .before .before .before .if2 .taken)), walk-features·expand-type-returns-2 t c .walk-features .ensures .1)
 
 expand-type-visit-requires-2 : (t : ℕ) → expand-type-lts.Need-visit-requires-2 (type-claims t) (expand-type-at t) expand-type.Post
-expand-type-visit-requires-2 t c κs = let s = c .before .before .before .before .before .before .before .before .before .before .before .before .before .before .before .before .before .before .before in (omega (arith, s .pre .0), ((s .pre .1 .0 .0, s .pre .1 .0 .1, omega (arith, s .pre .1 .0 .2)), s .pre .1 .1))
+expand-type-visit-requires-2 t c κs = let s = Start·expand-type-visit-requires-2 t c in (omega (arith, s .pre .0), ((s .pre .1 .0 .0, s .pre .1 .0 .1, omega (arith, s .pre .1 .0 .2)), s .pre .1 .1))
 
 expand-type-enum-told : (t : ℕ) → expand-type-lts.Need-enum-told (type-claims t) (expand-type-at t) expand-type.Post
 expand-type-enum-told t c = search needs
@@ -202,42 +286,42 @@ expand-type-enum-known-so-far t c = search needs
 
 expand-type-walk-features-requires-2 : (t : ℕ) → expand-type-lts.Need-walk-features-requires-2 (type-claims t) (expand-type-at t) expand-type.Post
 expand-type-walk-features-requires-2 t c κs =
-    let s = c .before .before .before .before .before .before .before .before .before .before .before .before .before .before .before .before .before .before .before .before .before .before .before .before .before .before .before .before .before .before .before .before .before .before .before in
-    let h = up-good t s (c .before .before .before .before .before .before .before .before .before .before .before .before .before .before .before .before .before .before .before .before .before .number-at2 .result) (c .before .before .before .before .before .before .before .before .before .before .before .before .before .before .before .visit2 .result) (c .before .before .before .before .before .before .before .before .before .before .before .before .before .before .before .visit2 .last .1 .1 .1 .1 .1 .1 .1 .0) (c .before .before .before .before .before .before .before .before .before .before .before .before .before .before .before .visit2 .last .1 .1 .1 .1 .1 .1 .1 .1 .0) (c .before .before .before .before .before .before .before .before .before .before .before .before .before .before .before .visit2 .last .1 .1 .1 .1 .1 .1 .1 .1 .1 .0) (c .before .before .before .before .before .before .before .before .before .before .before .before .before .before .before .visit2 .last .1 .1 .1 .1 .1 .1 .1 .1 .1 .1 .0) (c .before .before .before .before .before .before .before .before .before .before .before .before .before .before .before .visit2 .ensures) (c .before .before .before .before .before .so-far .given .0 .0) (c .before .before .before .before .before .so-far .given .0 .1 .0) (c .before .before .before .before .before .so-far .given .1) in
-    (omega (arith, s .pre .0), ((h .0, s .pre .1 .0 .1, s .pre .1 .0 .2, h .1), up-passable t s (c .before .before .before .before .before .before .before .before .before .before .before .before .before .before .before .before .before .before .before .before .before .number-at2 .result) (c .before .before .before .before .before .before .before .before .before .before .before .before .before .before .before .visit2 .result) (c .before .before .before .before .before .before .before .before .before .before .before .before .before .before .before .visit2 .last .1 .1 .1 .1 .1 .1 .1 .0) (c .before .before .before .before .before .before .before .before .before .before .before .before .before .before .before .visit2 .last .1 .1 .1 .1 .1 .1 .1 .1 .0) (c .before .before .before .before .before .before .before .before .before .before .before .before .before .before .before .visit2 .last .1 .1 .1 .1 .1 .1 .1 .1 .1 .0) (c .before .before .before .before .before .before .before .before .before .before .before .before .before .before .before .visit2 .last .1 .1 .1 .1 .1 .1 .1 .1 .1 .1 .0) (c .before .before .before .before .before .before .before .before .before .before .before .before .before .before .before .visit2 .ensures) (c .before .before .before .before .before .so-far .given .0 .0) (c .before .before .before .before .before .so-far .given .0 .1 .0) (c .before .before .before .before .before .so-far .given .1)))
+    let s = Start·expand-type-walk-features-requires-2 t c in
+    let h = up-good t s (number-at2·expand-type-walk-features-requires-2 t c .number-at2 .result) (visit2·expand-type-walk-features-requires-2 t c .visit2 .result) (visit2·expand-type-walk-features-requires-2 t c .visit2 .last .1 .1 .1 .1 .1 .1 .1 .0) (visit2·expand-type-walk-features-requires-2 t c .visit2 .last .1 .1 .1 .1 .1 .1 .1 .1 .0) (visit2·expand-type-walk-features-requires-2 t c .visit2 .last .1 .1 .1 .1 .1 .1 .1 .1 .1 .0) (visit2·expand-type-walk-features-requires-2 t c .visit2 .last .1 .1 .1 .1 .1 .1 .1 .1 .1 .1 .0) (visit2·expand-type-walk-features-requires-2 t c .visit2 .ensures) (so-far·expand-type-walk-features-requires-2 t c .so-far .given .0 .0) (so-far·expand-type-walk-features-requires-2 t c .so-far .given .0 .1 .0) (so-far·expand-type-walk-features-requires-2 t c .so-far .given .1) in
+    (omega (arith, s .pre .0), ((h .0, s .pre .1 .0 .1, s .pre .1 .0 .2, h .1), up-passable t s (number-at2·expand-type-walk-features-requires-2 t c .number-at2 .result) (visit2·expand-type-walk-features-requires-2 t c .visit2 .result) (visit2·expand-type-walk-features-requires-2 t c .visit2 .last .1 .1 .1 .1 .1 .1 .1 .0) (visit2·expand-type-walk-features-requires-2 t c .visit2 .last .1 .1 .1 .1 .1 .1 .1 .1 .0) (visit2·expand-type-walk-features-requires-2 t c .visit2 .last .1 .1 .1 .1 .1 .1 .1 .1 .1 .0) (visit2·expand-type-walk-features-requires-2 t c .visit2 .last .1 .1 .1 .1 .1 .1 .1 .1 .1 .1 .0) (visit2·expand-type-walk-features-requires-2 t c .visit2 .ensures) (so-far·expand-type-walk-features-requires-2 t c .so-far .given .0 .0) (so-far·expand-type-walk-features-requires-2 t c .so-far .given .0 .1 .0) (so-far·expand-type-walk-features-requires-2 t c .so-far .given .1)))
 
 expand-type-same-length-9 : (t : ℕ) → expand-type-lts.Need-same-length-9 (type-claims t) (expand-type-at t) expand-type.Post
-expand-type-same-length-9 t c = c .before .before .before .before .before .before .before .before .before .before .visit2 .kept .1 .1 .1 .1 .1 .1 .1 .0
+expand-type-same-length-9 t c = visit2·expand-type-returns-3 t c .visit2 .kept .1 .1 .1 .1 .1 .1 .1 .0
 
 expand-type-same-length-10 : (t : ℕ) → expand-type-lts.Need-same-length-10 (type-claims t) (expand-type-at t) expand-type.Post
-expand-type-same-length-10 t c = c .before .before .before .before .before .before .before .before .before .before .visit2 .kept .1 .1 .1 .1 .1 .1 .1 .1 .0
+expand-type-same-length-10 t c = visit2·expand-type-returns-3 t c .visit2 .kept .1 .1 .1 .1 .1 .1 .1 .1 .0
 
 expand-type-same-length-11 : (t : ℕ) → expand-type-lts.Need-same-length-11 (type-claims t) (expand-type-at t) expand-type.Post
-expand-type-same-length-11 t c = c .before .before .before .before .before .before .before .before .before .before .visit2 .kept .1 .1 .1 .1 .1 .1 .1 .1 .1 .0
+expand-type-same-length-11 t c = visit2·expand-type-returns-3 t c .visit2 .kept .1 .1 .1 .1 .1 .1 .1 .1 .1 .0
 
 expand-type-same-length-12 : (t : ℕ) → expand-type-lts.Need-same-length-12 (type-claims t) (expand-type-at t) expand-type.Post
-expand-type-same-length-12 t c = c .before .before .before .before .before .before .before .before .before .before .visit2 .kept .1 .1 .1 .1 .1 .1 .1 .1 .1 .1 .0
+expand-type-same-length-12 t c = visit2·expand-type-returns-3 t c .visit2 .kept .1 .1 .1 .1 .1 .1 .1 .1 .1 .1 .0
 
 expand-type-returns-3 : (t : ℕ) → expand-type-lts.Need-returns-3 (type-claims t) (expand-type-at t) expand-type.Post
 unfolding stateOf CalmAfter
-expand-type-returns-3 t c = (up-over t (c .before .before .before .before .before .before .before .before .before .before .before .before .before .before .before .before .before .before .before .before .before .before .before .before .before .before .before .before .before .before) (c .before .before .before .before .before .before .before .before .before .before .before .before .before .before .before .before .number-at2 .result) (c .before .before .before .before .before .before .before .before .before .before .visit2 .result) (c .before .before .before .before .before .before .before .before .before .before .visit2 .last .1 .1 .1 .1 .1 .1 .1 .0) (c .before .before .before .before .before .before .before .before .before .before .visit2 .last .1 .1 .1 .1 .1 .1 .1 .1 .0) (c .before .before .before .before .before .before .before .before .before .before .visit2 .last .1 .1 .1 .1 .1 .1 .1 .1 .1 .0) (c .before .before .before .before .before .before .before .before .before .before .visit2 .last .1 .1 .1 .1 .1 .1 .1 .1 .1 .1 .0) (c .before .before .before .before .before .before .before .before .before .before .visit2 .ensures) (c .enum-told .given .1) ∙ sym (by-both t (c .before .before .before .before .before .before .before .before .before .before .before .before .before .before .before .before .before .before .before .before .before .before .before .before .before .before .before .before .before .before) (c .before .before .before .before .before .before .before .before .before .before .before .before .before .before .before .before .before .before .number-at .result) (c .before .before .before .before .before .before .before .before .before .before .before .before .before .before .before .before .before .before .number-at .ensures) (omega (arith, c .before .before .before .before .before .before .before .before .before .before .before .before .before .before .before .before .before .if1 .left)) (c .before .before .before .before .before .before .before .before .before .before .before .before .before .before .before .before .number-at2 .result) (c .before .before .before .before .before .before .before .before .before .before .before .before .before .before .before .before .number-at2 .ensures) (c .before .before .before .before .before .before .before .before .before .before .before .before .before .before .before .if2 .left)), tt)
+expand-type-returns-3 t c = (up-over t (Start·expand-type-returns-3 t c) (number-at2·expand-type-returns-3 t c .number-at2 .result) (visit2·expand-type-returns-3 t c .visit2 .result) (visit2·expand-type-returns-3 t c .visit2 .last .1 .1 .1 .1 .1 .1 .1 .0) (visit2·expand-type-returns-3 t c .visit2 .last .1 .1 .1 .1 .1 .1 .1 .1 .0) (visit2·expand-type-returns-3 t c .visit2 .last .1 .1 .1 .1 .1 .1 .1 .1 .1 .0) (visit2·expand-type-returns-3 t c .visit2 .last .1 .1 .1 .1 .1 .1 .1 .1 .1 .1 .0) (visit2·expand-type-returns-3 t c .visit2 .ensures) (c .enum-told .given .1) ∙ sym (by-both t (Start·expand-type-returns-3 t c) (number-at·expand-type-returns-3 t c .number-at .result) (number-at·expand-type-returns-3 t c .number-at .ensures) (omega (arith, Else1·expand-type-returns-3 t c .if1 .left)) (number-at2·expand-type-returns-3 t c .number-at2 .result) (number-at2·expand-type-returns-3 t c .number-at2 .ensures) (c .before .before .before .before .before .before .before .before .before .before .before .before .before .before .before .if2 .left)), tt)
 
 expand-type-same-length-13 : (t : ℕ) → expand-type-lts.Need-same-length-13 (type-claims t) (expand-type-at t) expand-type.Post
-expand-type-same-length-13 t c = c .before .before .before .before .before .before .before .before .walk-features2 .kept .1 .1 .1 .1 .1 .1 .1 .0 ∙ c .before .before .before .before .before .before .before .before .before .before .before .before .before .before .before .before .before .before .before .before .before .before .before .before .visit2 .kept .1 .1 .1 .1 .1 .1 .1 .0
+expand-type-same-length-13 t c = walk-features2·expand-type-returns-4 t c .walk-features2 .kept .1 .1 .1 .1 .1 .1 .1 .0 ∙ visit2·expand-type-returns-4 t c .visit2 .kept .1 .1 .1 .1 .1 .1 .1 .0
 
 expand-type-same-length-14 : (t : ℕ) → expand-type-lts.Need-same-length-14 (type-claims t) (expand-type-at t) expand-type.Post
-expand-type-same-length-14 t c = c .before .before .before .before .before .before .before .before .walk-features2 .kept .1 .1 .1 .1 .1 .1 .1 .1 .0 ∙ c .before .before .before .before .before .before .before .before .before .before .before .before .before .before .before .before .before .before .before .before .before .before .before .before .visit2 .kept .1 .1 .1 .1 .1 .1 .1 .1 .0
+expand-type-same-length-14 t c = walk-features2·expand-type-returns-4 t c .walk-features2 .kept .1 .1 .1 .1 .1 .1 .1 .1 .0 ∙ visit2·expand-type-returns-4 t c .visit2 .kept .1 .1 .1 .1 .1 .1 .1 .1 .0
 
 expand-type-same-length-15 : (t : ℕ) → expand-type-lts.Need-same-length-15 (type-claims t) (expand-type-at t) expand-type.Post
-expand-type-same-length-15 t c = c .before .before .before .before .before .before .before .before .walk-features2 .kept .1 .1 .1 .1 .1 .1 .1 .1 .1 .0 ∙ c .before .before .before .before .before .before .before .before .before .before .before .before .before .before .before .before .before .before .before .before .before .before .before .before .visit2 .kept .1 .1 .1 .1 .1 .1 .1 .1 .1 .0
+expand-type-same-length-15 t c = walk-features2·expand-type-returns-4 t c .walk-features2 .kept .1 .1 .1 .1 .1 .1 .1 .1 .1 .0 ∙ visit2·expand-type-returns-4 t c .visit2 .kept .1 .1 .1 .1 .1 .1 .1 .1 .1 .0
 
 expand-type-same-length-16 : (t : ℕ) → expand-type-lts.Need-same-length-16 (type-claims t) (expand-type-at t) expand-type.Post
-expand-type-same-length-16 t c = c .before .before .before .before .before .before .before .before .walk-features2 .kept .1 .1 .1 .1 .1 .1 .1 .1 .1 .1 .0 ∙ c .before .before .before .before .before .before .before .before .before .before .before .before .before .before .before .before .before .before .before .before .before .before .before .before .visit2 .kept .1 .1 .1 .1 .1 .1 .1 .1 .1 .1 .0
+expand-type-same-length-16 t c = walk-features2·expand-type-returns-4 t c .walk-features2 .kept .1 .1 .1 .1 .1 .1 .1 .1 .1 .1 .0 ∙ visit2·expand-type-returns-4 t c .visit2 .kept .1 .1 .1 .1 .1 .1 .1 .1 .1 .1 .0
 
 expand-type-returns-4 : (t : ℕ) → expand-type-lts.Need-returns-4 (type-claims t) (expand-type-at t) expand-type.Post
 expand-type-returns-4 t c = (
-  c .before .before .before .before .before .before .before .before .walk-features2 .ensures .0 ∙ sym (by-both t (c .before .before .before .before .before .before .before .before .before .before .before .before .before .before .before .before .before .before .before .before .before .before .before .before .before .before .before .before .before .before .before .before .before .before .before .before .before .before .before .before .before .before .before .before) (c .before .before .before .before .before .before .before .before .before .before .before .before .before .before .before .before .before .before .before .before .before .before .before .before .before .before .before .before .before .before .before .before .number-at .result) (c .before .before .before .before .before .before .before .before .before .before .before .before .before .before .before .before .before .before .before .before .before .before .before .before .before .before .before .before .before .before .before .before .number-at .ensures) (omega (arith, c .before .before .before .before .before .before .before .before .before .before .before .before .before .before .before .before .before .before .before .before .before .before .before .before .before .before .before .before .before .before .before .if1 .left)) (c .before .before .before .before .before .before .before .before .before .before .before .before .before .before .before .before .before .before .before .before .before .before .before .before .before .before .before .before .before .before .number-at2 .result) (c .before .before .before .before .before .before .before .before .before .before .before .before .before .before .before .before .before .before .before .before .before .before .before .before .before .before .before .before .before .before .number-at2 .ensures) (c .before .before .before .before .before .before .before .before .before .before .before .before .before .before .before .before .before .before .before .before .before .before .before .before .before .before .before .before .before .if2 .left) ∙ up-done t (c .before .before .before .before .before .before .before .before .before .before .before .before .before .before .before .before .before .before .before .before .before .before .before .before .before .before .before .before .before .before .before .before .before .before .before .before .before .before .before .before .before .before .before .before) (c .before .before .before .before .before .before .before .before .before .before .before .before .before .before .before .before .before .before .before .before .before .before .before .before .before .before .before .before .before .before .number-at2 .result) (c .before .before .before .before .before .before .before .before .before .before .before .before .before .before .before .before .before .before .before .before .before .before .before .before .visit2 .result) (c .before .before .before .before .before .before .before .before .before .before .before .before .before .before .before .before .before .before .before .before .before .before .before .before .visit2 .last .1 .1 .1 .1 .1 .1 .1 .0) (c .before .before .before .before .before .before .before .before .before .before .before .before .before .before .before .before .before .before .before .before .before .before .before .before .visit2 .last .1 .1 .1 .1 .1 .1 .1 .1 .0) (c .before .before .before .before .before .before .before .before .before .before .before .before .before .before .before .before .before .before .before .before .before .before .before .before .visit2 .last .1 .1 .1 .1 .1 .1 .1 .1 .1 .0) (c .before .before .before .before .before .before .before .before .before .before .before .before .before .before .before .before .before .before .before .before .before .before .before .before .visit2 .last .1 .1 .1 .1 .1 .1 .1 .1 .1 .1 .0) (c .before .before .before .before .before .before .before .before .before .before .before .before .before .before .before .before .before .before .before .before .before .before .before .before .visit2 .ensures) (c .before .before .before .before .before .before .before .before .before .before .before .before .before .before .so-far .given .0 .0) (c .before .before .before .before .before .before .before .before .before .before .before .before .before .before .so-far .given .0 .1 .0) (c .before .before .before .before .before .before .before .before .before .before .before .before .before .before .so-far .given .1)),
-  c .before .before .before .before .before .before .before .before .walk-features2 .ensures .1,
+  walk-features2·expand-type-returns-4 t c .walk-features2 .ensures .0 ∙ sym (by-both t (Start·expand-type-returns-4 t c) (number-at·expand-type-returns-4 t c .number-at .result) (number-at·expand-type-returns-4 t c .number-at .ensures) (omega (arith, Else1·expand-type-returns-4 t c .if1 .left)) (number-at2·expand-type-returns-4 t c .number-at2 .result) (number-at2·expand-type-returns-4 t c .number-at2 .ensures) (Else2·expand-type-returns-4 t c .if2 .left) ∙ up-done t (Start·expand-type-returns-4 t c) (number-at2·expand-type-returns-4 t c .number-at2 .result) (visit2·expand-type-returns-4 t c .visit2 .result) (visit2·expand-type-returns-4 t c .visit2 .last .1 .1 .1 .1 .1 .1 .1 .0) (visit2·expand-type-returns-4 t c .visit2 .last .1 .1 .1 .1 .1 .1 .1 .1 .0) (visit2·expand-type-returns-4 t c .visit2 .last .1 .1 .1 .1 .1 .1 .1 .1 .1 .0) (visit2·expand-type-returns-4 t c .visit2 .last .1 .1 .1 .1 .1 .1 .1 .1 .1 .1 .0) (visit2·expand-type-returns-4 t c .visit2 .ensures) (so-far·expand-type-returns-4 t c .so-far .given .0 .0) (so-far·expand-type-returns-4 t c .so-far .given .0 .1 .0) (so-far·expand-type-returns-4 t c .so-far .given .1)),
+  walk-features2·expand-type-returns-4 t c .walk-features2 .ensures .1,
 )
 
 -- ---- `visit`: what it is given
@@ -346,9 +430,105 @@ visit-sub-if5 t c = omega (arith, c .before .before .before .before .before .if1
 visit-same-length : (t : ℕ) → visit-lts.Need-same-length (visit-claims t) (visit-at t) visit.Post
 visit-same-length t c = refl
 
+-- places: the way back from where an answer stands to what it uses
+abbrev Start·visit-returns-4 : (t : ℕ) → visit-lts.Then5 (visit-claims t) (visit-at t) visit.Post → visit-lts.Start (visit-claims t) (visit-at t) visit.Post
+Start·visit-returns-4 t c = c .before .before .before .before .before .before .before .before .before .before .before .before .before .before .before .before .before .before
+
+abbrev Start·visit-returns-5 : (t : ℕ) → visit-lts.Else5 (visit-claims t) (visit-at t) visit.Post → visit-lts.Start (visit-claims t) (visit-at t) visit.Post
+Start·visit-returns-5 t c = c .before .before .before .before .before .before .before .before .before .before .before .before .before .before .before .before .before .before
+
+abbrev Start·visit-expand-type-requires : (t : ℕ) → visit-lts.After-expand-type-arg4 (visit-claims t) (visit-at t) visit.Post → visit-lts.Start (visit-claims t) (visit-at t) visit.Post
+Start·visit-expand-type-requires t c = c .before .before .before .before .before .before .before .before .before .before .before .before .before .before .before .before .before .before .before .before .before
+
+abbrev expand-type·visit-returns-6 : (t : ℕ) → visit-lts.After-enum-told (visit-claims t) (visit-at t) visit.Post → visit-lts.After-expand-type (visit-claims t) (visit-at t) visit.Post
+expand-type·visit-returns-6 t c = c .before .before .before .before .before .before .before .before .before .before
+
+abbrev Else3·visit-returns-6 : (t : ℕ) → visit-lts.After-enum-told (visit-claims t) (visit-at t) visit.Post → visit-lts.Else3 (visit-claims t) (visit-at t) visit.Post
+Else3·visit-returns-6 t c = expand-type·visit-returns-6 t c .before .before .before .before .before .before .before .before
+
+abbrev Else2·visit-returns-6 : (t : ℕ) → visit-lts.After-enum-told (visit-claims t) (visit-at t) visit.Post → visit-lts.Else2 (visit-claims t) (visit-at t) visit.Post
+Else2·visit-returns-6 t c = Else3·visit-returns-6 t c .before
+
+abbrev Else1·visit-returns-6 : (t : ℕ) → visit-lts.After-enum-told (visit-claims t) (visit-at t) visit.Post → visit-lts.Else1 (visit-claims t) (visit-at t) visit.Post
+Else1·visit-returns-6 t c = Else2·visit-returns-6 t c .before
+
+abbrev Start·visit-returns-6 : (t : ℕ) → visit-lts.After-enum-told (visit-claims t) (visit-at t) visit.Post → visit-lts.Start (visit-claims t) (visit-at t) visit.Post
+Start·visit-returns-6 t c = Start·visit-expand-type-requires t (c .before .before .before .before .before .before .before .before .before .before .before)
+
+abbrev then·visit-returns-9 : (t : ℕ) → visit-lts.Else6 (visit-claims t) (visit-at t) visit.Post → visit-lts.After-then (visit-claims t) (visit-at t) visit.Post
+then·visit-returns-9 t c = c .before .before .before .before
+
+abbrev expand-type·visit-returns-9 : (t : ℕ) → visit-lts.Else6 (visit-claims t) (visit-at t) visit.Post → visit-lts.After-expand-type (visit-claims t) (visit-at t) visit.Post
+expand-type·visit-returns-9 t c = then·visit-returns-9 t c .before .before .before .before .before .before .before .before .before .before
+
+abbrev Else3·visit-returns-9 : (t : ℕ) → visit-lts.Else6 (visit-claims t) (visit-at t) visit.Post → visit-lts.Else3 (visit-claims t) (visit-at t) visit.Post
+Else3·visit-returns-9 t c = expand-type·visit-returns-9 t c .before .before .before .before .before .before .before .before
+
+abbrev Else2·visit-returns-9 : (t : ℕ) → visit-lts.Else6 (visit-claims t) (visit-at t) visit.Post → visit-lts.Else2 (visit-claims t) (visit-at t) visit.Post
+Else2·visit-returns-9 t c = Else3·visit-returns-9 t c .before
+
+abbrev Else1·visit-returns-9 : (t : ℕ) → visit-lts.Else6 (visit-claims t) (visit-at t) visit.Post → visit-lts.Else1 (visit-claims t) (visit-at t) visit.Post
+Else1·visit-returns-9 t c = Else2·visit-returns-9 t c .before
+
+abbrev Start·visit-returns-9 : (t : ℕ) → visit-lts.Else6 (visit-claims t) (visit-at t) visit.Post → visit-lts.Start (visit-claims t) (visit-at t) visit.Post
+Start·visit-returns-9 t c = Else1·visit-returns-9 t c .before .before .before .before .before .before .before .before .before .before .before .before
+
+abbrev expand-type·visit-sub-made : (t : ℕ) → visit-lts.Then7 (visit-claims t) (visit-at t) visit.Post → visit-lts.After-expand-type (visit-claims t) (visit-at t) visit.Post
+expand-type·visit-sub-made t c = c .before .before .before .before .before .before .before .before .before .before .before .before .before .before .before .before .before
+
+abbrev Else3·visit-sub-made : (t : ℕ) → visit-lts.Then7 (visit-claims t) (visit-at t) visit.Post → visit-lts.Else3 (visit-claims t) (visit-at t) visit.Post
+Else3·visit-sub-made t c = expand-type·visit-sub-made t c .before .before .before .before .before .before .before .before
+
+abbrev Else2·visit-sub-made : (t : ℕ) → visit-lts.Then7 (visit-claims t) (visit-at t) visit.Post → visit-lts.Else2 (visit-claims t) (visit-at t) visit.Post
+Else2·visit-sub-made t c = Else3·visit-sub-made t c .before
+
+abbrev Else1·visit-sub-made : (t : ℕ) → visit-lts.Then7 (visit-claims t) (visit-at t) visit.Post → visit-lts.Else1 (visit-claims t) (visit-at t) visit.Post
+Else1·visit-sub-made t c = Else2·visit-sub-made t c .before
+
+abbrev Start·visit-sub-made : (t : ℕ) → visit-lts.Then7 (visit-claims t) (visit-at t) visit.Post → visit-lts.Start (visit-claims t) (visit-at t) visit.Post
+Start·visit-sub-made t c = Else1·visit-sub-made t c .before .before .before .before .before .before .before .before .before .before .before .before
+
+abbrev then·visit-returns-8 : (t : ℕ) → visit-lts.Else7 (visit-claims t) (visit-at t) visit.Post → visit-lts.After-then (visit-claims t) (visit-at t) visit.Post
+then·visit-returns-8 t c = c .before .before .before .before .before .before .before
+
+abbrev expand-type·visit-returns-8 : (t : ℕ) → visit-lts.Else7 (visit-claims t) (visit-at t) visit.Post → visit-lts.After-expand-type (visit-claims t) (visit-at t) visit.Post
+expand-type·visit-returns-8 t c = then·visit-returns-8 t c .before .before .before .before .before .before .before .before .before .before
+
+abbrev Else3·visit-returns-8 : (t : ℕ) → visit-lts.Else7 (visit-claims t) (visit-at t) visit.Post → visit-lts.Else3 (visit-claims t) (visit-at t) visit.Post
+Else3·visit-returns-8 t c = expand-type·visit-returns-8 t c .before .before .before .before .before .before .before .before
+
+abbrev Else2·visit-returns-8 : (t : ℕ) → visit-lts.Else7 (visit-claims t) (visit-at t) visit.Post → visit-lts.Else2 (visit-claims t) (visit-at t) visit.Post
+Else2·visit-returns-8 t c = Else3·visit-returns-8 t c .before
+
+abbrev Else1·visit-returns-8 : (t : ℕ) → visit-lts.Else7 (visit-claims t) (visit-at t) visit.Post → visit-lts.Else1 (visit-claims t) (visit-at t) visit.Post
+Else1·visit-returns-8 t c = Else2·visit-returns-8 t c .before
+
+abbrev Start·visit-returns-8 : (t : ℕ) → visit-lts.Else7 (visit-claims t) (visit-at t) visit.Post → visit-lts.Start (visit-claims t) (visit-at t) visit.Post
+Start·visit-returns-8 t c = Else1·visit-returns-8 t c .before .before .before .before .before .before .before .before .before .before .before .before
+
+abbrev then·visit-returns-7 : (t : ℕ) → visit-lts.After-slice-known9 (visit-claims t) (visit-at t) visit.Post → visit-lts.After-then (visit-claims t) (visit-at t) visit.Post
+then·visit-returns-7 t c = c .before .before .before .before .before .before .before .before .before .before .before
+
+abbrev expand-type·visit-returns-7 : (t : ℕ) → visit-lts.After-slice-known9 (visit-claims t) (visit-at t) visit.Post → visit-lts.After-expand-type (visit-claims t) (visit-at t) visit.Post
+expand-type·visit-returns-7 t c = expand-type·visit-sub-made t (c .before .before .before .before)
+
+abbrev Else3·visit-returns-7 : (t : ℕ) → visit-lts.After-slice-known9 (visit-claims t) (visit-at t) visit.Post → visit-lts.Else3 (visit-claims t) (visit-at t) visit.Post
+Else3·visit-returns-7 t c = Else3·visit-sub-made t (c .before .before .before .before)
+
+abbrev Else2·visit-returns-7 : (t : ℕ) → visit-lts.After-slice-known9 (visit-claims t) (visit-at t) visit.Post → visit-lts.Else2 (visit-claims t) (visit-at t) visit.Post
+Else2·visit-returns-7 t c = Else3·visit-returns-7 t c .before
+
+abbrev Else1·visit-returns-7 : (t : ℕ) → visit-lts.After-slice-known9 (visit-claims t) (visit-at t) visit.Post → visit-lts.Else1 (visit-claims t) (visit-at t) visit.Post
+Else1·visit-returns-7 t c = Else2·visit-returns-7 t c .before
+
+abbrev Start·visit-returns-7 : (t : ℕ) → visit-lts.After-slice-known9 (visit-claims t) (visit-at t) visit.Post → visit-lts.Start (visit-claims t) (visit-at t) visit.Post
+Start·visit-returns-7 t c = Start·visit-sub-made t (c .before .before .before .before)
+
+-- end of places
+
 visit-returns-4 : (t : ℕ) → visit-lts.Need-returns-4 (visit-claims t) (visit-at t) visit.Post
 unfolding stateOf CalmAfter
-visit-returns-4 t c = (passed-over t (c .before .before .before .before .before .before .before .before .before .before .before .before .before .before .before .before .before .before) (c .before .before .before .before .before .if2 .left) (omega (arith, c .before .before .before .before .before .before .if1 .left)) (c .before .before .number-at .result) (c .before .before .number-at .ensures) (λ z. omega (arith, z, c .before .if4 .taken)) (omega (arith, c .if5 .taken, c .before .before .before .before .before .before .if1 .left)), tt)
+visit-returns-4 t c = (passed-over t (Start·visit-returns-4 t c) (c .before .before .before .before .before .if2 .left) (omega (arith, c .before .before .before .before .before .before .if1 .left)) (c .before .before .number-at .result) (c .before .before .number-at .ensures) (λ z. omega (arith, z, c .before .if4 .taken)) (omega (arith, c .if5 .taken, c .before .before .before .before .before .before .if1 .left)), tt)
 
 visit-add-all : (t : ℕ) → visit-lts.Need-add-all (visit-claims t) (visit-at t) visit.Post
 visit-add-all t c = omega (arith, c .if5 .left, c .before .before .before .before .before .before .if1 .left)
@@ -358,11 +538,11 @@ visit-same-length-2 t c = refl
 
 visit-returns-5 : (t : ℕ) → visit-lts.Need-returns-5 (visit-claims t) (visit-at t) visit.Post
 unfolding stateOf CalmAfter
-visit-returns-5 t c = (passed-done t (c .before .before .before .before .before .before .before .before .before .before .before .before .before .before .before .before .before .before) (c .before .before .before .before .before .if2 .left) (omega (arith, c .before .before .before .before .before .before .if1 .left)) (c .before .before .number-at .result) (c .before .before .number-at .ensures) (λ z. omega (arith, z, c .before .if4 .taken)) (omega (arith, c .if5 .left, c .before .before .before .before .before .before .if1 .left)), c .before .before .before .before .before .before .before .before .before .before .before .before .before .before .before .before .before .before .pre .1 .1)
+visit-returns-5 t c = (passed-done t (Start·visit-returns-5 t c) (c .before .before .before .before .before .if2 .left) (omega (arith, c .before .before .before .before .before .before .if1 .left)) (c .before .before .number-at .result) (c .before .before .number-at .ensures) (λ z. omega (arith, z, c .before .if4 .taken)) (omega (arith, c .if5 .left, c .before .before .before .before .before .before .if1 .left)), Start·visit-returns-5 t c .pre .1 .1)
 
 visit-expand-type-requires : (t : ℕ) → visit-lts.Need-expand-type-requires (visit-claims t) (visit-at t) visit.Post
 visit-expand-type-requires t c κs =
-    let s = c .before .before .before .before .before .before .before .before .before .before .before .before .before .before .before .before .before .before .before .before .before in (
+    let s = Start·visit-expand-type-requires t c in (
       omega (arith, s .pre .0, c .before .before .before .before .before .before .before .before .if2 .left),
       ((s .pre .1 .0 .0, s .pre .1 .0 .1, omega (arith, s .pre .1 .0 .2, c .before .before .before .before .before .before .before .before .if2 .left), omega (arith, c .before .before .before .before .before .before .before .before .before .if1 .left)), s .pre .1 .1),
     )
@@ -374,78 +554,78 @@ visit-enum-known-then : (t : ℕ) → visit-lts.Need-enum-known-then (visit-clai
 visit-enum-known-then t c = search needs
 
 visit-sub-made : (t : ℕ) → visit-lts.Need-sub-made (visit-claims t) (visit-at t) visit.Post
-visit-sub-made t c = expanded-more t (c .before .before .before .before .before .before .before .before .before .before .before .before .before .before .before .before .before .before .before .before .before .before .before .before .before .before .before .before .before .before .before .before .before .before .before .before .before .before .before) (c .before .before .before .before .before .before .before .before .before .before .before .before .before .before .before .before .before .before .before .before .before .before .before .before .before .before .if2 .left) (omega (arith, c .before .before .before .before .before .before .before .before .before .before .before .before .before .before .before .before .before .before .before .before .before .before .before .before .before .before .before .if1 .left)) (c .before .before .before .before .before .before .before .before .before .before .before .before .before .before .before .before .before .before .before .before .before .before .before .before .before .if3 .left) (c .before .before .before .before .before .before .before .before .before .before .before .before .before .before .before .before .before .expand-type .result) (c .before .before .before .before .before .before .before .before .before .before .before .before .before .before .before .before .before .expand-type .last .1 .1 .1 .1 .1 .1 .1 .0) (c .before .before .before .before .before .before .before .before .before .before .before .before .before .before .before .before .before .expand-type .last .1 .1 .1 .1 .1 .1 .1 .1 .0) (c .before .before .before .before .before .before .before .before .before .before .before .before .before .before .before .before .before .expand-type .last .1 .1 .1 .1 .1 .1 .1 .1 .1 .0) (c .before .before .before .before .before .before .before .before .before .before .before .before .before .before .before .before .before .expand-type .last .1 .1 .1 .1 .1 .1 .1 .1 .1 .1 .0) (c .before .before .before .before .before .before .before .before .before .before .before .before .before .before .before .before .before .expand-type .ensures) (c .before .before .before .before .before .before .before .then .given .0 .0) (c .before .before .before .before .before .before .before .then .given .0 .1 .0) (c .before .before .before .before .before .before .before .then .given .1)
+visit-sub-made t c = expanded-more t (Start·visit-sub-made t c) (Else2·visit-sub-made t c .if2 .left) (omega (arith, Else1·visit-sub-made t c .if1 .left)) (Else3·visit-sub-made t c .if3 .left) (expand-type·visit-sub-made t c .expand-type .result) (expand-type·visit-sub-made t c .expand-type .last .1 .1 .1 .1 .1 .1 .1 .0) (expand-type·visit-sub-made t c .expand-type .last .1 .1 .1 .1 .1 .1 .1 .1 .0) (expand-type·visit-sub-made t c .expand-type .last .1 .1 .1 .1 .1 .1 .1 .1 .1 .0) (expand-type·visit-sub-made t c .expand-type .last .1 .1 .1 .1 .1 .1 .1 .1 .1 .1 .0) (expand-type·visit-sub-made t c .expand-type .ensures) (c .before .before .before .before .before .before .before .then .given .0 .0) (c .before .before .before .before .before .before .before .then .given .0 .1 .0) (c .before .before .before .before .before .before .before .then .given .1)
 
 visit-put-number-requires : (t : ℕ) → visit-lts.Need-put-number-requires (visit-claims t) (visit-at t) visit.Post
 visit-put-number-requires t c κs = tt
 
 visit-same-length-3 : (t : ℕ) → visit-lts.Need-same-length-3 (visit-claims t) (visit-at t) visit.Post
-visit-same-length-3 t c = c .before .before .before .before .before .before .before .before .before .before .expand-type .kept .1 .1 .1 .1 .1 .1 .1 .0
+visit-same-length-3 t c = expand-type·visit-returns-6 t c .expand-type .kept .1 .1 .1 .1 .1 .1 .1 .0
 
 visit-same-length-4 : (t : ℕ) → visit-lts.Need-same-length-4 (visit-claims t) (visit-at t) visit.Post
-visit-same-length-4 t c = c .before .before .before .before .before .before .before .before .before .before .expand-type .kept .1 .1 .1 .1 .1 .1 .1 .1 .0
+visit-same-length-4 t c = expand-type·visit-returns-6 t c .expand-type .kept .1 .1 .1 .1 .1 .1 .1 .1 .0
 
 visit-same-length-5 : (t : ℕ) → visit-lts.Need-same-length-5 (visit-claims t) (visit-at t) visit.Post
-visit-same-length-5 t c = c .before .before .before .before .before .before .before .before .before .before .expand-type .kept .1 .1 .1 .1 .1 .1 .1 .1 .1 .0
+visit-same-length-5 t c = expand-type·visit-returns-6 t c .expand-type .kept .1 .1 .1 .1 .1 .1 .1 .1 .1 .0
 
 visit-same-length-6 : (t : ℕ) → visit-lts.Need-same-length-6 (visit-claims t) (visit-at t) visit.Post
-visit-same-length-6 t c = c .before .before .before .before .before .before .before .before .before .before .expand-type .kept .1 .1 .1 .1 .1 .1 .1 .1 .1 .1 .0
+visit-same-length-6 t c = expand-type·visit-returns-6 t c .expand-type .kept .1 .1 .1 .1 .1 .1 .1 .1 .1 .1 .0
 
 visit-returns-6 : (t : ℕ) → visit-lts.Need-returns-6 (visit-claims t) (visit-at t) visit.Post
 unfolding stateOf CalmAfter
-visit-returns-6 t c = (expanded-over t (c .before .before .before .before .before .before .before .before .before .before .before .before .before .before .before .before .before .before .before .before .before .before .before .before .before .before .before .before .before .before .before .before) (c .before .before .before .before .before .before .before .before .before .before .before .before .before .before .before .before .before .before .before .if2 .left) (omega (arith, c .before .before .before .before .before .before .before .before .before .before .before .before .before .before .before .before .before .before .before .before .if1 .left)) (c .before .before .before .before .before .before .before .before .before .before .before .before .before .before .before .before .before .before .if3 .left) (c .before .before .before .before .before .before .before .before .before .before .expand-type .result) (c .before .before .before .before .before .before .before .before .before .before .expand-type .last .1 .1 .1 .1 .1 .1 .1 .0) (c .before .before .before .before .before .before .before .before .before .before .expand-type .last .1 .1 .1 .1 .1 .1 .1 .1 .0) (c .before .before .before .before .before .before .before .before .before .before .expand-type .last .1 .1 .1 .1 .1 .1 .1 .1 .1 .0) (c .before .before .before .before .before .before .before .before .before .before .expand-type .last .1 .1 .1 .1 .1 .1 .1 .1 .1 .1 .0) (c .before .before .before .before .before .before .before .before .before .before .expand-type .ensures) (c .enum-told .given .1), tt)
+visit-returns-6 t c = (expanded-over t (Start·visit-returns-6 t c) (Else2·visit-returns-6 t c .if2 .left) (omega (arith, Else1·visit-returns-6 t c .if1 .left)) (Else3·visit-returns-6 t c .if3 .left) (expand-type·visit-returns-6 t c .expand-type .result) (expand-type·visit-returns-6 t c .expand-type .last .1 .1 .1 .1 .1 .1 .1 .0) (expand-type·visit-returns-6 t c .expand-type .last .1 .1 .1 .1 .1 .1 .1 .1 .0) (expand-type·visit-returns-6 t c .expand-type .last .1 .1 .1 .1 .1 .1 .1 .1 .1 .0) (expand-type·visit-returns-6 t c .expand-type .last .1 .1 .1 .1 .1 .1 .1 .1 .1 .1 .0) (expand-type·visit-returns-6 t c .expand-type .ensures) (c .enum-told .given .1), tt)
 
 visit-same-length-7 : (t : ℕ) → visit-lts.Need-same-length-7 (visit-claims t) (visit-at t) visit.Post
-visit-same-length-7 t c = c .before .before .before .before .before .before .before .before .before .before .before .before .before .before .before .before .before .before .before .before .before .expand-type .kept .1 .1 .1 .1 .1 .1 .1 .0
+visit-same-length-7 t c = expand-type·visit-returns-7 t c .expand-type .kept .1 .1 .1 .1 .1 .1 .1 .0
 
 visit-same-length-8 : (t : ℕ) → visit-lts.Need-same-length-8 (visit-claims t) (visit-at t) visit.Post
-visit-same-length-8 t c = c .before .before .before .before .before .before .before .before .before .before .before .before .before .before .before .before .before .before .before .before .before .expand-type .kept .1 .1 .1 .1 .1 .1 .1 .1 .0
+visit-same-length-8 t c = expand-type·visit-returns-7 t c .expand-type .kept .1 .1 .1 .1 .1 .1 .1 .1 .0
 
 visit-same-length-9 : (t : ℕ) → visit-lts.Need-same-length-9 (visit-claims t) (visit-at t) visit.Post
-visit-same-length-9 t c = c .before .before .before .before .before .before .before .before .before .before .before .before .before .before .before .before .before .before .before .before .before .expand-type .kept .1 .1 .1 .1 .1 .1 .1 .1 .1 .0
+visit-same-length-9 t c = expand-type·visit-returns-7 t c .expand-type .kept .1 .1 .1 .1 .1 .1 .1 .1 .1 .0
 
 visit-same-length-10 : (t : ℕ) → visit-lts.Need-same-length-10 (visit-claims t) (visit-at t) visit.Post
-visit-same-length-10 t c = c .before .before .put-number .kept .0 ∙ c .before .before .before .before .before .before .before .before .before .before .before .before .before .before .before .before .before .before .before .before .before .expand-type .kept .1 .1 .1 .1 .1 .1 .1 .1 .1 .1 .0
+visit-same-length-10 t c = c .before .before .put-number .kept .0 ∙ expand-type·visit-returns-7 t c .expand-type .kept .1 .1 .1 .1 .1 .1 .1 .1 .1 .1 .0
 
 visit-returns-7 : (t : ℕ) → visit-lts.Need-returns-7 (visit-claims t) (visit-at t) visit.Post
 unfolding CalmAfter
 visit-returns-7 t c = (
-  expanded-done t (c .before .before .before .before .before .before .before .before .before .before .before .before .before .before .before .before .before .before .before .before .before .before .before .before .before .before .before .before .before .before .before .before .before .before .before .before .before .before .before .before .before .before .before) (c .before .before .before .before .before .before .before .before .before .before .before .before .before .before .before .before .before .before .before .before .before .before .before .before .before .before .before .before .before .before .if2 .left) (omega (arith, c .before .before .before .before .before .before .before .before .before .before .before .before .before .before .before .before .before .before .before .before .before .before .before .before .before .before .before .before .before .before .before .if1 .left)) (c .before .before .before .before .before .before .before .before .before .before .before .before .before .before .before .before .before .before .before .before .before .before .before .before .before .before .before .before .before .if3 .left) (c .before .before .before .before .before .before .before .before .before .before .before .before .before .before .before .before .before .before .before .before .before .expand-type .result) (c .before .before .before .before .before .before .before .before .before .before .before .before .before .before .before .before .before .before .before .before .before .expand-type .last .1 .1 .1 .1 .1 .1 .1 .0) (c .before .before .before .before .before .before .before .before .before .before .before .before .before .before .before .before .before .before .before .before .before .expand-type .last .1 .1 .1 .1 .1 .1 .1 .1 .0) (c .before .before .before .before .before .before .before .before .before .before .before .before .before .before .before .before .before .before .before .before .before .expand-type .last .1 .1 .1 .1 .1 .1 .1 .1 .1 .0) (c .before .before .before .before .before .before .before .before .before .before .before .before .before .before .before .before .before .before .before .before .before .expand-type .last .1 .1 .1 .1 .1 .1 .1 .1 .1 .1 .0) (c .before .before .before .before .before .before .before .before .before .before .before .before .before .before .before .before .before .before .before .before .before .expand-type .ensures) (c .before .before .before .before .before .before .before .before .before .before .before .then .given .0 .0) (c .before .before .before .before .before .before .before .before .before .before .before .then .given .0 .1 .0) (c .before .before .before .before .before .before .before .before .before .before .before .then .given .1),
-  subst (λ (l : List ℕ). Passable (groups t (c .before .before .before .before .before .before .before .before .before .before .before .before .before .before .before .before .before .before .before .before .before .before .before .before .before .before .before .before .before .before .before .before .before .before .before .before .before .before .before .before .before .before .before)) (dulls t (c .before .before .before .before .before .before .before .before .before .before .before .before .before .before .before .before .before .before .before .before .before .before .before .before .before .before .before .before .before .before .before .before .before .before .before .before .before .before .before .before .before .before .before)) (held (c .before .before .before .before .before .before .before .before .before .before .before .then .given .0 .0) (c .before .before .before .before .before .before .before .before .before .before .before .before .before .before .before .before .before .before .before .before .before .expand-type .last .1 .1 .1 .1 .1 .1 .1 .0) (c .before .before .before .before .before .before .before .before .before .before .before .before .before .before .before .before .before .before .before .before .before .expand-type .last .1 .1 .1 .1 .1 .1 .1 .1 .0) (c .before .before .before .before .before .before .before .before .before .before .before .before .before .before .before .before .before .before .before .before .before .expand-type .last .1 .1 .1 .1 .1 .1 .1 .1 .1 .0)) l)
-      (sym (c .before .before .put-number .ensures)) (expanded-calm t (c .before .before .before .before .before .before .before .before .before .before .before .before .before .before .before .before .before .before .before .before .before .before .before .before .before .before .before .before .before .before .before .before .before .before .before .before .before .before .before .before .before .before .before) (c .before .before .before .before .before .before .before .before .before .before .before .before .before .before .before .before .before .before .before .before .before .before .before .before .before .before .before .before .before .before .if2 .left) (omega (arith, c .before .before .before .before .before .before .before .before .before .before .before .before .before .before .before .before .before .before .before .before .before .before .before .before .before .before .before .before .before .before .before .if1 .left)) (c .before .before .before .before .before .before .before .before .before .before .before .before .before .before .before .before .before .before .before .before .before .before .before .before .before .before .before .before .before .if3 .left) (c .before .before .before .before .before .before .before .before .before .before .before .before .before .before .before .before .before .before .before .before .before .expand-type .result) (c .before .before .before .before .before .before .before .before .before .before .before .before .before .before .before .before .before .before .before .before .before .expand-type .last .1 .1 .1 .1 .1 .1 .1 .0) (c .before .before .before .before .before .before .before .before .before .before .before .before .before .before .before .before .before .before .before .before .before .expand-type .last .1 .1 .1 .1 .1 .1 .1 .1 .0) (c .before .before .before .before .before .before .before .before .before .before .before .before .before .before .before .before .before .before .before .before .before .expand-type .last .1 .1 .1 .1 .1 .1 .1 .1 .1 .0) (c .before .before .before .before .before .before .before .before .before .before .before .before .before .before .before .before .before .before .before .before .before .expand-type .last .1 .1 .1 .1 .1 .1 .1 .1 .1 .1 .0) (c .before .before .before .before .before .before .before .before .before .before .before .before .before .before .before .before .before .before .before .before .before .expand-type .ensures) (c .before .before .before .before .before .before .before .before .before .before .before .then .given .0 .0) (c .before .before .before .before .before .before .before .before .before .before .before .then .given .0 .1 .0) (c .before .before .before .before .before .before .before .before .before .before .before .then .given .1) (c .before .before .before .before .before .before .before .if6 .taken) (c .before .before .before .before .if7 .taken)),
+  expanded-done t (Start·visit-returns-7 t c) (Else2·visit-returns-7 t c .if2 .left) (omega (arith, Else1·visit-returns-7 t c .if1 .left)) (Else3·visit-returns-7 t c .if3 .left) (expand-type·visit-returns-7 t c .expand-type .result) (expand-type·visit-returns-7 t c .expand-type .last .1 .1 .1 .1 .1 .1 .1 .0) (expand-type·visit-returns-7 t c .expand-type .last .1 .1 .1 .1 .1 .1 .1 .1 .0) (expand-type·visit-returns-7 t c .expand-type .last .1 .1 .1 .1 .1 .1 .1 .1 .1 .0) (expand-type·visit-returns-7 t c .expand-type .last .1 .1 .1 .1 .1 .1 .1 .1 .1 .1 .0) (expand-type·visit-returns-7 t c .expand-type .ensures) (then·visit-returns-7 t c .then .given .0 .0) (then·visit-returns-7 t c .then .given .0 .1 .0) (then·visit-returns-7 t c .then .given .1),
+  subst (λ (l : List ℕ). Passable (groups t (Start·visit-returns-7 t c)) (dulls t (Start·visit-returns-7 t c)) (held (then·visit-returns-7 t c .then .given .0 .0) (expand-type·visit-returns-7 t c .expand-type .last .1 .1 .1 .1 .1 .1 .1 .0) (expand-type·visit-returns-7 t c .expand-type .last .1 .1 .1 .1 .1 .1 .1 .1 .0) (expand-type·visit-returns-7 t c .expand-type .last .1 .1 .1 .1 .1 .1 .1 .1 .1 .0)) l)
+      (sym (c .before .before .put-number .ensures)) (expanded-calm t (Start·visit-returns-7 t c) (Else2·visit-returns-7 t c .if2 .left) (omega (arith, Else1·visit-returns-7 t c .if1 .left)) (Else3·visit-returns-7 t c .if3 .left) (expand-type·visit-returns-7 t c .expand-type .result) (expand-type·visit-returns-7 t c .expand-type .last .1 .1 .1 .1 .1 .1 .1 .0) (expand-type·visit-returns-7 t c .expand-type .last .1 .1 .1 .1 .1 .1 .1 .1 .0) (expand-type·visit-returns-7 t c .expand-type .last .1 .1 .1 .1 .1 .1 .1 .1 .1 .0) (expand-type·visit-returns-7 t c .expand-type .last .1 .1 .1 .1 .1 .1 .1 .1 .1 .1 .0) (expand-type·visit-returns-7 t c .expand-type .ensures) (then·visit-returns-7 t c .then .given .0 .0) (then·visit-returns-7 t c .then .given .0 .1 .0) (then·visit-returns-7 t c .then .given .1) (c .before .before .before .before .before .before .before .if6 .taken) (c .before .before .before .before .if7 .taken)),
 )
 
 visit-same-length-11 : (t : ℕ) → visit-lts.Need-same-length-11 (visit-claims t) (visit-at t) visit.Post
-visit-same-length-11 t c = c .before .before .before .before .before .before .before .before .before .before .before .before .before .before .before .before .before .expand-type .kept .1 .1 .1 .1 .1 .1 .1 .0
+visit-same-length-11 t c = expand-type·visit-returns-8 t c .expand-type .kept .1 .1 .1 .1 .1 .1 .1 .0
 
 visit-same-length-12 : (t : ℕ) → visit-lts.Need-same-length-12 (visit-claims t) (visit-at t) visit.Post
-visit-same-length-12 t c = c .before .before .before .before .before .before .before .before .before .before .before .before .before .before .before .before .before .expand-type .kept .1 .1 .1 .1 .1 .1 .1 .1 .0
+visit-same-length-12 t c = expand-type·visit-returns-8 t c .expand-type .kept .1 .1 .1 .1 .1 .1 .1 .1 .0
 
 visit-same-length-13 : (t : ℕ) → visit-lts.Need-same-length-13 (visit-claims t) (visit-at t) visit.Post
-visit-same-length-13 t c = c .before .before .before .before .before .before .before .before .before .before .before .before .before .before .before .before .before .expand-type .kept .1 .1 .1 .1 .1 .1 .1 .1 .1 .0
+visit-same-length-13 t c = expand-type·visit-returns-8 t c .expand-type .kept .1 .1 .1 .1 .1 .1 .1 .1 .1 .0
 
 visit-same-length-14 : (t : ℕ) → visit-lts.Need-same-length-14 (visit-claims t) (visit-at t) visit.Post
-visit-same-length-14 t c = c .before .before .before .before .before .before .before .before .before .before .before .before .before .before .before .before .before .expand-type .kept .1 .1 .1 .1 .1 .1 .1 .1 .1 .1 .0
+visit-same-length-14 t c = expand-type·visit-returns-8 t c .expand-type .kept .1 .1 .1 .1 .1 .1 .1 .1 .1 .1 .0
 
 visit-returns-8 : (t : ℕ) → visit-lts.Need-returns-8 (visit-claims t) (visit-at t) visit.Post
 unfolding CalmAfter
-visit-returns-8 t c = (expanded-done t (c .before .before .before .before .before .before .before .before .before .before .before .before .before .before .before .before .before .before .before .before .before .before .before .before .before .before .before .before .before .before .before .before .before .before .before .before .before .before .before) (c .before .before .before .before .before .before .before .before .before .before .before .before .before .before .before .before .before .before .before .before .before .before .before .before .before .before .if2 .left) (omega (arith, c .before .before .before .before .before .before .before .before .before .before .before .before .before .before .before .before .before .before .before .before .before .before .before .before .before .before .before .if1 .left)) (c .before .before .before .before .before .before .before .before .before .before .before .before .before .before .before .before .before .before .before .before .before .before .before .before .before .if3 .left) (c .before .before .before .before .before .before .before .before .before .before .before .before .before .before .before .before .before .expand-type .result) (c .before .before .before .before .before .before .before .before .before .before .before .before .before .before .before .before .before .expand-type .last .1 .1 .1 .1 .1 .1 .1 .0) (c .before .before .before .before .before .before .before .before .before .before .before .before .before .before .before .before .before .expand-type .last .1 .1 .1 .1 .1 .1 .1 .1 .0) (c .before .before .before .before .before .before .before .before .before .before .before .before .before .before .before .before .before .expand-type .last .1 .1 .1 .1 .1 .1 .1 .1 .1 .0) (c .before .before .before .before .before .before .before .before .before .before .before .before .before .before .before .before .before .expand-type .last .1 .1 .1 .1 .1 .1 .1 .1 .1 .1 .0) (c .before .before .before .before .before .before .before .before .before .before .before .before .before .before .before .before .before .expand-type .ensures) (c .before .before .before .before .before .before .before .then .given .0 .0) (c .before .before .before .before .before .before .before .then .given .0 .1 .0) (c .before .before .before .before .before .before .before .then .given .1), expanded-passable t (c .before .before .before .before .before .before .before .before .before .before .before .before .before .before .before .before .before .before .before .before .before .before .before .before .before .before .before .before .before .before .before .before .before .before .before .before .before .before .before) (c .before .before .before .before .before .before .before .before .before .before .before .before .before .before .before .before .before .before .before .before .before .before .before .before .before .before .if2 .left) (omega (arith, c .before .before .before .before .before .before .before .before .before .before .before .before .before .before .before .before .before .before .before .before .before .before .before .before .before .before .before .if1 .left)) (c .before .before .before .before .before .before .before .before .before .before .before .before .before .before .before .before .before .before .before .before .before .before .before .before .before .if3 .left) (c .before .before .before .before .before .before .before .before .before .before .before .before .before .before .before .before .before .expand-type .result) (c .before .before .before .before .before .before .before .before .before .before .before .before .before .before .before .before .before .expand-type .last .1 .1 .1 .1 .1 .1 .1 .0) (c .before .before .before .before .before .before .before .before .before .before .before .before .before .before .before .before .before .expand-type .last .1 .1 .1 .1 .1 .1 .1 .1 .0) (c .before .before .before .before .before .before .before .before .before .before .before .before .before .before .before .before .before .expand-type .last .1 .1 .1 .1 .1 .1 .1 .1 .1 .0) (c .before .before .before .before .before .before .before .before .before .before .before .before .before .before .before .before .before .expand-type .last .1 .1 .1 .1 .1 .1 .1 .1 .1 .1 .0) (c .before .before .before .before .before .before .before .before .before .before .before .before .before .before .before .before .before .expand-type .ensures) (c .before .before .before .before .before .before .before .then .given .0 .0) (c .before .before .before .before .before .before .before .then .given .0 .1 .0) (c .before .before .before .before .before .before .before .then .given .1))
+visit-returns-8 t c = (expanded-done t (Start·visit-returns-8 t c) (Else2·visit-returns-8 t c .if2 .left) (omega (arith, Else1·visit-returns-8 t c .if1 .left)) (Else3·visit-returns-8 t c .if3 .left) (expand-type·visit-returns-8 t c .expand-type .result) (expand-type·visit-returns-8 t c .expand-type .last .1 .1 .1 .1 .1 .1 .1 .0) (expand-type·visit-returns-8 t c .expand-type .last .1 .1 .1 .1 .1 .1 .1 .1 .0) (expand-type·visit-returns-8 t c .expand-type .last .1 .1 .1 .1 .1 .1 .1 .1 .1 .0) (expand-type·visit-returns-8 t c .expand-type .last .1 .1 .1 .1 .1 .1 .1 .1 .1 .1 .0) (expand-type·visit-returns-8 t c .expand-type .ensures) (then·visit-returns-8 t c .then .given .0 .0) (then·visit-returns-8 t c .then .given .0 .1 .0) (then·visit-returns-8 t c .then .given .1), expanded-passable t (Start·visit-returns-8 t c) (Else2·visit-returns-8 t c .if2 .left) (omega (arith, Else1·visit-returns-8 t c .if1 .left)) (Else3·visit-returns-8 t c .if3 .left) (expand-type·visit-returns-8 t c .expand-type .result) (expand-type·visit-returns-8 t c .expand-type .last .1 .1 .1 .1 .1 .1 .1 .0) (expand-type·visit-returns-8 t c .expand-type .last .1 .1 .1 .1 .1 .1 .1 .1 .0) (expand-type·visit-returns-8 t c .expand-type .last .1 .1 .1 .1 .1 .1 .1 .1 .1 .0) (expand-type·visit-returns-8 t c .expand-type .last .1 .1 .1 .1 .1 .1 .1 .1 .1 .1 .0) (expand-type·visit-returns-8 t c .expand-type .ensures) (then·visit-returns-8 t c .then .given .0 .0) (then·visit-returns-8 t c .then .given .0 .1 .0) (then·visit-returns-8 t c .then .given .1))
 
 visit-same-length-15 : (t : ℕ) → visit-lts.Need-same-length-15 (visit-claims t) (visit-at t) visit.Post
-visit-same-length-15 t c = c .before .before .before .before .before .before .before .before .before .before .before .before .before .before .expand-type .kept .1 .1 .1 .1 .1 .1 .1 .0
+visit-same-length-15 t c = expand-type·visit-returns-9 t c .expand-type .kept .1 .1 .1 .1 .1 .1 .1 .0
 
 visit-same-length-16 : (t : ℕ) → visit-lts.Need-same-length-16 (visit-claims t) (visit-at t) visit.Post
-visit-same-length-16 t c = c .before .before .before .before .before .before .before .before .before .before .before .before .before .before .expand-type .kept .1 .1 .1 .1 .1 .1 .1 .1 .0
+visit-same-length-16 t c = expand-type·visit-returns-9 t c .expand-type .kept .1 .1 .1 .1 .1 .1 .1 .1 .0
 
 visit-same-length-17 : (t : ℕ) → visit-lts.Need-same-length-17 (visit-claims t) (visit-at t) visit.Post
-visit-same-length-17 t c = c .before .before .before .before .before .before .before .before .before .before .before .before .before .before .expand-type .kept .1 .1 .1 .1 .1 .1 .1 .1 .1 .0
+visit-same-length-17 t c = expand-type·visit-returns-9 t c .expand-type .kept .1 .1 .1 .1 .1 .1 .1 .1 .1 .0
 
 visit-same-length-18 : (t : ℕ) → visit-lts.Need-same-length-18 (visit-claims t) (visit-at t) visit.Post
-visit-same-length-18 t c = c .before .before .before .before .before .before .before .before .before .before .before .before .before .before .expand-type .kept .1 .1 .1 .1 .1 .1 .1 .1 .1 .1 .0
+visit-same-length-18 t c = expand-type·visit-returns-9 t c .expand-type .kept .1 .1 .1 .1 .1 .1 .1 .1 .1 .1 .0
 
 visit-returns-9 : (t : ℕ) → visit-lts.Need-returns-9 (visit-claims t) (visit-at t) visit.Post
 unfolding CalmAfter
-visit-returns-9 t c = (expanded-done t (c .before .before .before .before .before .before .before .before .before .before .before .before .before .before .before .before .before .before .before .before .before .before .before .before .before .before .before .before .before .before .before .before .before .before .before .before) (c .before .before .before .before .before .before .before .before .before .before .before .before .before .before .before .before .before .before .before .before .before .before .before .if2 .left) (omega (arith, c .before .before .before .before .before .before .before .before .before .before .before .before .before .before .before .before .before .before .before .before .before .before .before .before .if1 .left)) (c .before .before .before .before .before .before .before .before .before .before .before .before .before .before .before .before .before .before .before .before .before .before .if3 .left) (c .before .before .before .before .before .before .before .before .before .before .before .before .before .before .expand-type .result) (c .before .before .before .before .before .before .before .before .before .before .before .before .before .before .expand-type .last .1 .1 .1 .1 .1 .1 .1 .0) (c .before .before .before .before .before .before .before .before .before .before .before .before .before .before .expand-type .last .1 .1 .1 .1 .1 .1 .1 .1 .0) (c .before .before .before .before .before .before .before .before .before .before .before .before .before .before .expand-type .last .1 .1 .1 .1 .1 .1 .1 .1 .1 .0) (c .before .before .before .before .before .before .before .before .before .before .before .before .before .before .expand-type .last .1 .1 .1 .1 .1 .1 .1 .1 .1 .1 .0) (c .before .before .before .before .before .before .before .before .before .before .before .before .before .before .expand-type .ensures) (c .before .before .before .before .then .given .0 .0) (c .before .before .before .before .then .given .0 .1 .0) (c .before .before .before .before .then .given .1), expanded-passable t (c .before .before .before .before .before .before .before .before .before .before .before .before .before .before .before .before .before .before .before .before .before .before .before .before .before .before .before .before .before .before .before .before .before .before .before .before) (c .before .before .before .before .before .before .before .before .before .before .before .before .before .before .before .before .before .before .before .before .before .before .before .if2 .left) (omega (arith, c .before .before .before .before .before .before .before .before .before .before .before .before .before .before .before .before .before .before .before .before .before .before .before .before .if1 .left)) (c .before .before .before .before .before .before .before .before .before .before .before .before .before .before .before .before .before .before .before .before .before .before .if3 .left) (c .before .before .before .before .before .before .before .before .before .before .before .before .before .before .expand-type .result) (c .before .before .before .before .before .before .before .before .before .before .before .before .before .before .expand-type .last .1 .1 .1 .1 .1 .1 .1 .0) (c .before .before .before .before .before .before .before .before .before .before .before .before .before .before .expand-type .last .1 .1 .1 .1 .1 .1 .1 .1 .0) (c .before .before .before .before .before .before .before .before .before .before .before .before .before .before .expand-type .last .1 .1 .1 .1 .1 .1 .1 .1 .1 .0) (c .before .before .before .before .before .before .before .before .before .before .before .before .before .before .expand-type .last .1 .1 .1 .1 .1 .1 .1 .1 .1 .1 .0) (c .before .before .before .before .before .before .before .before .before .before .before .before .before .before .expand-type .ensures) (c .before .before .before .before .then .given .0 .0) (c .before .before .before .before .then .given .0 .1 .0) (c .before .before .before .before .then .given .1))
+visit-returns-9 t c = (expanded-done t (Start·visit-returns-9 t c) (Else2·visit-returns-9 t c .if2 .left) (omega (arith, Else1·visit-returns-9 t c .if1 .left)) (Else3·visit-returns-9 t c .if3 .left) (expand-type·visit-returns-9 t c .expand-type .result) (expand-type·visit-returns-9 t c .expand-type .last .1 .1 .1 .1 .1 .1 .1 .0) (expand-type·visit-returns-9 t c .expand-type .last .1 .1 .1 .1 .1 .1 .1 .1 .0) (expand-type·visit-returns-9 t c .expand-type .last .1 .1 .1 .1 .1 .1 .1 .1 .1 .0) (expand-type·visit-returns-9 t c .expand-type .last .1 .1 .1 .1 .1 .1 .1 .1 .1 .1 .0) (expand-type·visit-returns-9 t c .expand-type .ensures) (then·visit-returns-9 t c .then .given .0 .0) (then·visit-returns-9 t c .then .given .0 .1 .0) (then·visit-returns-9 t c .then .given .1), expanded-passable t (Start·visit-returns-9 t c) (Else2·visit-returns-9 t c .if2 .left) (omega (arith, Else1·visit-returns-9 t c .if1 .left)) (Else3·visit-returns-9 t c .if3 .left) (expand-type·visit-returns-9 t c .expand-type .result) (expand-type·visit-returns-9 t c .expand-type .last .1 .1 .1 .1 .1 .1 .1 .0) (expand-type·visit-returns-9 t c .expand-type .last .1 .1 .1 .1 .1 .1 .1 .1 .0) (expand-type·visit-returns-9 t c .expand-type .last .1 .1 .1 .1 .1 .1 .1 .1 .1 .0) (expand-type·visit-returns-9 t c .expand-type .last .1 .1 .1 .1 .1 .1 .1 .1 .1 .1 .0) (expand-type·visit-returns-9 t c .expand-type .ensures) (then·visit-returns-9 t c .then .given .0 .0) (then·visit-returns-9 t c .then .given .0 .1 .0) (then·visit-returns-9 t c .then .given .1))
 
 abbrev walk-features-Inv-loop : walk-features-lts.InvT-loop
 walk-features-Inv-loop e nested extends inverses bytes n kept memo₀ out₀ notes₀ calm₀ purpose row inverse prefix len left visits count so-far₀ seen₀ i₀ memo out notes calm so-far seen i =
@@ -570,11 +750,53 @@ walk-features-loop-holds t c =
 walk-features-belongs-requires : (t : ℕ) → walk-features-lts.Need-belongs-requires (walk-claims t) (walk-features-at t) walk-features.Post walk-features-Inv-loop walk-features-μ-loop
 walk-features-belongs-requires t c κs = c .loop-test .taken
 
+-- places: the way back from where an answer stands to what it uses
+abbrev Start·walk-features-number-at-requires : (t : ℕ) → walk-features-lts.Then1 (walk-claims t) (walk-features-at t) walk-features.Post walk-features-Inv-loop walk-features-μ-loop → walk-features-lts.Start (walk-claims t) (walk-features-at t) walk-features.Post walk-features-Inv-loop walk-features-μ-loop
+Start·walk-features-number-at-requires t c = c .before .before .before .before .before .before .before .before .before .before .before .before .before .before .before
+
+abbrev Start·walk-features-loop-again : (t : ℕ) → walk-features-lts.Joined1 (walk-claims t) (walk-features-at t) walk-features.Post walk-features-Inv-loop walk-features-μ-loop → walk-features-lts.Start (walk-claims t) (walk-features-at t) walk-features.Post walk-features-Inv-loop walk-features-μ-loop
+Start·walk-features-loop-again t c = c .before .before .before .before .before .before .before .before .before .before .before .before .before .before .before
+
+abbrev Start·walk-features-number-at-requires-3 : (t : ℕ) → walk-features-lts.Then2 (walk-claims t) (walk-features-at t) walk-features.Post walk-features-Inv-loop walk-features-μ-loop → walk-features-lts.Start (walk-claims t) (walk-features-at t) walk-features.Post walk-features-Inv-loop walk-features-μ-loop
+Start·walk-features-number-at-requires-3 t c = Start·walk-features-number-at-requires t (c .before .before .before)
+
+abbrev Start·walk-features-array-write-longer : (t : ℕ) → walk-features-lts.Else2 (walk-claims t) (walk-features-at t) walk-features.Post walk-features-Inv-loop walk-features-μ-loop → walk-features-lts.Start (walk-claims t) (walk-features-at t) walk-features.Post walk-features-Inv-loop walk-features-μ-loop
+Start·walk-features-array-write-longer t c = Start·walk-features-number-at-requires t (c .before .before .before)
+
+abbrev Start·walk-features-number-at-requires-4 : (t : ℕ) → walk-features-lts.After-number-at3 (walk-claims t) (walk-features-at t) walk-features.Post walk-features-Inv-loop walk-features-μ-loop → walk-features-lts.Start (walk-claims t) (walk-features-at t) walk-features.Post walk-features-Inv-loop walk-features-μ-loop
+Start·walk-features-number-at-requires-4 t c = Start·walk-features-number-at-requires-3 t (c .before)
+
+abbrev Start·walk-features-visit-requires : (t : ℕ) → walk-features-lts.After-visit-arg4 (walk-claims t) (walk-features-at t) walk-features.Post walk-features-Inv-loop walk-features-μ-loop → walk-features-lts.Start (walk-claims t) (walk-features-at t) walk-features.Post walk-features-Inv-loop walk-features-μ-loop
+Start·walk-features-visit-requires t c = Start·walk-features-array-write-longer t (c .before .before .before .before)
+
+abbrev Start·walk-features-take-feature-requires : (t : ℕ) → walk-features-lts.After-take-feature-arg3 (walk-claims t) (walk-features-at t) walk-features.Post walk-features-Inv-loop walk-features-μ-loop → walk-features-lts.Start (walk-claims t) (walk-features-at t) walk-features.Post walk-features-Inv-loop walk-features-μ-loop
+Start·walk-features-take-feature-requires t c = Start·walk-features-number-at-requires-4 t (c .before .before .before .before .before)
+
+abbrev visit·walk-features-returns : (t : ℕ) → walk-features-lts.After-enum-told (walk-claims t) (walk-features-at t) walk-features.Post walk-features-Inv-loop walk-features-μ-loop → walk-features-lts.After-visit (walk-claims t) (walk-features-at t) walk-features.Post walk-features-Inv-loop walk-features-μ-loop
+visit·walk-features-returns t c = c .before .before .before .before .before .before .before .before .before .before
+
+abbrev number-at2·walk-features-returns : (t : ℕ) → walk-features-lts.After-enum-told (walk-claims t) (walk-features-at t) walk-features.Post walk-features-Inv-loop walk-features-μ-loop → walk-features-lts.After-number-at2 (walk-claims t) (walk-features-at t) walk-features.Post walk-features-Inv-loop walk-features-μ-loop
+number-at2·walk-features-returns t c = visit·walk-features-returns t c .before .before .before .before .before .before
+
+abbrev number-at·walk-features-returns : (t : ℕ) → walk-features-lts.After-enum-told (walk-claims t) (walk-features-at t) walk-features.Post walk-features-Inv-loop walk-features-μ-loop → walk-features-lts.After-number-at (walk-claims t) (walk-features-at t) walk-features.Post walk-features-Inv-loop walk-features-μ-loop
+number-at·walk-features-returns t c = number-at2·walk-features-returns t c .before
+
+abbrev Then1·walk-features-returns : (t : ℕ) → walk-features-lts.After-enum-told (walk-claims t) (walk-features-at t) walk-features.Post walk-features-Inv-loop walk-features-μ-loop → walk-features-lts.Then1 (walk-claims t) (walk-features-at t) walk-features.Post walk-features-Inv-loop walk-features-μ-loop
+Then1·walk-features-returns t c = number-at·walk-features-returns t c .before
+
+abbrev belongs·walk-features-returns : (t : ℕ) → walk-features-lts.After-enum-told (walk-claims t) (walk-features-at t) walk-features.Post walk-features-Inv-loop walk-features-μ-loop → walk-features-lts.After-belongs (walk-claims t) (walk-features-at t) walk-features.Post walk-features-Inv-loop walk-features-μ-loop
+belongs·walk-features-returns t c = Then1·walk-features-returns t c .before
+
+abbrev At-loop·walk-features-returns : (t : ℕ) → walk-features-lts.After-enum-told (walk-claims t) (walk-features-at t) walk-features.Post walk-features-Inv-loop walk-features-μ-loop → walk-features-lts.At-loop (walk-claims t) (walk-features-at t) walk-features.Post walk-features-Inv-loop walk-features-μ-loop
+At-loop·walk-features-returns t c = belongs·walk-features-returns t c .before .before
+
+-- end of places
+
 walk-features-mul-place : (t : ℕ) → walk-features-lts.Need-mul-place (walk-claims t) (walk-features-at t) walk-features.Post walk-features-Inv-loop walk-features-μ-loop
-walk-features-mul-place t c = omega (arith, c .before .before .loop-test .taken, c .before .before .before .before .before .before .before .before .before .before .before .before .before .before .before .good .0)
+walk-features-mul-place t c = omega (arith, c .before .before .loop-test .taken, Start·walk-features-number-at-requires t c .good .0)
 
 walk-features-add-number-at : (t : ℕ) → walk-features-lts.Need-add-number-at (walk-claims t) (walk-features-at t) walk-features.Post walk-features-Inv-loop walk-features-μ-loop
-walk-features-add-number-at t c = omega (arith, c .before .before .loop-test .taken, c .before .before .before .before .before .before .before .before .before .before .before .before .before .before .before .good .0)
+walk-features-add-number-at t c = omega (arith, c .before .before .loop-test .taken, Start·walk-features-number-at-requires t c .good .0)
 
 walk-features-number-at-requires : (t : ℕ) → walk-features-lts.Need-number-at-requires (walk-claims t) (walk-features-at t) walk-features.Post walk-features-Inv-loop walk-features-μ-loop
 walk-features-number-at-requires t c κs = tt
@@ -583,13 +805,13 @@ walk-features-number-at-requires-2 : (t : ℕ) → walk-features-lts.Need-number
 walk-features-number-at-requires-2 t c κs = tt
 
 walk-features-add-number-at-2 : (t : ℕ) → walk-features-lts.Need-add-number-at-2 (walk-claims t) (walk-features-at t) walk-features.Post walk-features-Inv-loop walk-features-μ-loop
-walk-features-add-number-at-2 t c = omega (arith, c .before .before .before .before .before .loop-test .taken, c .before .before .before .before .before .before .before .before .before .before .before .before .before .before .before .before .before .before .good .0)
+walk-features-add-number-at-2 t c = omega (arith, c .before .before .before .before .before .loop-test .taken, Start·walk-features-number-at-requires-3 t c .good .0)
 
 walk-features-number-at-requires-3 : (t : ℕ) → walk-features-lts.Need-number-at-requires-3 (walk-claims t) (walk-features-at t) walk-features.Post walk-features-Inv-loop walk-features-μ-loop
 walk-features-number-at-requires-3 t c κs = tt
 
 walk-features-add-number-at-3 : (t : ℕ) → walk-features-lts.Need-add-number-at-3 (walk-claims t) (walk-features-at t) walk-features.Post walk-features-Inv-loop walk-features-μ-loop
-walk-features-add-number-at-3 t c = omega (arith, c .before .before .before .before .before .before .loop-test .taken, c .before .before .before .before .before .before .before .before .before .before .before .before .before .before .before .before .before .before .before .good .0)
+walk-features-add-number-at-3 t c = omega (arith, c .before .before .before .before .before .before .loop-test .taken, Start·walk-features-number-at-requires-4 t c .good .0)
 
 walk-features-number-at-requires-4 : (t : ℕ) → walk-features-lts.Need-number-at-requires-4 (walk-claims t) (walk-features-at t) walk-features.Post walk-features-Inv-loop walk-features-μ-loop
 walk-features-number-at-requires-4 t c κs = tt
@@ -598,20 +820,20 @@ walk-features-turn-requires : (t : ℕ) → walk-features-lts.Need-turn-requires
 walk-features-turn-requires t c κs = tt
 
 walk-features-take-feature-requires : (t : ℕ) → walk-features-lts.Need-take-feature-requires (walk-claims t) (walk-features-at t) walk-features.Post walk-features-Inv-loop walk-features-μ-loop
-walk-features-take-feature-requires t c κs = let s = c .before .before .before .before .before .before .before .before .before .before .before .before .before .before .before .before .before .before .before .before .before .before .before .before in (omega (arith, s .pre .1 .0 .2), s .pre .1 .0 .1, c .before .before .before .before .before .before .before .before .before .before .before .before .loop .inv .5)
+walk-features-take-feature-requires t c κs = let s = Start·walk-features-take-feature-requires t c in (omega (arith, s .pre .1 .0 .2), s .pre .1 .0 .1, c .before .before .before .before .before .before .before .before .before .before .before .before .loop .inv .5)
 
 walk-features-mul-longer : (t : ℕ) → walk-features-lts.Need-mul-longer (walk-claims t) (walk-features-at t) walk-features.Post walk-features-Inv-loop walk-features-μ-loop
-walk-features-mul-longer t c = omega (arith, c .before .before .before .before .before .before .before .before .before .before .before .before .before .before .before .before .before .before .pre .1 .0 .2)
+walk-features-mul-longer t c = omega (arith, Start·walk-features-array-write-longer t c .pre .1 .0 .2)
 
 walk-features-array-write-longer : (t : ℕ) → walk-features-lts.Need-array-write-longer (walk-claims t) (walk-features-at t) walk-features.Post walk-features-Inv-loop walk-features-μ-loop
-walk-features-array-write-longer t c = omega (arith, c .before .before .before .before .before .before .before .before .before .before .before .before .before .before .before .before .before .before .pre .1 .0 .1, c .before .before .before .before .before .before .before .before .before .before .before .before .before .before .before .before .before .before .pre .1 .0 .2)
+walk-features-array-write-longer t c = omega (arith, Start·walk-features-array-write-longer t c .pre .1 .0 .1, Start·walk-features-array-write-longer t c .pre .1 .0 .2)
 
 walk-features-add-visit : (t : ℕ) → walk-features-lts.Need-add-visit (walk-claims t) (walk-features-at t) walk-features.Post walk-features-Inv-loop walk-features-μ-loop
-walk-features-add-visit t c = omega (arith, c .before .before .before .before .before .before .before .before .before .before .before .before .before .before .before .before .before .before .before .before .before .before .pre .1 .0 .2)
+walk-features-add-visit t c = omega (arith, Start·walk-features-visit-requires t c .pre .1 .0 .2)
 
 walk-features-visit-requires : (t : ℕ) → walk-features-lts.Need-visit-requires (walk-claims t) (walk-features-at t) walk-features.Post walk-features-Inv-loop walk-features-μ-loop
 walk-features-visit-requires t c κs =
-    let s = c .before .before .before .before .before .before .before .before .before .before .before .before .before .before .before .before .before .before .before .before .before .before in (
+    let s = Start·walk-features-visit-requires t c in (
       omega (arith, s .pre .0),
       ((c .before .before .before .before .before .before .before .before .before .before .loop .inv .5, length-set (s .args .prefix) (s .args .len) (c .before .before .before .before .before .before .number-at .result) ∙ s .pre .1 .0 .1, omega (arith, s .pre .1 .0 .2)), c .before .before .before .before .before .before .before .before .before .before .loop .inv .8),
     )
@@ -620,23 +842,23 @@ walk-features-enum-told : (t : ℕ) → walk-features-lts.Need-enum-told (walk-c
 walk-features-enum-told t c = search needs
 
 walk-features-same-length : (t : ℕ) → walk-features-lts.Need-same-length (walk-claims t) (walk-features-at t) walk-features.Post walk-features-Inv-loop walk-features-μ-loop
-walk-features-same-length t c = c .before .before .before .before .before .before .before .before .before .before .visit .kept .1 .1 .1 .1 .1 .1 .1 .0 ∙ c .before .before .before .before .before .before .before .before .before .before .before .before .before .before .before .before .before .before .before .before .before .loop .inv .1
+walk-features-same-length t c = visit·walk-features-returns t c .visit .kept .1 .1 .1 .1 .1 .1 .1 .0 ∙ At-loop·walk-features-returns t c .loop .inv .1
 
 walk-features-same-length-2 : (t : ℕ) → walk-features-lts.Need-same-length-2 (walk-claims t) (walk-features-at t) walk-features.Post walk-features-Inv-loop walk-features-μ-loop
-walk-features-same-length-2 t c = c .before .before .before .before .before .before .before .before .before .before .visit .kept .1 .1 .1 .1 .1 .1 .1 .1 .0 ∙ c .before .before .before .before .before .before .before .before .before .before .before .before .before .before .before .before .before .before .before .before .before .loop .inv .2
+walk-features-same-length-2 t c = visit·walk-features-returns t c .visit .kept .1 .1 .1 .1 .1 .1 .1 .1 .0 ∙ At-loop·walk-features-returns t c .loop .inv .2
 
 walk-features-same-length-3 : (t : ℕ) → walk-features-lts.Need-same-length-3 (walk-claims t) (walk-features-at t) walk-features.Post walk-features-Inv-loop walk-features-μ-loop
-walk-features-same-length-3 t c = c .before .before .before .before .before .before .before .before .before .before .visit .kept .1 .1 .1 .1 .1 .1 .1 .1 .1 .0 ∙ c .before .before .before .before .before .before .before .before .before .before .before .before .before .before .before .before .before .before .before .before .before .loop .inv .3
+walk-features-same-length-3 t c = visit·walk-features-returns t c .visit .kept .1 .1 .1 .1 .1 .1 .1 .1 .1 .0 ∙ At-loop·walk-features-returns t c .loop .inv .3
 
 walk-features-same-length-4 : (t : ℕ) → walk-features-lts.Need-same-length-4 (walk-claims t) (walk-features-at t) walk-features.Post walk-features-Inv-loop walk-features-μ-loop
-walk-features-same-length-4 t c = c .before .before .before .before .before .before .before .before .before .before .visit .kept .1 .1 .1 .1 .1 .1 .1 .1 .1 .1 .0 ∙ c .before .before .before .before .before .before .before .before .before .before .before .before .before .before .before .before .before .before .before .before .before .loop .inv .4
+walk-features-same-length-4 t c = visit·walk-features-returns t c .visit .kept .1 .1 .1 .1 .1 .1 .1 .1 .1 .1 .0 ∙ At-loop·walk-features-returns t c .loop .inv .4
 
 walk-features-returns : (t : ℕ) → walk-features-lts.Need-returns (walk-claims t) (walk-features-at t) walk-features.Post walk-features-Inv-loop walk-features-μ-loop
 unfolding stateOf CalmAfter
 walk-features-returns t c = (
-  stopped t (c .before .before .before .before .before .before .before .before .before .before .before .before .before .before .before .before .before .before .before) (c .before .before .before .before .before .before .before .before .before .before .before .before .before .before .before .before .before .before .if1 .taken) (c .before .before .before .before .before .before .before .before .before .before .before .before .before .before .before .before .number-at2 .result) (c .before .before .before .before .before .before .before .before .before .before .before .before .before .before .before .before .number-at2 .ensures) (c .before .before .before .before .before .before .before .before .before .before .before .before .before .before .before .if2 .left) (c .before .before .before .before .before .before .before .before .before .before .before .before .before .before .before .before .before .number-at .result) (c .before .before .before .before .before .before .before .before .before .before .before .before .before .before .before .before .before .number-at .ensures)
-      (c .before .before .before .before .before .before .before .before .before .before .visit .result) (c .before .before .before .before .before .before .before .before .before .before .visit .last .1 .1 .1 .1 .1 .1 .1 .0) (c .before .before .before .before .before .before .before .before .before .before .visit .last .1 .1 .1 .1 .1 .1 .1 .1 .0) (c .before .before .before .before .before .before .before .before .before .before .visit .last .1 .1 .1 .1 .1 .1 .1 .1 .1 .0) (c .before .before .before .before .before .before .before .before .before .before .visit .last .1 .1 .1 .1 .1 .1 .1 .1 .1 .1 .0) (c .before .before .before .before .before .before .before .before .before .before .visit .ensures) (c .enum-told .given .1)
-      ∙ c .before .before .before .before .before .before .before .before .before .before .before .before .before .before .before .before .before .before .before .before .before .loop .inv .7,
+  stopped t (belongs·walk-features-returns t c) (Then1·walk-features-returns t c .if1 .taken) (number-at2·walk-features-returns t c .number-at2 .result) (number-at2·walk-features-returns t c .number-at2 .ensures) (c .before .before .before .before .before .before .before .before .before .before .before .before .before .before .before .if2 .left) (number-at·walk-features-returns t c .number-at .result) (number-at·walk-features-returns t c .number-at .ensures)
+      (visit·walk-features-returns t c .visit .result) (visit·walk-features-returns t c .visit .last .1 .1 .1 .1 .1 .1 .1 .0) (visit·walk-features-returns t c .visit .last .1 .1 .1 .1 .1 .1 .1 .1 .0) (visit·walk-features-returns t c .visit .last .1 .1 .1 .1 .1 .1 .1 .1 .1 .0) (visit·walk-features-returns t c .visit .last .1 .1 .1 .1 .1 .1 .1 .1 .1 .1 .0) (visit·walk-features-returns t c .visit .ensures) (c .enum-told .given .1)
+      ∙ At-loop·walk-features-returns t c .loop .inv .7,
   tt,
 )
 
@@ -644,7 +866,7 @@ walk-features-enum-known-then : (t : ℕ) → walk-features-lts.Need-enum-known-
 walk-features-enum-known-then t c = search needs
 
 walk-features-add-i : (t : ℕ) → walk-features-lts.Need-add-i (walk-claims t) (walk-features-at t) walk-features.Post walk-features-Inv-loop walk-features-μ-loop
-walk-features-add-i t c = omega (arith, c .before .before .loop-test .taken, c .before .before .before .before .before .before .before .before .before .before .before .before .before .before .before .good .0)
+walk-features-add-i t c = omega (arith, c .before .before .loop-test .taken, Start·walk-features-loop-again t c .good .0)
 
 walk-features-loop-less : (t : ℕ) → walk-features-lts.Need-loop-less (walk-claims t) (walk-features-at t) walk-features.Post walk-features-Inv-loop walk-features-μ-loop
 walk-features-loop-less t c = omega (arith, c .before .before .loop-test .taken)
@@ -652,7 +874,7 @@ walk-features-loop-less t c = omega (arith, c .before .before .loop-test .taken)
 walk-features-loop-again : (t : ℕ) → walk-features-lts.Need-loop-again (walk-claims t) (walk-features-at t) walk-features.Post walk-features-Inv-loop walk-features-μ-loop
 walk-features-loop-again t c =
     let k = c .before .before .before in
-    let s = c .before .before .before .before .before .before .before .before .before .before .before .before .before .before .before in
+    let s = Start·walk-features-loop-again t c in
     let f = c .before in
     ⊎-elim
     (λ w. left-there (Next t f) (w .17) (w .18) (w .19) (w .20) (w .21) (w .22) (

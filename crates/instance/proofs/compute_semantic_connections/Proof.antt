@@ -32,9 +32,27 @@ same-length c = search needs
 same-length-2 : tie.Need-same-length-2
 same-length-2 c = search needs
 
+-- places: the way back from where an answer stands to what it uses
+abbrev Start·returns : tie.After-enum-told → tie.Start
+Start·returns c = c .before .before .before .before .before .before .before .before .before .before .before .before .before .before .before .before .before .before .before .before .before .before .before .before .before .before .before .before .before .before .before
+
+abbrev list·returns-2 : tie.After-slice-known8 → tie.After-list
+list·returns-2 c = c .before .before .before .before .before .before .before .before .before .before .before .before .before .before
+
+abbrev clear-numbers2·returns-2 : tie.After-slice-known8 → tie.After-clear-numbers2
+clear-numbers2·returns-2 c = list·returns-2 c .before .before .before .before .before
+
+abbrev clear-numbers·returns-2 : tie.After-slice-known8 → tie.After-clear-numbers
+clear-numbers·returns-2 c = clear-numbers2·returns-2 c .before .before .before .before
+
+abbrev Start·returns-2 : tie.After-slice-known8 → tie.Start
+Start·returns-2 c = clear-numbers·returns-2 c .before .before .before .before .before .before .before .before .before .before .before .before .before .before .before .before
+
+-- end of places
+
 returns : tie.Need-returns
 returns c =
-    let a = c .before .before .before .before .before .before .before .before .before .before .before .before .before .before .before .before .before .before .before .before .before .before .before .before .before .before .before .before .before .before .before .args in
+    let a = Start·returns c .args in
     let m = tablesOf (a .bytes .now) (a .n .now) (a .c .now) (a .f .now) (a .x .now) (a .p .now) (a .i .now) (a .t .now) (a .q .now) (a .u .now) (a .e .now) (a .r .now) in
     given-call m (a .rows .now) (a .diagnostics .now) _ _ (c .before .before .before .before .before .before .before .before .before .before .before .before .before .before .before .clear-numbers .ensures) (c .before .before .before .before .before .before .before .before .before .before .before .clear-numbers2 .ensures) _ (c .before .before .before .before .before .before .list .last .1 .1 .1 .1 .1 .1 .1 .1 .1 .1 .1 .1 .0) (c .before .before .before .before .before .before .list .last .1 .1 .1 .1 .1 .1 .1 .1 .1 .1 .1 .1 .1 .0) (c .before .before .before .before .before .before .list .ensures) _ _ (c .enum-told .given .1)
 
@@ -46,10 +64,10 @@ same-length-4 c = search needs
 
 returns-2 : tie.Need-returns-2
 returns-2 c =
-    let a = c .before .before .before .before .before .before .before .before .before .before .before .before .before .before .before .before .before .before .before .before .before .before .before .before .before .before .before .before .before .before .before .before .before .before .before .before .before .before .before .args in
+    let a = Start·returns-2 c .args in
     let m = tablesOf (a .bytes .now) (a .n .now) (a .c .now) (a .f .now) (a .x .now) (a .p .now) (a .i .now) (a .t .now) (a .q .now) (a .u .now) (a .e .now) (a .r .now) in
-    refused-call m (a .rows .now) (a .diagnostics .now) _ _ (c .before .before .before .before .before .before .before .before .before .before .before .before .before .before .before .before .before .before .before .before .before .before .before .clear-numbers .ensures) (c .before .before .before .before .before .before .before .before .before .before .before .before .before .before .before .before .before .before .before .clear-numbers2 .ensures) _ (c .before .before .before .before .before .before .before .before .before .before .before .before .before .before .list .last .1 .1 .1 .1 .1 .1 .1 .1 .1 .1 .1 .1 .0) (c .before .before .before .before .before .before .before .before .before .before .before .before .before .before .list .last .1 .1 .1 .1 .1 .1 .1 .1 .1 .1 .1 .1 .1 .0) (c .before .before .before .before .before .before .before .before .before .before .before .before .before .before .list .ensures)
-    _ (c .before .before .before .before .before .before .before .before .enum-told2 .given .1) (c .before .before .before .before .before .before .before .before .before .before .before .before .before .before .list .kept .1 .1 .1 .1 .1 .1 .1 .1 .1 .1 .1 .1 .0) (c .before .before .before .before .before .before .before .before .before .before .before .before .before .before .list .kept .1 .1 .1 .1 .1 .1 .1 .1 .1 .1 .1 .1 .1 .0) _ _ (c .before .before .before .before .before .before .clear-numbers3 .ensures) (c .before .before .clear-numbers4 .ensures)
+    refused-call m (a .rows .now) (a .diagnostics .now) _ _ (clear-numbers·returns-2 c .clear-numbers .ensures) (clear-numbers2·returns-2 c .clear-numbers2 .ensures) _ (list·returns-2 c .list .last .1 .1 .1 .1 .1 .1 .1 .1 .1 .1 .1 .1 .0) (list·returns-2 c .list .last .1 .1 .1 .1 .1 .1 .1 .1 .1 .1 .1 .1 .1 .0) (list·returns-2 c .list .ensures)
+    _ (c .before .before .before .before .before .before .before .before .enum-told2 .given .1) (list·returns-2 c .list .kept .1 .1 .1 .1 .1 .1 .1 .1 .1 .1 .1 .1 .0) (list·returns-2 c .list .kept .1 .1 .1 .1 .1 .1 .1 .1 .1 .1 .1 .1 .1 .0) _ _ (c .before .before .before .before .before .before .clear-numbers3 .ensures) (c .before .before .clear-numbers4 .ensures)
 
 pub compute-semantic-connections-spec : {M : Type 1} → statement M
 compute-semantic-connections-spec =

@@ -13,9 +13,36 @@ check-tables-requires c κs = search needs
 enum-known-reason : tie.Need-enum-known-reason
 enum-known-reason c = search needs
 
+-- places: the way back from where an answer stands to what it uses
+abbrev Start·returns : tie.After-known-told → tie.Start
+Start·returns c = c .before .before .before .before .before .before .before .before .before .before .before .before .before .before .before .before .before .before
+
+abbrev Start·trace-connections-requires : tie.After-trace-connections-arg → tie.Start
+Start·trace-connections-requires c = c .before .before .before .before .before .before .before .before .before .before .before .before .before .before .before .before .before .before
+
+abbrev Start·returns-2 : tie.After-unplaced → tie.Start
+Start·returns-2 c = Start·trace-connections-requires (c .before .before .before .before .before .before)
+
+abbrev Start·diagnose-connections-requires : tie.After-diagnose-connections-arg → tie.Start
+Start·diagnose-connections-requires c = Start·trace-connections-requires (c .before .before .before .before .before .before .before)
+
+abbrev check-tables·returns-3 : tie.After-unplaced2 → tie.After-check-tables
+check-tables·returns-3 c = c .before .before .before .before .before .before .before .before .before .before .before .before .before .before .before .before
+
+abbrev Start·returns-3 : tie.After-unplaced2 → tie.Start
+Start·returns-3 c = Start·diagnose-connections-requires (c .before .before .before .before .before .before)
+
+abbrev check-tables·returns-4 : tie.After-known-told3 → tie.After-check-tables
+check-tables·returns-4 c = c .before .before .before .before .before .before .before .before .before .before .before .before .before .before .before .before
+
+abbrev Start·returns-4 : tie.After-known-told3 → tie.Start
+Start·returns-4 c = Start·diagnose-connections-requires (c .before .before .before .before .before .before)
+
+-- end of places
+
 returns : tie.Need-returns
 returns c =
-    let a = c .before .before .before .before .before .before .before .before .before .before .before .before .before .before .before .before .before .before .args in
+    let a = Start·returns c .args in
     let m = tablesOf (a .bytes .now) (a .n .now) (a .c .now) (a .f .now) (a .x .now) (a .p .now) (a .i .now) (a .t .now) (a .q .now) (a .u .now) (a .e .now) (a .r .now) in
     tables-refused m (a .rows .now) (a .diagnostics .now) _ (c .before .before .before .check-tables .ensures) _ (c .before .reason .given .1) _ _
 
@@ -24,7 +51,7 @@ enum-told c = search needs
 
 trace-connections-requires : tie.Need-trace-connections-requires
 trace-connections-requires c κs =
-    let a = c .before .before .before .before .before .before .before .before .before .before .before .before .before .before .before .before .before .before .args in
+    let a = Start·trace-connections-requires c .args in
     let m = tablesOf (a .bytes .now) (a .n .now) (a .c .now) (a .f .now) (a .x .now) (a .p .now) (a .i .now) (a .t .now) (a .q .now) (a .u .now) (a .e .now) (a .r .now) in
     let ok = accepted-is m _ (c .before .before .before .check-tables .ensures) (c .before .enum-told .given .1) in
     (facts m ok .few letterC, facts m ok .few letterX)
@@ -43,14 +70,14 @@ same-length c = search needs
 
 returns-2 : tie.Need-returns-2
 returns-2 c =
-    let a = c .before .before .before .before .before .before .before .before .before .before .before .before .before .before .before .before .before .before .before .before .before .before .before .before .args in
+    let a = Start·returns-2 c .args in
     let m = tablesOf (a .bytes .now) (a .n .now) (a .c .now) (a .f .now) (a .x .now) (a .p .now) (a .i .now) (a .t .now) (a .q .now) (a .u .now) (a .e .now) (a .r .now) in
     let ok = accepted-is m _ (c .before .before .before .before .before .before .before .before .before .check-tables .ensures) (c .before .before .before .before .before .before .before .enum-told .given .1) in
     lists-11 m (a .rows .now) (a .diagnostics .now) ok _ _ (c .before .before .before .before .before .trace-connections .ensures) (c .before .enum-told2 .given .1) _ (c .unplaced .ensures) _ _
 
 diagnose-connections-requires : tie.Need-diagnose-connections-requires
 diagnose-connections-requires c κs =
-    let a = c .before .before .before .before .before .before .before .before .before .before .before .before .before .before .before .before .before .before .before .before .before .before .before .before .before .args in
+    let a = Start·diagnose-connections-requires c .args in
     let m = tablesOf (a .bytes .now) (a .n .now) (a .c .now) (a .f .now) (a .x .now) (a .p .now) (a .i .now) (a .t .now) (a .q .now) (a .u .now) (a .e .now) (a .r .now) in
     let ok = accepted-is m _ (c .before .before .before .before .before .before .before .before .before .before .check-tables .ensures) (c .before .before .before .before .before .before .before .before .enum-told .given .1) in
     (facts m ok .few letterC, facts m ok .few letterX)
@@ -72,9 +99,9 @@ same-length-3 c = search needs
 
 returns-3 : tie.Need-returns-3
 returns-3 c =
-    let a = c .before .before .before .before .before .before .before .before .before .before .before .before .before .before .before .before .before .before .before .before .before .before .before .before .before .before .before .before .before .before .before .args in
+    let a = Start·returns-3 c .args in
     let m = tablesOf (a .bytes .now) (a .n .now) (a .c .now) (a .f .now) (a .x .now) (a .p .now) (a .i .now) (a .t .now) (a .q .now) (a .u .now) (a .e .now) (a .r .now) in
-    let ok = accepted-is m _ (c .before .before .before .before .before .before .before .before .before .before .before .before .before .before .before .before .check-tables .ensures) (c .before .before .before .before .before .before .before .before .before .before .before .before .before .before .enum-told .given .1) in
+    let ok = accepted-is m _ (check-tables·returns-3 c .check-tables .ensures) (c .before .before .before .before .before .before .before .before .before .before .before .before .before .before .enum-told .given .1) in
     lists-12 m (a .rows .now) (a .diagnostics .now) ok _ _ (c .before .before .before .before .before .before .before .before .before .before .before .before .trace-connections .ensures) _ (c .before .before .before .before .before .before .before .before .k .given .1)
     _ _ (c .before .before .before .before .before .diagnose-connections .ensures) (c .before .enum-told3 .given .1) _ (c .unplaced2 .ensures) _ _
 
@@ -86,9 +113,9 @@ same-length-5 c = search needs
 
 returns-4 : tie.Need-returns-4
 returns-4 c =
-    let a = c .before .before .before .before .before .before .before .before .before .before .before .before .before .before .before .before .before .before .before .before .before .before .before .before .before .before .before .before .before .before .before .args in
+    let a = Start·returns-4 c .args in
     let m = tablesOf (a .bytes .now) (a .n .now) (a .c .now) (a .f .now) (a .x .now) (a .p .now) (a .i .now) (a .t .now) (a .q .now) (a .u .now) (a .e .now) (a .r .now) in
-    let ok = accepted-is m _ (c .before .before .before .before .before .before .before .before .before .before .before .before .before .before .before .before .check-tables .ensures) (c .before .before .before .before .before .before .before .before .before .before .before .before .before .before .enum-told .given .1) in
+    let ok = accepted-is m _ (check-tables·returns-4 c .check-tables .ensures) (c .before .before .before .before .before .before .before .before .before .before .before .before .before .before .enum-told .given .1) in
     lists-both m (a .rows .now) (a .diagnostics .now) ok _ _ (c .before .before .before .before .before .before .before .before .before .before .before .before .trace-connections .ensures) _ (c .before .before .before .before .before .before .before .before .k .given .1)
     _ _ (c .before .before .before .before .before .diagnose-connections .ensures) _ (c .before .d .given .1)
 

@@ -28,9 +28,15 @@ enum-told-2 c = search needs
 enum-known-found : tie.Need-enum-known-found
 enum-known-found c = search needs
 
+-- places: the way back from where an answer stands to what it uses
+abbrev Start·returns-3 : tie.After-known-told → tie.Start
+Start·returns-3 c = c .before .before .before .before .before .before .before .before .before .before .before .before
+
+-- end of places
+
 cast-result : tie.Need-cast-result
 cast-result c =
-    let s = c .before .before .before .before .before .before .before .before .before .before .before .before in
+    let s = Start·returns-3 c in
     omega (arith, s .pre, located (model s [] [] [] []) (s .args .from) (reference s) _ _ (c .before .before .before .resolve-classifier .ensures [] [] [] []) (c .before .found .given .1) .0)
 
 enum-told-3 : tie.Need-enum-told-3
@@ -46,7 +52,7 @@ returns-2 c =
 
 returns-3 : tie.Need-returns-3
 returns-3 c =
-    let s = c .before .before .before .before .before .before .before .before .before .before .before .before in λ c₁ f x e. link-means (model s c₁ f x e) (s .args .from) (reference s) _ _ (c .before .before .before .resolve-classifier .ensures c₁ f x e) (c .before .found .given .1)
+    let s = Start·returns-3 c in λ c₁ f x e. link-means (model s c₁ f x e) (s .args .from) (reference s) _ _ (c .before .before .before .resolve-classifier .ensures c₁ f x e) (c .before .found .given .1)
 
 returns-4 : tie.Need-returns-4
 returns-4 c =

@@ -28,8 +28,14 @@ link-feature-requires c κs = (c .before .before .before .before .before .before
 put-number-requires : tie.Need-put-number-requires Inv-loop μ-loop
 put-number-requires c κs = search needs
 
+-- places: the way back from where an answer stands to what it uses
+abbrev Start·loop-again : tie.After-slice-known2 Inv-loop μ-loop → tie.Start Inv-loop μ-loop
+Start·loop-again c = c .before .before .before .before .before .before .before .before .before .before .before .before .before .before .before .before .before
+
+-- end of places
+
 add-row : tie.Need-add-row Inv-loop μ-loop
-add-row c = omega (arith, div-le-self (length (c .before .before .before .before .before .before .before .before .before .before .before .before .before .before .before .before .before .args .e .now)) 8, c .before .before .before .before .before .loop-test .taken)
+add-row c = omega (arith, div-le-self (length (Start·loop-again c .args .e .now)) 8, c .before .before .before .before .before .loop-test .taken)
 
 loop-less : tie.Need-loop-less Inv-loop μ-loop
 loop-less c = omega (arith, c .before .before .before .before .before .loop-test .taken)
@@ -38,7 +44,7 @@ loop-again : tie.Need-loop-again Inv-loop μ-loop
 loop-again c =
     let l = c .before .before .before .before .before .before .loop in
     let put = c .before .before .put-number .ensures in
-    let room : l .row < length (l .nested) = omega (arith, c .before .before .before .before .before .loop-test .taken, c .before .before .before .before .before .before .before .before .before .before .before .before .before .before .before .before .before .pre .1, l .inv .0) in
+    let room : l .row < length (l .nested) = omega (arith, c .before .before .before .before .before .loop-test .taken, Start·loop-again c .pre .1, l .inv .0) in
     (ap length put ∙ length-set (l .nested) (l .row) _ ∙ l .inv .0, λ c₁ f x. holds-turn _ _ _ _ _ room (c .before .before .before .before .link-feature .ensures c₁ f x) put (l .inv .1 c₁ f x))
 
 same-length : tie.Need-same-length Inv-loop μ-loop

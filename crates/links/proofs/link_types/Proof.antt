@@ -22,10 +22,25 @@ Inv-loop bytes n p i t q u r extends₀ inverse₀ count row₀ extends inverse 
 abbrev μ-loop : tie.MeasureT-loop
 μ-loop bytes n p i t q u r extends₀ inverse₀ count row₀ extends inverse row = length u / 9 - row
 
+-- places: the way back from where an answer stands to what it uses
+abbrev Start·link-at-requires : tie.In-loop Inv-loop μ-loop → tie.Start Inv-loop μ-loop
+Start·link-at-requires c = c .before .before .before .before .before .before .before .before .before .before .before .before
+
+abbrev Start·link-at-requires-2 : tie.After-slice-known3 Inv-loop μ-loop → tie.Start Inv-loop μ-loop
+Start·link-at-requires-2 c = Start·link-at-requires (c .before .before .before .before .before)
+
+abbrev In-loop·loop-again : tie.After-slice-known4 Inv-loop μ-loop → tie.In-loop Inv-loop μ-loop
+In-loop·loop-again c = c .before .before .before .before .before .before .before .before .before .before
+
+abbrev Start·loop-again : tie.After-slice-known4 Inv-loop μ-loop → tie.Start Inv-loop μ-loop
+Start·loop-again c = Start·link-at-requires-2 (c .before .before .before .before .before)
+
+-- end of places
+
 -- the row stands in U
 module _ (c : tie.In-loop Inv-loop μ-loop) where
   within : c .before .loop .row * 9 + 9 ≤ length (c .before .before .before .before .before .before .before .before .before .before .before .before .args .u .now)
-  within = row-within (length (c .before .before .before .before .before .before .before .before .before .before .before .before .args .u .now)) 9 (c .before .loop .row) (c .loop-test .taken)
+  within = row-within (length (Start·link-at-requires c .args .u .now)) 9 (c .before .loop .row) (c .loop-test .taken)
 
 loop-holds : tie.Need-loop-holds Inv-loop μ-loop
 loop-holds c = (refl, refl, λ c₁ f x e. holds-none _ _, λ c₁ f x e. holds-none _ _)
@@ -37,7 +52,7 @@ add-link-at : tie.Need-add-link-at Inv-loop μ-loop
 add-link-at c = omega (arith, within c)
 
 link-at-requires : tie.Need-link-at-requires Inv-loop μ-loop
-link-at-requires c κs = (c .before .before .before .before .before .before .before .before .before .before .before .before .pre .0, omega (arith, c .loop-test .taken, c .before .before .before .before .before .before .before .before .before .before .before .before .pre .0), omega (arith, within c))
+link-at-requires c κs = (Start·link-at-requires c .pre .0, omega (arith, c .loop-test .taken, Start·link-at-requires c .pre .0), omega (arith, within c))
 
 put-number-requires : tie.Need-put-number-requires Inv-loop μ-loop
 put-number-requires c κs = search needs
@@ -49,25 +64,25 @@ add-link-at-2 : tie.Need-add-link-at-2 Inv-loop μ-loop
 add-link-at-2 c = omega (arith, within (c .before .before .before .before .before))
 
 link-at-requires-2 : tie.Need-link-at-requires-2 Inv-loop μ-loop
-link-at-requires-2 c κs = (c .before .before .before .before .before .before .before .before .before .before .before .before .before .before .before .before .before .pre .0, omega (arith, c .before .before .before .before .before .loop-test .taken, c .before .before .before .before .before .before .before .before .before .before .before .before .before .before .before .before .before .pre .0), omega (arith, within (c .before .before .before .before .before)))
+link-at-requires-2 c κs = (Start·link-at-requires-2 c .pre .0, omega (arith, c .before .before .before .before .before .loop-test .taken, Start·link-at-requires-2 c .pre .0), omega (arith, within (c .before .before .before .before .before)))
 
 put-number-requires-2 : tie.Need-put-number-requires-2 Inv-loop μ-loop
 put-number-requires-2 c κs = search needs
 
 add-row : tie.Need-add-row Inv-loop μ-loop
-add-row c = omega (arith, div-le-self (length (c .before .before .before .before .before .before .before .before .before .before .before .before .before .before .before .before .before .before .before .before .before .before .args .u .now)) 9, c .before .before .before .before .before .before .before .before .before .before .loop-test .taken)
+add-row c = omega (arith, div-le-self (length (Start·loop-again c .args .u .now)) 9, In-loop·loop-again c .loop-test .taken)
 
 loop-less : tie.Need-loop-less Inv-loop μ-loop
-loop-less c = omega (arith, c .before .before .before .before .before .before .before .before .before .before .loop-test .taken)
+loop-less c = omega (arith, In-loop·loop-again c .loop-test .taken)
 
 loop-again : tie.Need-loop-again Inv-loop μ-loop
 loop-again c =
     let l = c .before .before .before .before .before .before .before .before .before .before .before .loop in
-    let below = c .before .before .before .before .before .before .before .before .before .before .loop-test .taken in
+    let below = In-loop·loop-again c .loop-test .taken in
     let put = c .before .before .before .before .before .before .before .put-number .ensures in
     let put2 = c .before .before .put-number2 .ensures in
-    let room : l .row < length (l .extends) = omega (arith, below, c .before .before .before .before .before .before .before .before .before .before .before .before .before .before .before .before .before .before .before .before .before .before .pre .1, l .inv .0) in
-    let room2 : l .row < length (l .inverse) = omega (arith, below, c .before .before .before .before .before .before .before .before .before .before .before .before .before .before .before .before .before .before .before .before .before .before .pre .2, l .inv .1) in (
+    let room : l .row < length (l .extends) = omega (arith, below, Start·loop-again c .pre .1, l .inv .0) in
+    let room2 : l .row < length (l .inverse) = omega (arith, below, Start·loop-again c .pre .2, l .inv .1) in (
       ap length put ∙ length-set (l .extends) (l .row) _ ∙ l .inv .0,
       ap length put2 ∙ length-set (l .inverse) (l .row) _ ∙ l .inv .1,
       λ c₁ f x e. holds-turn _ _ _ _ _ room (extends-at _ _ _ (c .before .before .before .before .before .before .before .before .before .link-at .ensures c₁ f x e)) put (l .inv .2 c₁ f x e),

@@ -52,14 +52,20 @@ has-key-requires c κs = omega (arith, within c)
 returns : tie.Need-returns Inv-loop μ-loop
 returns c = sym (c .before .before .before .loop .inv ∙ ap firstOf (keep-hit (test (c .before .before .before .before .before .before .before)) (c .before .before .before .loop .row) (count (c .before .before .before .before .before .before .before)) (c .before .before .loop-test .taken) (sym (tested (c .before)) ∙ c .if1 .taken)))
 
+-- places: the way back from where an answer stands to what it uses
+abbrev Start·loop-again : tie.Else1 Inv-loop μ-loop → tie.Start Inv-loop μ-loop
+Start·loop-again c = c .before .before .before .before .before .before .before
+
+-- end of places
+
 add-row : tie.Need-add-row Inv-loop μ-loop
-add-row c = omega (arith, div-le-self (length (c .before .before .before .before .before .before .before .args .table .now)) (c .before .before .before .before .before .before .before .args .width), c .before .before .loop-test .taken)
+add-row c = omega (arith, div-le-self (length (Start·loop-again c .args .table .now)) (Start·loop-again c .args .width), c .before .before .loop-test .taken)
 
 loop-less : tie.Need-loop-less Inv-loop μ-loop
 loop-less c = omega (arith, c .before .before .loop-test .taken)
 
 loop-again : tie.Need-loop-again Inv-loop μ-loop
-loop-again c = c .before .before .before .loop .inv ∙ ap firstOf (keep-miss (test (c .before .before .before .before .before .before .before)) (c .before .before .before .loop .row) (count (c .before .before .before .before .before .before .before)) (c .before .before .loop-test .taken) (sym (tested (c .before)) ∙ c .if1 .left))
+loop-again c = c .before .before .before .loop .inv ∙ ap firstOf (keep-miss (test (Start·loop-again c)) (c .before .before .before .loop .row) (count (Start·loop-again c)) (c .before .before .loop-test .taken) (sym (tested (c .before)) ∙ c .if1 .left))
 
 returns-2 : tie.Need-returns-2 Inv-loop μ-loop
 returns-2 c = sym (c .before .loop .inv ∙ ap firstOf (keep-done (test (c .before .before .before .before .before)) (c .before .loop .row) (count (c .before .before .before .before .before)) (omega arith)))

@@ -96,22 +96,31 @@ resolve-in-package-requires c κs = search needs
 is-found-requires : tie.Need-is-found-requires Inv-loop μ-loop
 is-found-requires c κs = search needs
 
+-- places: the way back from where an answer stands to what it uses
+abbrev Start·returns-2 : tie.Then1 Inv-loop μ-loop → tie.Start Inv-loop μ-loop
+Start·returns-2 c = c .before .before .before .before .before .before .before .before .before .before .before .before .before .before .before .before
+
+abbrev Start·loop-again : tie.Else1 Inv-loop μ-loop → tie.Start Inv-loop μ-loop
+Start·loop-again c = c .before .before .before .before .before .before .before .before .before .before .before .before .before .before .before .before
+
+-- end of places
+
 returns-2 : tie.Need-returns-2 Inv-loop μ-loop
 returns-2 c =
-    let s = c .before .before .before .before .before .before .before .before .before .before .before .before .before .before .before .before in
+    let s = Start·returns-2 c in
     λ c₁ f x e r name. import-hit (model s c₁ f x e r) (s .args .asking) (reference s name) (c .before .before .before .before .before .before .before .before .loop .start) _ (row-at (c .before .before .before .before) c₁ f x e r) _
     (imports (c .before .before) c₁ f x e r name) (sym (c .before .is-found .ensures) ∙ c .if1 .taken)
     ∙ sym (ap (found (model s c₁ f x e r)) (c .before .before .before .before .before .before .before .before .loop .inv c₁ f x e r name))
 
 add-start : tie.Need-add-start Inv-loop μ-loop
-add-start c = omega (arith, c .before .before .before .before .before .before .before .before .before .before .before .before .before .before .before .before .good, row-bound (c .before .before .before .before) .1)
+add-start c = omega (arith, Start·loop-again c .good, row-bound (c .before .before .before .before) .1)
 
 loop-less : tie.Need-loop-less Inv-loop μ-loop
 loop-less c = omega (arith, row-bound (c .before .before .before .before) .0, row-bound (c .before .before .before .before) .1)
 
 loop-again : tie.Need-loop-again Inv-loop μ-loop
 loop-again c =
-    let s = c .before .before .before .before .before .before .before .before .before .before .before .before .before .before .before .before in
+    let s = Start·loop-again c in
     λ c₁ f x e r name. c .before .before .before .before .before .before .before .before .loop .inv c₁ f x e r name
     ∙ import-miss (model s c₁ f x e r) (s .args .asking) (reference s name) (c .before .before .before .before .before .before .before .before .loop .start) _ (row-at (c .before .before .before .before) c₁ f x e r) _
     (imports (c .before .before) c₁ f x e r name) (sym (c .before .is-found .ensures) ∙ c .if1 .left)

@@ -100,18 +100,24 @@ returns-2 c =
 letter-requires : tie.Need-letter-requires Inv-loop μ-loop
 letter-requires c κs = tt
 
+-- places: the way back from where an answer stands to what it uses
+abbrev Start·count-line-requires : tie.After-letter Inv-loop μ-loop → tie.Start Inv-loop μ-loop
+Start·count-line-requires c = c .before .before .before .before .before .before .before .before .before
+
+-- end of places
+
 count-line-requires : tie.Need-count-line-requires Inv-loop μ-loop
 count-line-requires c κs =
     let l = c .before .before .before .before .before .before .before .loop in
     let i = c .before .before .before .before .before .index-from in
-    let s = c .before .before .before .before .before .before .before .before .before .args .sheet .now in
+    let s = Start·count-line-requires c .args .sheet .now in
     let g = faultless (c .before) in
     let k : c .letter .result ≡ rank (g .letter) = c .letter .ensures ∙ ap rankOf (g .known) in (
       rw k (rank-below (g .letter)),
       c .letter .ensures,
-      omega (arith, line-length s (l .from) (i .result) (omega arith) (i .ensures .1), c .before .before .before .before .before .before .before .before .before .pre),
-      omega (arith, l .inv .counted .bytes, l .inv .small, l .inv .within, c .before .before .before .before .before .before .before .before .before .pre),
-      rw k (omega (arith, l .inv .counted .numbers (g .letter), l .inv .few (g .letter), l .inv .within, c .before .before .before .before .before .before .before .before .before .pre)),
+      omega (arith, line-length s (l .from) (i .result) (omega arith) (i .ensures .1), Start·count-line-requires c .pre),
+      omega (arith, l .inv .counted .bytes, l .inv .small, l .inv .within, Start·count-line-requires c .pre),
+      rw k (omega (arith, l .inv .counted .numbers (g .letter), l .inv .few (g .letter), l .inv .within, Start·count-line-requires c .pre)),
     )
 
 add-from : tie.Need-add-from Inv-loop μ-loop

@@ -60,31 +60,40 @@ part-put-bytes-end c = search needs
 put-bytes-requires : tie.Need-put-bytes-requires Inv-loop μ-loop
 put-bytes-requires c κs = tt
 
+-- places: the way back from where an answer stands to what it uses
+abbrev index-from·loop-again : tie.After-slice-known2 Inv-loop μ-loop → tie.After-index-from Inv-loop μ-loop
+index-from·loop-again c = c .before .before .before .before .before .before
+
+abbrev Start·loop-again : tie.After-slice-known2 Inv-loop μ-loop → tie.Start Inv-loop μ-loop
+Start·loop-again c = index-from·loop-again c .before .before .before .before .before .before
+
+-- end of places
+
 sub-used : tie.Need-sub-used Inv-loop μ-loop
-sub-used c = long (c .before .before .before .before .before .before)
+sub-used c = long (index-from·loop-again c)
 
 add-used : tie.Need-add-used Inv-loop μ-loop
 add-used c =
     let l = c .before .before .before .before .before .before .before .before .before .loop in
-    let s = c .before .before .before .before .before .before .before .before .before .before .before .before .args .sheet .now in
-    let stop = c .before .before .before .before .before .before .index-from .result in
-    omega (arith, here (c .before .before .before .before .before .before) .size, names-room s (l .from) stop (here (c .before .before .before .before .before .before)) (c .before .before .before .before .before .before .before .before .before .before .before .before .args .bytes .now) (l .bytes) (each lineName (linesWith letterN (texts s))) (l .used) (l .inv), l .inv .size)
+    let s = Start·loop-again c .args .sheet .now in
+    let stop = index-from·loop-again c .index-from .result in
+    omega (arith, here (index-from·loop-again c) .size, names-room s (l .from) stop (here (index-from·loop-again c)) (Start·loop-again c .args .bytes .now) (l .bytes) (each lineName (linesWith letterN (texts s))) (l .used) (l .inv), l .inv .size)
 
 add-from : tie.Need-add-from Inv-loop μ-loop
-add-from c = omega (arith, here (c .before .before .before .before .before .before) .inside)
+add-from c = omega (arith, here (index-from·loop-again c) .inside)
 
 loop-less : tie.Need-loop-less Inv-loop μ-loop
-loop-less c = omega (arith, here (c .before .before .before .before .before .before) .inside, c .before .before .before .before .before .before .index-from .ensures .0)
+loop-less c = omega (arith, here (index-from·loop-again c) .inside, index-from·loop-again c .index-from .ensures .0)
 
 loop-again : tie.Need-loop-again Inv-loop μ-loop
 loop-again c =
     let l = c .before .before .before .before .before .before .before .before .before .loop in
-    let s = c .before .before .before .before .before .before .before .before .before .before .before .before .args .sheet .now in
-    let stop = c .before .before .before .before .before .before .index-from .result in
+    let s = Start·loop-again c .args .sheet .now in
+    let stop = index-from·loop-again c .index-from .result in
     let line = lineFrom s (l .from) stop in
-    names-turn s (l .from) stop (here (c .before .before .before .before .before .before)) _ (l .bytes) _ (l .used) (l .inv) _ _
+    names-turn s (l .from) stop (here (index-from·loop-again c)) _ (l .bytes) _ (l .used) (l .inv) _ _
     (c .before .before .put-bytes .ensures ∙ ap (sets (l .bytes) (l .used)) (take-all (length line - 2) (drop 2 line) (omega (arith, length-drop 2 line))))
-    (ap (λ (n : ℕ). l .used + (n - 2)) (here (c .before .before .before .before .before .before) .size))
+    (ap (λ (n : ℕ). l .used + (n - 2)) (here (index-from·loop-again c) .size))
 
 same-length : tie.Need-same-length Inv-loop μ-loop
 same-length c = search needs

@@ -88,20 +88,26 @@ room c =
 put-fields-requires : tie.Need-put-fields-requires Inv-loop μ-loop
 put-fields-requires c κs = (omega (arith, here (c .before .before) .size), room (c .before .before))
 
+-- places: the way back from where an answer stands to what it uses
+abbrev Then1·loop-again : tie.After-slice-known2 Inv-loop μ-loop → tie.Then1 Inv-loop μ-loop
+Then1·loop-again c = c .before .before .before .before .before
+
+-- end of places
+
 add-at : tie.Need-add-at Inv-loop μ-loop
-add-at c = omega (arith, room (c .before .before .before .before .before), c .before .before .before .before .before .before .before .loop .inv .size)
+add-at c = omega (arith, room (Then1·loop-again c), c .before .before .before .before .before .before .before .loop .inv .size)
 
 mul-from : tie.Need-mul-from Inv-loop μ-loop
-mul-from c = omega (arith, small (c .before .before .before .before .before))
+mul-from c = omega (arith, small (Then1·loop-again c))
 
 add-from : tie.Need-add-from Inv-loop μ-loop
-add-from c = omega (arith, small (c .before .before .before .before .before))
+add-from c = omega (arith, small (Then1·loop-again c))
 
 add-from-2 : tie.Need-add-from-2 Inv-loop μ-loop
-add-from-2 c = omega (arith, here (c .before .before .before .before .before) .inside)
+add-from-2 c = omega (arith, here (Then1·loop-again c) .inside)
 
 loop-less : tie.Need-loop-less Inv-loop μ-loop
-loop-less c = omega (arith, here (c .before .before .before .before .before) .inside)
+loop-less c = omega (arith, here (Then1·loop-again c) .inside)
 
 loop-again : tie.Need-loop-again Inv-loop μ-loop
 loop-again c =
@@ -110,7 +116,7 @@ loop-again c =
     let l = c .before .before .before .before .before .before .before .loop in
     let stop = l .from + (1 + 6 * getD widths (a .k) 0) in
     let line = lineFrom (a .sheet .now) (l .from) stop in
-    rows-turn (letterAt (a .k)) (a .sheet .now) (l .from) stop (here (c .before .before .before .before .before)) _ (l .table) _ (l .at) (l .inv) _ _ _
+    rows-turn (letterAt (a .k)) (a .sheet .now) (l .from) stop (here (Then1·loop-again c)) _ (l .table) _ (l .at) (l .inv) _ _ _
     (c .before .before .put-fields .ensures ∙ ap (sets (l .table) (l .at)) (row-written line (a .k) (p .0) (p .1)))
     (ap (λ (n : ℕ). l .at + n) (sym (row-count line (a .k) (p .0) (p .1))))
     (omega arith)

@@ -14,15 +14,69 @@ use Rattle.sheet_list.proofs.Tables.{taken, LentHere, counted, rows-wit
 use Rattle.sheet_list.proofs.list_sheet.Statement.{statement}
 use Rattle.sheet_list.proofs.list_sheet.Tie as tie
 
+-- places: the way back from where an answer stands to what it uses
+abbrev read-sheet·after : tie.After-k → tie.After-read-sheet
+read-sheet·after c = c .before .before .before .before .before .before .before .before .before .before .before .before .before .before
+
+abbrev clear-bytes·tell-requires : tie.After-tell-arg → tie.After-clear-bytes
+clear-bytes·tell-requires c = c .before .before .before .before .before .before .before .before .before .before .before .before .before .before .before .before .before .before .before .before .before .before .before .before .before .before .before .before .before .before .before
+
+abbrev read-sheet·returns : tie.After-slice-known3 → tie.After-read-sheet
+read-sheet·returns c = c .before .before .before .before .before .before .before .before .before .before .before .before .before .before .before .before .before .before .before
+
+abbrev clear-bytes·returns : tie.After-slice-known3 → tie.After-clear-bytes
+clear-bytes·returns c = clear-bytes·tell-requires (c .before .before .before)
+
+abbrev k·array-share-prefix-i : tie.After-struct-known5 → tie.After-k
+k·array-share-prefix-i c = c .before .before .before .before .before .before .before .before .before .before .before .before
+
+abbrev k·array-share-prefix-t : tie.After-struct-known6 → tie.After-k
+k·array-share-prefix-t c = k·array-share-prefix-i (c .before .before)
+
+abbrev k·array-share-prefix-q : tie.After-struct-known7 → tie.After-k
+k·array-share-prefix-q c = k·array-share-prefix-t (c .before .before)
+
+abbrev k·slice-aggregate-list-tables-9 : tie.After-q3 → tie.After-k
+k·slice-aggregate-list-tables-9 c = k·array-share-prefix-q (c .before)
+
+abbrev k·array-share-prefix-u : tie.After-struct-known8 → tie.After-k
+k·array-share-prefix-u c = k·slice-aggregate-list-tables-9 (c .before)
+
+abbrev k·slice-aggregate-list-tables-10 : tie.After-u3 → tie.After-k
+k·slice-aggregate-list-tables-10 c = k·array-share-prefix-u (c .before)
+
+abbrev k·array-share-prefix-e : tie.After-struct-known9 → tie.After-k
+k·array-share-prefix-e c = k·slice-aggregate-list-tables-10 (c .before)
+
+abbrev k·slice-aggregate-list-tables-11 : tie.After-e3 → tie.After-k
+k·slice-aggregate-list-tables-11 c = k·array-share-prefix-e (c .before)
+
+abbrev k·array-share-prefix-r : tie.After-struct-known10 → tie.After-k
+k·array-share-prefix-r c = k·slice-aggregate-list-tables-11 (c .before)
+
+abbrev k·slice-aggregate-list-tables-12 : tie.After-r3 → tie.After-k
+k·slice-aggregate-list-tables-12 c = k·array-share-prefix-r (c .before)
+
+abbrev clear-bytes·list-tables-requires : tie.After-list-tables-arg → tie.After-clear-bytes
+clear-bytes·list-tables-requires c = k·slice-aggregate-list-tables-12 (c .before) .before .before .before .before .before .before .before .before .before .before .before .before .before .before .before .before .before .before .before .before .before .before .before .before .before .before .before .before .before
+
+abbrev k·returns-2 : tie.After-slice-known4 → tie.After-k
+k·returns-2 c = k·slice-aggregate-list-tables-12 (c .before .before .before .before)
+
+abbrev clear-bytes·returns-2 : tie.After-slice-known4 → tie.After-clear-bytes
+clear-bytes·returns-2 c = clear-bytes·list-tables-requires (c .before .before .before)
+
+-- end of places
+
 -- the slices after the reader
 abbrev after : tie.After-k → Tables
 after c =
-    let l = c .before .before .before .before .before .before .before .before .before .before .before .before .before .before .read-sheet .last in
+    let l = read-sheet·after c .read-sheet .last in
     tablesOf (l .1 .0) (l .1 .1 .0) (l .1 .1 .1 .0) (l .1 .1 .1 .1 .0) (l .1 .1 .1 .1 .1 .0) (l .1 .1 .1 .1 .1 .1 .0) (l .1 .1 .1 .1 .1 .1 .1 .0) (l .1 .1 .1 .1 .1 .1 .1 .1 .0) (l .1 .1 .1 .1 .1 .1 .1 .1 .1 .0) (l .1 .1 .1 .1 .1 .1 .1 .1 .1 .1 .0) (l .1 .1 .1 .1 .1 .1 .1 .1 .1 .1 .1 .0) (l .1 .1 .1 .1 .1 .1 .1 .1 .1 .1 .1 .1 .0)
 
 after-lent : (c : tie.After-k) → LentHere (after c)
 after-lent c =
-    let k = c .before .before .before .before .before .before .before .before .before .before .before .before .before .before .read-sheet .kept in
+    let k = read-sheet·after c .read-sheet .kept in
     record {
       bytes = k .1 .0 ∙ length-replicate {A = ℕ} 16384 0;
       n = k .1 .1 .0 ∙ length-replicate {A = ℕ} 512 0;
@@ -40,17 +94,17 @@ after-lent c =
 
 -- what is handed on lies within them
 in-bytes : (c : tie.After-k) → c .k .given .0 .0 .bytes ≤ length (after c .bytes)
-in-bytes c = let r = c .before .before .before .before .before .before .before .before .before .before .before .before .before .before .read-sheet in bytes-within _ (r .result) (after c) (r .ensures) _ (c .k .given .1)
+in-bytes c = let r = read-sheet·after c .read-sheet in bytes-within _ (r .result) (after c) (r .ensures) _ (c .k .given .1)
 
 within : (c : tie.After-k) (l : Letter) → counted (c .k .given .0 .0) l * width l ≤ length (table (after c) l)
-within c l = let r = c .before .before .before .before .before .before .before .before .before .before .before .before .before .before .read-sheet in rows-within _ (r .result) (after c) (r .ensures) _ (c .k .given .1) l
+within c l = let r = read-sheet·after c .read-sheet in rows-within _ (r .result) (after c) (r .ensures) _ (c .k .given .1) l
 
 small : (c : tie.After-k) (l : Letter) → counted (c .k .given .0 .0) l * width l ≤ 864
-small c l = let r = c .before .before .before .before .before .before .before .before .before .before .before .before .before .before .read-sheet in rows-small _ (r .result) (after c) (r .ensures) _ (c .k .given .1) (after-lent c) l
+small c l = let r = read-sheet·after c .read-sheet in rows-small _ (r .result) (after c) (r .ensures) _ (c .k .given .1) (after-lent c) l
 
 -- the text of it is the definition's
 text-of : (c : tie.After-k) (n : ℕ) → printedOrRefusal n (taken (c .k .given .0 .0) (after c)) (bothAnswer room room namesLent (taken (c .k .given .0 .0) (after c))) ≡ ofReading n (readSheet lent (c .before .before .before .before .before .before .before .before .before .before .before .before .before .before .before .before .before .before .before .before .before .before .before .before .before .before .before .before .before .before .before .before .before .args .sheet .now))
-text-of c n = let r = c .before .before .before .before .before .before .before .before .before .before .before .before .before .before .read-sheet in text-read _ (r .result) (after c) (r .ensures) _ (c .k .given .1) n
+text-of c n = let r = read-sheet·after c .read-sheet in text-read _ (r .result) (after c) (r .ensures) _ (c .k .given .1) n
 
 clear-bytes-requires : tie.Need-clear-bytes-requires
 clear-bytes-requires c κs = search needs
@@ -98,7 +152,7 @@ enum-known-reason : tie.Need-enum-known-reason
 enum-known-reason c = search needs
 
 tell-requires : tie.Need-tell-requires
-tell-requires c κs = let d = c .before .before .before .before .before .before .before .before .before .before .before .before .before .before .before .before .before .before .before .before .before .before .before .before .before .before .before .before .before .before .before .clear-bytes in d .ensures ∙ ap zeros (sym (d .kept .0))
+tell-requires c κs = let d = clear-bytes·tell-requires c .clear-bytes in d .ensures ∙ ap zeros (sym (d .kept .0))
 
 enum-known-k : tie.Need-enum-known-k
 enum-known-k c = search needs
@@ -152,78 +206,78 @@ slice-aggregate-list-tables-6 : tie.Need-slice-aggregate-list-tables-6
 slice-aggregate-list-tables-6 c = sym (length-take-le _ _ (array-share-prefix-p (c .before)))
 
 mul-i : tie.Need-mul-i
-mul-i c = omega (arith, small (c .before .before .before .before .before .before .before .before .before .before .before .before) letterI)
+mul-i c = omega (arith, small (k·array-share-prefix-i c) letterI)
 
 array-share-prefix-i : tie.Need-array-share-prefix-i
-array-share-prefix-i c = within (c .before .before .before .before .before .before .before .before .before .before .before .before) letterI
+array-share-prefix-i c = within (k·array-share-prefix-i c) letterI
 
 slice-aggregate-list-tables-7 : tie.Need-slice-aggregate-list-tables-7
 slice-aggregate-list-tables-7 c = sym (length-take-le _ _ (within (c .before .before .before .before .before .before .before .before .before .before .before .before .before) letterI))
 
 mul-t : tie.Need-mul-t
-mul-t c = omega (arith, small (c .before .before .before .before .before .before .before .before .before .before .before .before .before .before) letterT)
+mul-t c = omega (arith, small (k·array-share-prefix-t c) letterT)
 
 array-share-prefix-t : tie.Need-array-share-prefix-t
-array-share-prefix-t c = within (c .before .before .before .before .before .before .before .before .before .before .before .before .before .before) letterT
+array-share-prefix-t c = within (k·array-share-prefix-t c) letterT
 
 slice-aggregate-list-tables-8 : tie.Need-slice-aggregate-list-tables-8
 slice-aggregate-list-tables-8 c = sym (length-take-le _ _ (within (c .before .before .before .before .before .before .before .before .before .before .before .before .before .before .before) letterT))
 
 mul-q : tie.Need-mul-q
-mul-q c = omega (arith, small (c .before .before .before .before .before .before .before .before .before .before .before .before .before .before .before .before) letterQ)
+mul-q c = omega (arith, small (k·array-share-prefix-q c) letterQ)
 
 array-share-prefix-q : tie.Need-array-share-prefix-q
-array-share-prefix-q c = within (c .before .before .before .before .before .before .before .before .before .before .before .before .before .before .before .before) letterQ
+array-share-prefix-q c = within (k·array-share-prefix-q c) letterQ
 
 slice-aggregate-list-tables-9 : tie.Need-slice-aggregate-list-tables-9
-slice-aggregate-list-tables-9 c = sym (length-take-le _ _ (within (c .before .before .before .before .before .before .before .before .before .before .before .before .before .before .before .before .before) letterQ))
+slice-aggregate-list-tables-9 c = sym (length-take-le _ _ (within (k·slice-aggregate-list-tables-9 c) letterQ))
 
 mul-u : tie.Need-mul-u
-mul-u c = omega (arith, small (c .before .before .before .before .before .before .before .before .before .before .before .before .before .before .before .before .before .before) letterU)
+mul-u c = omega (arith, small (k·array-share-prefix-u c) letterU)
 
 array-share-prefix-u : tie.Need-array-share-prefix-u
-array-share-prefix-u c = within (c .before .before .before .before .before .before .before .before .before .before .before .before .before .before .before .before .before .before) letterU
+array-share-prefix-u c = within (k·array-share-prefix-u c) letterU
 
 slice-aggregate-list-tables-10 : tie.Need-slice-aggregate-list-tables-10
-slice-aggregate-list-tables-10 c = sym (length-take-le _ _ (within (c .before .before .before .before .before .before .before .before .before .before .before .before .before .before .before .before .before .before .before) letterU))
+slice-aggregate-list-tables-10 c = sym (length-take-le _ _ (within (k·slice-aggregate-list-tables-10 c) letterU))
 
 mul-e : tie.Need-mul-e
-mul-e c = omega (arith, small (c .before .before .before .before .before .before .before .before .before .before .before .before .before .before .before .before .before .before .before .before) letterE)
+mul-e c = omega (arith, small (k·array-share-prefix-e c) letterE)
 
 array-share-prefix-e : tie.Need-array-share-prefix-e
-array-share-prefix-e c = within (c .before .before .before .before .before .before .before .before .before .before .before .before .before .before .before .before .before .before .before .before) letterE
+array-share-prefix-e c = within (k·array-share-prefix-e c) letterE
 
 slice-aggregate-list-tables-11 : tie.Need-slice-aggregate-list-tables-11
-slice-aggregate-list-tables-11 c = sym (length-take-le _ _ (within (c .before .before .before .before .before .before .before .before .before .before .before .before .before .before .before .before .before .before .before .before .before) letterE))
+slice-aggregate-list-tables-11 c = sym (length-take-le _ _ (within (k·slice-aggregate-list-tables-11 c) letterE))
 
 mul-r : tie.Need-mul-r
-mul-r c = omega (arith, small (c .before .before .before .before .before .before .before .before .before .before .before .before .before .before .before .before .before .before .before .before .before .before) letterR)
+mul-r c = omega (arith, small (k·array-share-prefix-r c) letterR)
 
 array-share-prefix-r : tie.Need-array-share-prefix-r
-array-share-prefix-r c = within (c .before .before .before .before .before .before .before .before .before .before .before .before .before .before .before .before .before .before .before .before .before .before) letterR
+array-share-prefix-r c = within (k·array-share-prefix-r c) letterR
 
 slice-aggregate-list-tables-12 : tie.Need-slice-aggregate-list-tables-12
-slice-aggregate-list-tables-12 c = sym (length-take-le _ _ (within (c .before .before .before .before .before .before .before .before .before .before .before .before .before .before .before .before .before .before .before .before .before .before .before) letterR))
+slice-aggregate-list-tables-12 c = sym (length-take-le _ _ (within (k·slice-aggregate-list-tables-12 c) letterR))
 
 list-tables-requires : tie.Need-list-tables-requires
-list-tables-requires c κs = let d = c .before .before .before .before .before .before .before .before .before .before .before .before .before .before .before .before .before .before .before .before .before .before .before .before .before .before .before .before .before .before .before .before .before .before .before .before .before .before .before .before .before .before .before .before .before .before .before .before .before .before .before .before .before .clear-bytes in d .ensures ∙ ap zeros (sym (d .kept .0))
+list-tables-requires c κs = let d = clear-bytes·list-tables-requires c .clear-bytes in d .ensures ∙ ap zeros (sym (d .kept .0))
 
 same-length : tie.Need-same-length
-same-length c = c .before .before .tell .kept .1 .0 ∙ c .before .before .before .before .before .before .before .before .before .before .before .before .before .before .before .before .before .before .before .before .before .before .before .before .before .before .before .before .before .before .before .before .before .before .clear-bytes .kept .0
+same-length c = c .before .before .tell .kept .1 .0 ∙ clear-bytes·returns c .clear-bytes .kept .0
 
 returns : tie.Need-returns
 returns c =
-    let r = c .before .before .before .before .before .before .before .before .before .before .before .before .before .before .before .before .before .before .before .read-sheet in
+    let r = read-sheet·returns c .read-sheet in
     let t = c .before .before .tell in
-    text-into _ _ _ _ (t .result) (t .last .1 .0) (c .before .before .before .before .before .before .before .before .before .before .before .before .before .before .before .before .before .before .before .before .before .before .before .before .before .before .before .before .before .before .before .before .before .before .clear-bytes .kept .0) (text-refused _ (r .result) _ (r .ensures) _ _ (c .before .before .before .before .before .reason .given .1)) (t .ensures)
+    text-into _ _ _ _ (t .result) (t .last .1 .0) (clear-bytes·returns c .clear-bytes .kept .0) (text-refused _ (r .result) _ (r .ensures) _ _ (c .before .before .before .before .before .reason .given .1)) (t .ensures)
 
 same-length-2 : tie.Need-same-length-2
-same-length-2 c = c .before .before .list-tables .kept .1 .1 .1 .1 .1 .1 .1 .1 .1 .1 .1 .1 .0 ∙ c .before .before .before .before .before .before .before .before .before .before .before .before .before .before .before .before .before .before .before .before .before .before .before .before .before .before .before .before .before .before .before .before .before .before .before .before .before .before .before .before .before .before .before .before .before .before .before .before .before .before .before .before .before .before .before .before .clear-bytes .kept .0
+same-length-2 c = c .before .before .list-tables .kept .1 .1 .1 .1 .1 .1 .1 .1 .1 .1 .1 .1 .0 ∙ clear-bytes·returns-2 c .clear-bytes .kept .0
 
 returns-2 : tie.Need-returns-2
 returns-2 c =
     let t = c .before .before .list-tables in
-    text-into _ _ _ _ (t .result) (t .last .1 .1 .1 .1 .1 .1 .1 .1 .1 .1 .1 .1 .0) (c .before .before .before .before .before .before .before .before .before .before .before .before .before .before .before .before .before .before .before .before .before .before .before .before .before .before .before .before .before .before .before .before .before .before .before .before .before .before .before .before .before .before .before .before .before .before .before .before .before .before .before .before .before .before .before .before .clear-bytes .kept .0) (text-of (c .before .before .before .before .before .before .before .before .before .before .before .before .before .before .before .before .before .before .before .before .before .before .before .before .before .before .before) _) (t .ensures)
+    text-into _ _ _ _ (t .result) (t .last .1 .1 .1 .1 .1 .1 .1 .1 .1 .1 .1 .1 .0) (clear-bytes·returns-2 c .clear-bytes .kept .0) (text-of (k·returns-2 c) _) (t .ensures)
 
 pub list-sheet-spec : {M : Type 1} → statement M
 list-sheet-spec =

@@ -35,15 +35,24 @@ find-partner-requires c κs = search needs
 enum-known-place : tie.Need-enum-known-place
 enum-known-place c = search needs
 
+-- places: the way back from where an answer stands to what it uses
+abbrev Start·put-number-requires : tie.After-put-number-arg → tie.Start
+Start·put-number-requires c = c .before .before .before .before .before .before .before .before .before .before .before .before .before
+
+abbrev Start·returns-3 : tie.After-slice-known2 → tie.Start
+Start·returns-3 c = Start·put-number-requires (c .before .before .before)
+
+-- end of places
+
 cast-put-number : tie.Need-cast-put-number
 cast-put-number c =
-    let s = c .before .before .before .before .before .before .before .before .before .before .before .before .before in
+    let s = Start·put-number-requires c in
     let i : c .before .before .place .given .0 .0 < s .args .count = partner-below _ _ _ _ _ _ (ap placeOf (sym (c .before .before .place .given .1)) ∙ c .before .before .before .before .find-partner .ensures) in
     omega (arith, i, s .pre .0)
 
 add-put-number : tie.Need-add-put-number
 add-put-number c =
-    let s = c .before .before .before .before .before .before .before .before .before .before .before .before .before in
+    let s = Start·put-number-requires c in
     let i : c .before .before .place .given .0 .0 < s .args .count = partner-below _ _ _ _ _ _ (ap placeOf (sym (c .before .before .place .given .1)) ∙ c .before .before .before .before .find-partner .ensures) in
     omega (arith, i, s .pre .0)
 
@@ -61,7 +70,7 @@ same-length-3 c = search needs
 
 returns-3 : tie.Need-returns-3
 returns-3 c =
-    let s = c .before .before .before .before .before .before .before .before .before .before .before .before .before .before .before .before in
+    let s = Start·returns-3 c in
     asked-at _ _ (s .args .memo .now) _ (s .args .name) (c .before .before .before .before .before .before .before .find-partner .ensures) _ (c .before .before .before .before .before .place .given .1) (c .before .before .put-number .ensures)
 
 same-length-4 : tie.Need-same-length-4

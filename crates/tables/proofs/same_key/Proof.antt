@@ -36,29 +36,35 @@ loop-holds c =
     let s = c .before .before .before in
     (omega arith, whole-left (allOf (same s)) 3)
 
+-- places: the way back from where an answer stands to what it uses
+abbrev Start·number-at-requires : tie.In-loop Inv-loop μ-loop → tie.Start Inv-loop μ-loop
+Start·number-at-requires c = c .before .before .before .before .before
+
+-- end of places
+
 mul-how : tie.Need-mul-how Inv-loop μ-loop
 mul-how c =
-    let s = c .before .before .before .before .before in
+    let s = Start·number-at-requires c in
     omega (arith, s .pre .0)
 
 add-how : tie.Need-add-how Inv-loop μ-loop
 add-how c =
-    let s = c .before .before .before .before .before in
+    let s = Start·number-at-requires c in
     omega (arith, s .pre .0)
 
 add-how-2 : tie.Need-add-how-2 Inv-loop μ-loop
 add-how-2 c =
-    let s = c .before .before .before .before .before in
+    let s = Start·number-at-requires c in
     omega (arith, s .pre .0, c .loop-test .taken)
 
 array-read-how : tie.Need-array-read-how Inv-loop μ-loop
 array-read-how c =
-    let s = c .before .before .before .before .before in
+    let s = Start·number-at-requires c in
     omega (arith, s .pre .0, c .loop-test .taken)
 
 add-number-at : tie.Need-add-number-at Inv-loop μ-loop
 add-number-at c =
-    let s = c .before .before .before .before .before in
+    let s = Start·number-at-requires c in
     omega (arith, s .pre .1, c .loop-test .taken)
 
 number-at-requires : tie.Need-number-at-requires Inv-loop μ-loop

@@ -110,34 +110,55 @@ trace-returns-3 t c = trace-end _ _ _ _ _ _ _ _ _ _ _ _ _ _ (c .before .before .
 trace-enum-known-row : (t : ℕ) → trace-lts.Need-enum-known-row (claims t) (trace-at t) trace.Post trace-Inv-loop trace-μ-loop
 trace-enum-known-row t c = search needs
 
+-- places: the way back from where an answer stands to what it uses
+abbrev first-step·trace-add-trace : (t : ℕ) → trace-lts.After-known-told (claims t) (trace-at t) trace.Post trace-Inv-loop trace-μ-loop → trace-lts.After-first-step (claims t) (trace-at t) trace.Post trace-Inv-loop trace-μ-loop
+first-step·trace-add-trace t c = c .before .before .before .before .before .before .before .before
+
+abbrev Start·trace-add-trace : (t : ℕ) → trace-lts.After-known-told (claims t) (trace-at t) trace.Post trace-Inv-loop trace-μ-loop → trace-lts.Start (claims t) (trace-at t) trace.Post trace-Inv-loop trace-μ-loop
+Start·trace-add-trace t c = first-step·trace-add-trace t c .before .before .before .before .before .before
+
+abbrev Start·trace-returns-4 : (t : ℕ) → trace-lts.After-enum-told6 (claims t) (trace-at t) trace.Post trace-Inv-loop trace-μ-loop → trace-lts.Start (claims t) (trace-at t) trace.Post trace-Inv-loop trace-μ-loop
+Start·trace-returns-4 t c = Start·trace-add-trace t (c .before .before .before .before .before .before)
+
+abbrev row·trace-loop-again : (t : ℕ) → trace-lts.After-known-told2 (claims t) (trace-at t) trace.Post trace-Inv-loop trace-μ-loop → trace-lts.After-row (claims t) (trace-at t) trace.Post trace-Inv-loop trace-μ-loop
+row·trace-loop-again t c = c .before .before .before .before .before .before .before .before
+
+abbrev next-step·trace-loop-again : (t : ℕ) → trace-lts.After-known-told2 (claims t) (trace-at t) trace.Post trace-Inv-loop trace-μ-loop → trace-lts.After-next-step (claims t) (trace-at t) trace.Post trace-Inv-loop trace-μ-loop
+next-step·trace-loop-again t c = row·trace-loop-again t c .before .before
+
+abbrev Start·trace-loop-again : (t : ℕ) → trace-lts.After-known-told2 (claims t) (trace-at t) trace.Post trace-Inv-loop trace-μ-loop → trace-lts.Start (claims t) (trace-at t) trace.Post trace-Inv-loop trace-μ-loop
+Start·trace-loop-again t c = Start·trace-add-trace t (c .before .before .before .before .before .before .before)
+
+-- end of places
+
 trace-cast-path : (t : ℕ) → trace-lts.Need-cast-path (claims t) (trace-at t) trace.Post trace-Inv-loop trace-μ-loop
 trace-cast-path t c =
-    let s = c .before .before .before .before .before .before .before .before .before .before .before .before .before .before in
+    let s = Start·trace-add-trace t c in
     let w = within-at _ _ _ (c .before .before .before .next-step .ensures .1) _ _ _ (c .before .row .given .1) in
     omega (arith, w .0, s .pre .1 .0 .1)
 
 trace-mul-path : (t : ℕ) → trace-lts.Need-mul-path (claims t) (trace-at t) trace.Post trace-Inv-loop trace-μ-loop
 trace-mul-path t c =
-    let s = c .before .before .before .before .before .before .before .before .before .before .before .before .before .before in
-    let b = begins-at _ _ _ _ _ _ (c .before .before .before .before .before .before .before .before .first-step .ensures) _ _ _ (c .before .before .before .before .before .before .enum-told4 .given .1) in
+    let s = Start·trace-add-trace t c in
+    let b = begins-at _ _ _ _ _ _ (first-step·trace-add-trace t c .first-step .ensures) _ _ _ (c .before .before .before .before .before .before .enum-told4 .given .1) in
     omega (arith, fit-room _ _ _ _ _ (s .pre .1 .1 .2) (b .0))
 
 trace-array-write-path : (t : ℕ) → trace-lts.Need-array-write-path (claims t) (trace-at t) trace.Post trace-Inv-loop trace-μ-loop
 trace-array-write-path t c =
-    let s = c .before .before .before .before .before .before .before .before .before .before .before .before .before .before in
-    let b = begins-at _ _ _ _ _ _ (c .before .before .before .before .before .before .before .before .first-step .ensures) _ _ _ (c .before .before .before .before .before .before .enum-told4 .given .1) in
+    let s = Start·trace-add-trace t c in
+    let b = begins-at _ _ _ _ _ _ (first-step·trace-add-trace t c .first-step .ensures) _ _ _ (c .before .before .before .before .before .before .enum-told4 .given .1) in
     omega (arith, s .pre .1 .1 .0, fit-room _ _ _ _ _ (s .pre .1 .1 .2) (b .0))
 
 trace-cast-t33 : (t : ℕ) → trace-lts.Need-cast-t33 (claims t) (trace-at t) trace.Post trace-Inv-loop trace-μ-loop
 trace-cast-t33 t c =
-    let s = c .before .before .before .before .before .before .before .before .before .before .before .before .before .before in
+    let s = Start·trace-add-trace t c in
     let w = within-at _ _ _ (c .before .before .before .next-step .ensures .1) _ _ _ (c .before .row .given .1) in
     omega (arith, w .1, s .pre .1 .0 .0)
 
 trace-add-trace : (t : ℕ) → trace-lts.Need-add-trace (claims t) (trace-at t) trace.Post trace-Inv-loop trace-μ-loop
 trace-add-trace t c =
-    let s = c .before .before .before .before .before .before .before .before .before .before .before .before .before .before in
-    let b = begins-at _ _ _ _ _ _ (c .before .before .before .before .before .before .before .before .first-step .ensures) _ _ _ (c .before .before .before .before .before .before .enum-told4 .given .1) in
+    let s = Start·trace-add-trace t c in
+    let b = begins-at _ _ _ _ _ _ (first-step·trace-add-trace t c .first-step .ensures) _ _ _ (c .before .before .before .before .before .before .enum-told4 .given .1) in
     omega (arith, fit-room _ _ _ _ _ (s .pre .1 .1 .2) (b .0))
 
 trace-sub-trace : (t : ℕ) → trace-lts.Need-sub-trace (claims t) (trace-at t) trace.Post trace-Inv-loop trace-μ-loop
@@ -162,7 +183,7 @@ trace-same-length-4 t c = c .before .before .before .before .trace2 .kept .1 .1 
 
 trace-returns-4 : (t : ℕ) → trace-lts.Need-returns-4 (claims t) (trace-at t) trace.Post trace-Inv-loop trace-μ-loop
 trace-returns-4 t c =
-    let s = c .before .before .before .before .before .before .before .before .before .before .before .before .before .before .before .before .before .before .before .before in
+    let s = Start·trace-returns-4 t c in
     let g = c .before .before .before .before .before .before .before .before .before .before .loop in
     let b = begins-at _ _ _ _ _ _ (c .before .before .before .before .before .before .before .before .before .before .before .before .before .before .first-step .ensures) _ _ _ (c .before .before .before .before .before .before .before .before .before .before .before .before .enum-told4 .given .1) in
     let e = step-at _ _ _ _ _ _ _ (c .before .before .before .before .before .before .before .before .before .next-step .ensures .0) _ _ _ (c .before .before .before .before .before .before .before .row .given .1) in
@@ -174,21 +195,21 @@ trace-enum-known-r t c = search needs
 
 trace-add-j : (t : ℕ) → trace-lts.Need-add-j (claims t) (trace-at t) trace.Post trace-Inv-loop trace-μ-loop
 trace-add-j t c =
-    let s = c .before .before .before .before .before .before .before .before .before .before .before .before .before .before .before .before .before .before .before .before .before in
-    let w = within-at _ _ _ (c .before .before .before .before .before .before .before .before .before .before .next-step .ensures .1) _ _ _ (c .before .before .before .before .before .before .before .before .row .given .1) in
+    let s = Start·trace-loop-again t c in
+    let w = within-at _ _ _ (next-step·trace-loop-again t c .next-step .ensures .1) _ _ _ (row·trace-loop-again t c .row .given .1) in
     omega (arith, w .1, s .pre .1 .0 .0)
 
 trace-loop-less : (t : ℕ) → trace-lts.Need-loop-less (claims t) (trace-at t) trace.Post trace-Inv-loop trace-μ-loop
 trace-loop-less t c =
-    let e = step-at _ _ _ _ _ _ _ (c .before .before .before .before .before .before .before .before .before .before .next-step .ensures .0) _ _ _ (c .before .before .before .before .before .before .before .before .row .given .1) in
+    let e = step-at _ _ _ _ _ _ _ (next-step·trace-loop-again t c .next-step .ensures .0) _ _ _ (row·trace-loop-again t c .row .given .1) in
     fewer _ _ _ e
 
 trace-loop-again : (t : ℕ) → trace-lts.Need-loop-again (claims t) (trace-at t) trace.Post trace-Inv-loop trace-μ-loop
 trace-loop-again t c =
-    let s = c .before .before .before .before .before .before .before .before .before .before .before .before .before .before .before .before .before .before .before .before .before in
+    let s = Start·trace-loop-again t c in
     let g = c .before .before .before .before .before .before .before .before .before .before .before .loop in
     let b = begins-at _ _ _ _ _ _ (c .before .before .before .before .before .before .before .before .before .before .before .before .before .before .before .first-step .ensures) _ _ _ (c .before .before .before .before .before .before .before .before .before .before .before .before .before .enum-told4 .given .1) in
-    let e = step-at _ _ _ _ _ _ _ (c .before .before .before .before .before .before .before .before .before .before .next-step .ensures .0) _ _ _ (c .before .before .before .before .before .before .before .before .row .given .1) in
+    let e = step-at _ _ _ _ _ _ _ (next-step·trace-loop-again t c .next-step .ensures .0) _ _ _ (row·trace-loop-again t c .row .given .1) in
     trace-turn _ _ _ _ _ _ _ _ (s .args .here .path) (s .args .here .len) (s .args .out .now) (s .args .count) (g .out) (g .done) _ _ _ (g .inv) e
     (omega (arith, s .pre .1 .1 .0, fit-room _ _ _ _ _ (s .pre .1 .1 .2) (b .0))) (c .before .before .before .before .before .trace2 .result) _ (c .before .before .before .before .before .trace2 .ensures) _ (c .before .r .given .1)
 

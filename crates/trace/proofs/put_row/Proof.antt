@@ -55,11 +55,23 @@ add-t17 c = search needs
 same-length : tie.Need-same-length
 same-length c = search needs
 
+-- places: the way back from where an answer stands to what it uses
+abbrev join·returns-2 : tie.After-slice-known3 → tie.After-join
+join·returns-2 c = c .before .before .before .before .before .before .before .before .before .before .before .before .before .before
+
+abbrev Else1·returns-2 : tie.After-slice-known3 → tie.Else1
+Else1·returns-2 c = join·returns-2 c .before .before .before
+
+abbrev Start·returns-2 : tie.After-slice-known3 → tie.Start
+Start·returns-2 c = Else1·returns-2 c .before .before .before
+
+-- end of places
+
 returns-2 : tie.Need-returns-2
 returns-2 c =
-    let s = c .before .before .before .before .before .before .before .before .before .before .before .before .before .before .before .before .before .before .before .before .args in
-    row-written _ _ _ _ _ _ _ _ (c .before .before .before .before .before .before .before .before .before .before .before .before .number-at .ensures) (c .before .before .before .before .before .before .before .before .before .before .before .number-at2 .ensures ∙ ap (λ (k : ℕ). getD (s .x .now) k 0) (let e : s .conn * 7 ≡ s .conn * 7 + 0 = omega arith in e)) (c .before .before .before .before .before .before .before .before .before .before .before .before .before .before .join .ensures .1 .0) (c .before .before .before .before .before .before .before .before .before .before .before .before .before .before .join .ensures .0)
-    _ _ _ _ (c .before .before .before .before .before .before .before .before .before .before .before .before .before .before .join .ensures .1 .1) (c .before .before .before .before .before .before .before .before .before .before .before .before .before .before .before .before .before .if1 .left) (c .before .before .before .before .before .before .before .put-numbers .ensures) (c .before .before .put-numbers2 .ensures)
+    let s = Start·returns-2 c .args in
+    row-written _ _ _ _ _ _ _ _ (c .before .before .before .before .before .before .before .before .before .before .before .before .number-at .ensures) (c .before .before .before .before .before .before .before .before .before .before .before .number-at2 .ensures ∙ ap (λ (k : ℕ). getD (s .x .now) k 0) (let e : s .conn * 7 ≡ s .conn * 7 + 0 = omega arith in e)) (join·returns-2 c .join .ensures .1 .0) (join·returns-2 c .join .ensures .0)
+    _ _ _ _ (join·returns-2 c .join .ensures .1 .1) (Else1·returns-2 c .if1 .left) (c .before .before .before .before .before .before .before .put-numbers .ensures) (c .before .before .put-numbers2 .ensures)
 
 pub put-row-spec : {M : Type 1} → statement M
 put-row-spec =

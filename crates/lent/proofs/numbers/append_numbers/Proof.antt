@@ -30,9 +30,15 @@ add-result-3 c = search needs
 same-length : tie.Need-same-length
 same-length c = search needs
 
+-- places: the way back from where an answer stands to what it uses
+abbrev Start·returns-3 : tie.After-slice-known2 → tie.Start
+Start·returns-3 c = c .before .before .before .before .before .before .before .before
+
+-- end of places
+
 returns-3 : tie.Need-returns-3
-returns-3 c = ap (λ (l : List ℕ). filled l (c .before .before .before .before .before .before .before .before .args .used + length (c .before .before .before .before .before .before .before .before .args .piece .now))) (c .before .before .put-numbers .ensures)
-    ∙ sym (append-fits (c .before .before .before .before .before .before .before .before .args .piece .now) (filled (c .before .before .before .before .before .before .before .before .args .out .now) (c .before .before .before .before .before .before .before .before .args .used)) (omega arith))
+returns-3 c = ap (λ (l : List ℕ). filled l (Start·returns-3 c .args .used + length (Start·returns-3 c .args .piece .now))) (c .before .before .put-numbers .ensures)
+    ∙ sym (append-fits (Start·returns-3 c .args .piece .now) (filled (Start·returns-3 c .args .out .now) (Start·returns-3 c .args .used)) (omega arith))
 
 pub append-numbers-spec : {M : Type 1} → statement M
 append-numbers-spec =

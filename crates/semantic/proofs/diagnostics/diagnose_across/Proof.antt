@@ -36,34 +36,55 @@ diagnose-if-requires c κs = let s = c .before .before .before .before .before .
 subcomponent-of-requires-2 : tie.Need-subcomponent-of-requires-2
 subcomponent-of-requires-2 c κs = search needs
 
+-- places: the way back from where an answer stands to what it uses
+abbrev Start·diagnose-if-requires-2 : tie.After-subcomponent-of2 → tie.Start
+Start·diagnose-if-requires-2 c = c .before .before .before .before .before .before .before .before .before .before .before .before .before .before .before .before
+
+abbrev Start·diagnose-if-requires-3 : tie.After-unequal → tie.Start
+Start·diagnose-if-requires-3 c = Start·diagnose-if-requires-2 (c .before .before .before .before .before)
+
+abbrev owner-of·returns : tie.After-slice-known4 → tie.After-owner-of
+owner-of·returns c = c .before .before .before .before .before .before .before .before .before .before .before .before .before .before .before .before
+
+abbrev count-named2·returns : tie.After-slice-known4 → tie.After-count-named2
+count-named2·returns c = owner-of·returns c .before
+
+abbrev count-named·returns : tie.After-slice-known4 → tie.After-count-named
+count-named·returns c = count-named2·returns c .before
+
+abbrev Start·returns : tie.After-slice-known4 → tie.Start
+Start·returns c = Start·diagnose-if-requires-3 (c .before .before .before)
+
+-- end of places
+
 diagnose-if-requires-2 : tie.Need-diagnose-if-requires-2
-diagnose-if-requires-2 c κs = let s = c .before .before .before .before .before .before .before .before .before .before .before .before .before .before .before .before in room-after _ _ _ _ _ (after-count _ _ _ _ _ (c .before .before .before .before .diagnose-if .ensures))
+diagnose-if-requires-2 c κs = let s = Start·diagnose-if-requires-2 c in room-after _ _ _ _ _ (after-count _ _ _ _ _ (c .before .before .before .before .diagnose-if .ensures))
 
 unequal-requires : tie.Need-unequal-requires
 unequal-requires c κs = search needs
 
 cast-diagnose-if : tie.Need-cast-diagnose-if
-cast-diagnose-if c = let s = c .before .before .before .before .before .before .before .before .before .before .before .before .before .before .before .before .before .before .before .before .before in omega (arith, c .before .before .before .before .before .before .before .before .before .before .before .before .before .before .before .count-named .ensures .1, s .pre .0)
+cast-diagnose-if c = let s = Start·diagnose-if-requires-3 c in omega (arith, c .before .before .before .before .before .before .before .before .before .before .before .before .before .before .before .count-named .ensures .1, s .pre .0)
 
 cast-diagnose-if-2 : tie.Need-cast-diagnose-if-2
-cast-diagnose-if-2 c = let s = c .before .before .before .before .before .before .before .before .before .before .before .before .before .before .before .before .before .before .before .before .before in omega (arith, c .before .before .before .before .before .before .before .before .before .before .before .before .before .before .count-named2 .ensures .1, s .pre .0)
+cast-diagnose-if-2 c = let s = Start·diagnose-if-requires-3 c in omega (arith, c .before .before .before .before .before .before .before .before .before .before .before .before .before .before .count-named2 .ensures .1, s .pre .0)
 
 diagnose-if-requires-3 : tie.Need-diagnose-if-requires-3
-diagnose-if-requires-3 c κs = let s = c .before .before .before .before .before .before .before .before .before .before .before .before .before .before .before .before .before .before .before .before .before in room-after _ _ _ _ _ (after-append _ _ _ _ _ _ _ _ (s .pre .2) (after-count _ _ _ _ _ (c .before .before .before .before .before .before .before .before .before .diagnose-if .ensures)) (c .before .before .before .before .diagnose-if2 .ensures))
+diagnose-if-requires-3 c κs = let s = Start·diagnose-if-requires-3 c in room-after _ _ _ _ _ (after-append _ _ _ _ _ _ _ _ (s .pre .2) (after-count _ _ _ _ _ (c .before .before .before .before .before .before .before .before .before .diagnose-if .ensures)) (c .before .before .before .before .diagnose-if2 .ensures))
 
 same-length : tie.Need-same-length
 same-length c = search needs
 
 returns : tie.Need-returns
 returns c =
-    let s = c .before .before .before .before .before .before .before .before .before .before .before .before .before .before .before .before .before .before .before .before .before .before .before .before in
+    let s = Start·returns c in
     let a = s .args in
     let m = wiringIn (a .bytes .now) (a .n .now) (a .c .now) (a .x .now) in
     written-as _ _ _ _ _ _ _ _
-    (across-diags m (a .i) _ _ _ _ _ _ (no-child _ _ _ _ _ (named m source (a .i)) _ (c .before .before .before .before .before .before .before .before .before .before .before .before .before .before .before .before .before .before .count-named .ensures .0) (c .before .before .before .before .before .before .before .before .before .before .before .before .before .subcomponent-of .ensures) refl)
-    (no-child _ _ _ _ _ (named m destination (a .i)) _ (c .before .before .before .before .before .before .before .before .before .before .before .before .before .before .before .before .before .count-named2 .ensures .0) (c .before .before .before .before .before .before .before .before .subcomponent-of2 .ensures) refl)
-    (c .before .before .before .before .before .before .before .before .before .before .before .before .before .before .before .resolve-connection-pattern .ensures ∙ pattern-same _ _ _ (a .x .now) _ ∙ ap (oneToOne m) (c .before .before .before .before .before .before .before .before .before .before .before .before .before .before .before .before .owner-of .ensures))
-    (c .before .before .before .before .before .before .before .before .before .before .before .before .before .before .before .before .before .before .count-named .ensures .0) (c .before .before .before .before .before .before .before .before .before .before .before .before .before .before .before .before .before .count-named2 .ensures .0) (c .before .before .before .unequal .ensures))
+    (across-diags m (a .i) _ _ _ _ _ _ (no-child _ _ _ _ _ (named m source (a .i)) _ (count-named·returns c .count-named .ensures .0) (c .before .before .before .before .before .before .before .before .before .before .before .before .before .subcomponent-of .ensures) refl)
+    (no-child _ _ _ _ _ (named m destination (a .i)) _ (count-named2·returns c .count-named2 .ensures .0) (c .before .before .before .before .before .before .before .before .subcomponent-of2 .ensures) refl)
+    (c .before .before .before .before .before .before .before .before .before .before .before .before .before .before .before .resolve-connection-pattern .ensures ∙ pattern-same _ _ _ (a .x .now) _ ∙ ap (oneToOne m) (owner-of·returns c .owner-of .ensures))
+    (count-named·returns c .count-named .ensures .0) (count-named2·returns c .count-named2 .ensures .0) (c .before .before .before .unequal .ensures))
     (after-append _ _ _ _ _ _ _ _ (s .pre .2) (after-append _ _ _ _ _ _ _ _ (s .pre .2) (after-count _ _ _ _ _ (c .before .before .before .before .before .before .before .before .before .before .before .before .diagnose-if .ensures)) (c .before .before .before .before .before .before .before .diagnose-if2 .ensures)) (c .before .before .diagnose-if3 .ensures))
 
 pub diagnose-across-spec : {M : Type 1} → statement M

@@ -53,14 +53,29 @@ returns-2 c = remains-end _ _ _ _ _ _ _ _ (c .before .before .before .loop .inv)
 enum-known-k : tie.Need-enum-known-k Inv-loop μ-loop
 enum-known-k c = search needs
 
+-- places: the way back from where an answer stands to what it uses
+abbrev Start·trace-beside-requires : tie.After-trace-beside-arg Inv-loop μ-loop → tie.Start Inv-loop μ-loop
+Start·trace-beside-requires c = c .before .before .before .before .before .before .before .before .before .before .before .before .before .before
+
+abbrev k·loop-again : tie.After-known-told2 Inv-loop μ-loop → tie.After-k Inv-loop μ-loop
+k·loop-again c = c .before .before .before .before .before .before .before .before
+
+abbrev next-named2·loop-again : tie.After-known-told2 Inv-loop μ-loop → tie.After-next-named2 Inv-loop μ-loop
+next-named2·loop-again c = k·loop-again c .before .before
+
+abbrev Start·loop-again : tie.After-known-told2 Inv-loop μ-loop → tie.Start Inv-loop μ-loop
+Start·loop-again c = Start·trace-beside-requires (c .before .before .before .before .before .before)
+
+-- end of places
+
 cast-t20 : tie.Need-cast-t20 Inv-loop μ-loop
 cast-t20 c =
     let w = inside-at _ _ _ (c .before .before .before .before .next-named2 .ensures .1) (c .before .before .k .given .1) in
-    omega (arith, w, c .before .before .before .before .before .before .before .before .before .before .before .before .before .before .pre .0)
+    omega (arith, w, Start·trace-beside-requires c .pre .0)
 
 trace-beside-requires : tie.Need-trace-beside-requires Inv-loop μ-loop
 trace-beside-requires c κs =
-    let s = c .before .before .before .before .before .before .before .before .before .before .before .before .before .before in
+    let s = Start·trace-beside-requires c in
     let g = c .before .before .before .before .before .loop in
     (s .pre .0, s .pre .1, rw (g .inv .size) (g .inv .room), s .pre .3)
 
@@ -81,18 +96,18 @@ enum-known-r c = search needs
 
 add-j : tie.Need-add-j Inv-loop μ-loop
 add-j c =
-    let w = inside-at _ _ _ (c .before .before .before .before .before .before .before .before .before .before .next-named2 .ensures .1) (c .before .before .before .before .before .before .before .before .k .given .1) in
-    omega (arith, w, c .before .before .before .before .before .before .before .before .before .before .before .before .before .before .before .before .before .before .before .before .pre .0)
+    let w = inside-at _ _ _ (next-named2·loop-again c .next-named2 .ensures .1) (k·loop-again c .k .given .1) in
+    omega (arith, w, Start·loop-again c .pre .0)
 
 loop-less : tie.Need-loop-less Inv-loop μ-loop
 loop-less c =
-    let e = after-at _ _ _ _ (c .before .before .before .before .before .before .before .before .before .before .next-named2 .ensures .0) (c .before .before .before .before .before .before .before .before .k .given .1) in
+    let e = after-at _ _ _ _ (next-named2·loop-again c .next-named2 .ensures .0) (k·loop-again c .k .given .1) in
     fewer _ _ _ e
 
 loop-again : tie.Need-loop-again Inv-loop μ-loop
 loop-again c =
     let g = c .before .before .before .before .before .before .before .before .before .before .before .loop in
-    let e = after-at _ _ _ _ (c .before .before .before .before .before .before .before .before .before .before .next-named2 .ensures .0) (c .before .before .before .before .before .before .before .before .k .given .1) in
+    let e = after-at _ _ _ _ (next-named2·loop-again c .next-named2 .ensures .0) (k·loop-again c .k .given .1) in
     remains-turn _ _ _ _ _ _ _ _ (g .inv) _ _ (all-next _ _ _ _ _ e) (c .before .before .before .before .before .trace-beside .result) _ (c .before .before .before .before .before .trace-beside .ensures) _ (c .before .r .given .1)
 
 pub trace-all-to-all-spec : {M : Type 1} → statement M

@@ -65,20 +65,32 @@ returns-2 c =
 enum-known-r : tie.Need-enum-known-r Inv-loop μ-loop
 enum-known-r c = search needs
 
+-- places: the way back from where an answer stands to what it uses
+abbrev k·loop-again : tie.After-known-told2 Inv-loop μ-loop → tie.After-k Inv-loop μ-loop
+k·loop-again c = c .before .before .before .before .before .before .before .before
+
+abbrev next-named·loop-again : tie.After-known-told2 Inv-loop μ-loop → tie.After-next-named Inv-loop μ-loop
+next-named·loop-again c = k·loop-again c .before .before
+
+abbrev Start·loop-again : tie.After-known-told2 Inv-loop μ-loop → tie.Start Inv-loop μ-loop
+Start·loop-again c = next-named·loop-again c .before .before .before .before .before .before .before
+
+-- end of places
+
 add-j : tie.Need-add-j Inv-loop μ-loop
 add-j c =
-    let w = inside-at _ _ _ (c .before .before .before .before .before .before .before .before .before .before .next-named .ensures .1) (c .before .before .before .before .before .before .before .before .k .given .1) in
-    omega (arith, w, c .before .before .before .before .before .before .before .before .before .before .before .before .before .before .before .before .before .pre .0)
+    let w = inside-at _ _ _ (next-named·loop-again c .next-named .ensures .1) (k·loop-again c .k .given .1) in
+    omega (arith, w, Start·loop-again c .pre .0)
 
 loop-less : tie.Need-loop-less Inv-loop μ-loop
 loop-less c =
-    let e = after-at _ _ _ _ (c .before .before .before .before .before .before .before .before .before .before .next-named .ensures .0) (c .before .before .before .before .before .before .before .before .k .given .1) in
+    let e = after-at _ _ _ _ (next-named·loop-again c .next-named .ensures .0) (k·loop-again c .k .given .1) in
     fewer _ _ _ e
 
 loop-again : tie.Need-loop-again Inv-loop μ-loop
 loop-again c =
     let g = c .before .before .before .before .before .before .before .before .before .before .before .loop in
-    let e = after-at _ _ _ _ (c .before .before .before .before .before .before .before .before .before .before .next-named .ensures .0) (c .before .before .before .before .before .before .before .before .k .given .1) in
+    let e = after-at _ _ _ _ (next-named·loop-again c .next-named .ensures .0) (k·loop-again c .k .given .1) in
     remains-turn _ _ _ _ _ _ _ _ (g .inv) _ _ (beside-next _ _ _ _ _ _ _ e) (c .before .before .before .before .before .trace-on .result) _ (c .before .before .before .before .before .trace-on .ensures) _ (c .before .r .given .1)
 
 pub trace-beside-spec : {M : Type 1} → statement M

@@ -59,19 +59,37 @@ returns-2 c =
     let e = after-at _ _ _ _ (c .before .before .before .before .before .before .next-named .ensures .0) (c .before .before .before .before .a .given .1) in
     remains-end _ _ _ _ _ _ _ _ (c .before .before .before .before .before .before .before .loop .inv) (zip-short _ _ _ _ _ _ e (after-nothing _ _ _ (c .before .before .next-named2 .ensures .0) (c .enum-told2 .given .1)))
 
+-- places: the way back from where an answer stands to what it uses
+abbrev Start·trace-pair-requires : tie.After-trace-pair-arg Inv-loop μ-loop → tie.Start Inv-loop μ-loop
+Start·trace-pair-requires c = c .before .before .before .before .before .before .before .before .before .before .before .before .before .before .before
+
+abbrev At-loop·returns-3 : tie.After-enum-told3 Inv-loop μ-loop → tie.At-loop Inv-loop μ-loop
+At-loop·returns-3 c = c .before .before .before .before .before .before .before .before .before .before .before .before .before .before
+
+abbrev a·loop-again : tie.After-known-told3 Inv-loop μ-loop → tie.After-a Inv-loop μ-loop
+a·loop-again c = c .before .before .before .before .before .before .before .before .before .before .before .before
+
+abbrev next-named·loop-again : tie.After-known-told3 Inv-loop μ-loop → tie.After-next-named Inv-loop μ-loop
+next-named·loop-again c = a·loop-again c .before .before
+
+abbrev Start·loop-again : tie.After-known-told3 Inv-loop μ-loop → tie.Start Inv-loop μ-loop
+Start·loop-again c = Start·trace-pair-requires (c .before .before .before .before .before .before)
+
+-- end of places
+
 cast-t20 : tie.Need-cast-t20 Inv-loop μ-loop
 cast-t20 c =
     let w = inside-at _ _ _ (c .before .before .before .before .before .before .before .before .next-named .ensures .1) (c .before .before .before .before .before .before .a .given .1) in
-    omega (arith, w, c .before .before .before .before .before .before .before .before .before .before .before .before .before .before .before .pre .0)
+    omega (arith, w, Start·trace-pair-requires c .pre .0)
 
 cast-t22 : tie.Need-cast-t22 Inv-loop μ-loop
 cast-t22 c =
     let w = inside-at _ _ _ (c .before .before .before .before .next-named2 .ensures .1) (c .before .before .b .given .1) in
-    omega (arith, w, c .before .before .before .before .before .before .before .before .before .before .before .before .before .before .before .pre .0)
+    omega (arith, w, Start·trace-pair-requires c .pre .0)
 
 trace-pair-requires : tie.Need-trace-pair-requires Inv-loop μ-loop
 trace-pair-requires c κs =
-    let s = c .before .before .before .before .before .before .before .before .before .before .before .before .before .before .before in
+    let s = Start·trace-pair-requires c in
     let g = c .before .before .before .before .before .before .before .before .before .loop in
     (s .pre .0, s .pre .1, rw (g .inv .size) (g .inv .room), s .pre .3)
 
@@ -79,11 +97,11 @@ enum-told-3 : tie.Need-enum-told-3 Inv-loop μ-loop
 enum-told-3 c = search needs
 
 same-length-3 : tie.Need-same-length-3 Inv-loop μ-loop
-same-length-3 c = c .before .before .before .before .trace-pair .kept .1 .1 .1 .1 .0 ∙ c .before .before .before .before .before .before .before .before .before .before .before .before .before .before .loop .inv .size
+same-length-3 c = c .before .before .before .before .trace-pair .kept .1 .1 .1 .1 .0 ∙ At-loop·returns-3 c .loop .inv .size
 
 returns-3 : tie.Need-returns-3 Inv-loop μ-loop
 returns-3 c =
-    let g = c .before .before .before .before .before .before .before .before .before .before .before .before .before .before .loop in
+    let g = At-loop·returns-3 c .loop in
     let e = after-at _ _ _ _ (c .before .before .before .before .before .before .before .before .before .before .before .before .before .next-named .ensures .0) (c .before .before .before .before .before .before .before .before .before .before .before .a .given .1) in
     let f = after-at _ _ _ _ (c .before .before .before .before .before .before .before .before .before .next-named2 .ensures .0) (c .before .before .before .before .before .before .before .b .given .1) in
     remains-full _ _ _ _ _ _ _ _ (g .inv) _ _ (zip-next _ _ _ _ _ _ _ _ e f) (c .before .before .before .before .trace-pair .result) _ (c .before .before .before .before .trace-pair .ensures) (c .enum-told3 .given .1) _
@@ -93,23 +111,23 @@ enum-known-r c = search needs
 
 add-s : tie.Need-add-s Inv-loop μ-loop
 add-s c =
-    let w = inside-at _ _ _ (c .before .before .before .before .before .before .before .before .before .before .before .before .before .before .next-named .ensures .1) (c .before .before .before .before .before .before .before .before .before .before .before .before .a .given .1) in
-    omega (arith, w, c .before .before .before .before .before .before .before .before .before .before .before .before .before .before .before .before .before .before .before .before .before .pre .0)
+    let w = inside-at _ _ _ (next-named·loop-again c .next-named .ensures .1) (a·loop-again c .a .given .1) in
+    omega (arith, w, Start·loop-again c .pre .0)
 
 add-d : tie.Need-add-d Inv-loop μ-loop
 add-d c =
     let w = inside-at _ _ _ (c .before .before .before .before .before .before .before .before .before .before .next-named2 .ensures .1) (c .before .before .before .before .before .before .before .before .b .given .1) in
-    omega (arith, w, c .before .before .before .before .before .before .before .before .before .before .before .before .before .before .before .before .before .before .before .before .before .pre .0)
+    omega (arith, w, Start·loop-again c .pre .0)
 
 loop-less : tie.Need-loop-less Inv-loop μ-loop
 loop-less c =
-    let e = after-at _ _ _ _ (c .before .before .before .before .before .before .before .before .before .before .before .before .before .before .next-named .ensures .0) (c .before .before .before .before .before .before .before .before .before .before .before .before .a .given .1) in
+    let e = after-at _ _ _ _ (next-named·loop-again c .next-named .ensures .0) (a·loop-again c .a .given .1) in
     fewer _ _ _ e
 
 loop-again : tie.Need-loop-again Inv-loop μ-loop
 loop-again c =
     let g = c .before .before .before .before .before .before .before .before .before .before .before .before .before .before .before .loop in
-    let e = after-at _ _ _ _ (c .before .before .before .before .before .before .before .before .before .before .before .before .before .before .next-named .ensures .0) (c .before .before .before .before .before .before .before .before .before .before .before .before .a .given .1) in
+    let e = after-at _ _ _ _ (next-named·loop-again c .next-named .ensures .0) (a·loop-again c .a .given .1) in
     let f = after-at _ _ _ _ (c .before .before .before .before .before .before .before .before .before .before .next-named2 .ensures .0) (c .before .before .before .before .before .before .before .before .b .given .1) in
     remains-turn _ _ _ _ _ _ _ _ (g .inv) _ _ (zip-next _ _ _ _ _ _ _ _ e f) (c .before .before .before .before .before .trace-pair .result) _ (c .before .before .before .before .before .trace-pair .ensures) _ (c .before .r .given .1)
 
