@@ -333,11 +333,14 @@ filled n l = l ++ zeros (n - length l)
 
 -- connection, kind, two components, three name fields, path length, "places for 41 connections of its path": of a traced row the fields are name
 -- numbers, of a group row the lengths of its names
+abbrev rowWidth : ℕ
+rowWidth = 49
+
 abbrev tracedRow : List ℕ
-tracedRow = filled 49 (1 ∷ 0 ∷ 1 ∷ 0 ∷ 11 ∷ 13 ∷ 14 ∷ 1 ∷ 1 ∷ [])
+tracedRow = filled rowWidth (1 ∷ 0 ∷ 1 ∷ 0 ∷ 11 ∷ 13 ∷ 14 ∷ 1 ∷ 1 ∷ [])
 
 abbrev groupRow : List ℕ
-groupRow = filled 49 (0 ∷ 0 ∷ 0 ∷ 0 ∷ 4 ∷ 3 ∷ 5 ∷ 1 ∷ 0 ∷ [])
+groupRow = filled rowWidth (0 ∷ 0 ∷ 0 ∷ 0 ∷ 4 ∷ 3 ∷ 5 ∷ 1 ∷ 0 ∷ [])
 
 abbrev tracedDiag : List ℕ
 tracedDiag = 1 ∷ 2 ∷ 0 ∷ 0 ∷ []
@@ -391,20 +394,20 @@ ofRooms =
     ∷ traces mixed none (tracedRow ++ zeros 3) (tracedDiag ++ zeros 2)
     ∷ traces mixed none tracedRow tracedDiag
     -- the path and its length
-    ∷ traces (model (acrossTop ("C k 1 - p t -" ∷ "X d 1 0 k u - f" ∷ []))) none (filled 49 (0 ∷ 3 ∷ 3 ∷ 2 ∷ 9 ∷ 19 ∷ 13 ∷ 2 ∷ 0 ∷ 1 ∷ [])) []
+    ∷ traces (model (acrossTop ("C k 1 - p t -" ∷ "X d 1 0 k u - f" ∷ []))) none (filled rowWidth (0 ∷ 3 ∷ 3 ∷ 2 ∷ 9 ∷ 19 ∷ 13 ∷ 2 ∷ 0 ∷ 1 ∷ [])) []
     -- 11: "more rows than the output holds", 12: "more diagnostics than the output holds", in this order; "A refusal leaves zeros"
-    ∷ traces mixed (over 11) (zeros 48) (zeros 3)
-    ∷ traces mixed (over 12) (zeros 49) (zeros 3)
-    ∷ groups mixed none (groupRow ++ zeros 50) (groupDiag ++ zeros 5) (composed ++ zeros 2)
+    ∷ traces mixed (over 11) (zeros (rowWidth - 1)) (zeros 3)
+    ∷ traces mixed (over 12) (zeros rowWidth) (zeros 3)
+    ∷ groups mixed none (groupRow ++ zeros (rowWidth + 1)) (groupDiag ++ zeros 5) (composed ++ zeros 2)
     ∷ groups mixed none groupRow groupDiag composed
     -- "Each row's names (row, source, destination) lie unseparated in the output of composed names"
     ∷ groups (model (own (withX ++ ("E 1 0 yy 3 - - - -" ∷ [])))) none
-    (filled 49 (0 ∷ 0 ∷ 0 ∷ 0 ∷ 3 ∷ 3 ∷ 3 ∷ 1 ∷ 0 ∷ []) ++ filled 49 (0 ∷ 4 ∷ 0 ∷ 0 ∷ 4 ∷ 4 ∷ 4 ∷ 1 ∷ 0 ∷ [])) []
+    (filled rowWidth (0 ∷ 0 ∷ 0 ∷ 0 ∷ 3 ∷ 3 ∷ 3 ∷ 1 ∷ 0 ∷ []) ++ filled rowWidth (0 ∷ 4 ∷ 0 ∷ 0 ∷ 4 ∷ 4 ∷ 4 ∷ 1 ∷ 0 ∷ [])) []
     (bytesOf "c.xg.xg.xc.yyg.yyg.yy")
     -- in the table's order 11, 14: "composed names longer than their output", 12
-    ∷ groups mixed (over 11) (zeros 48) (zeros 3) (zeros 11)
-    ∷ groups mixed (over 14) (zeros 49) (zeros 3) (zeros 11)
-    ∷ groups mixed (over 12) (zeros 49) (zeros 3) (zeros 12)
+    ∷ groups mixed (over 11) (zeros (rowWidth - 1)) (zeros 3) (zeros 11)
+    ∷ groups mixed (over 14) (zeros rowWidth) (zeros 3) (zeros 11)
+    ∷ groups mixed (over 12) (zeros rowWidth) (zeros 3) (zeros 12)
     -- 13 before them: "one endpoint has over 65,536 visits", at the source, at the destination, in a later connection, beside an end that gives none
     ∷ joinsNowhere (joining (end 65536) (end 65536) ∷ []) 11
     ∷ joinsNowhere (joining (end 65537) (end 1) ∷ []) 13
@@ -412,18 +415,18 @@ ofRooms =
     ∷ joinsNowhere (joining (end 1) (end 1) ∷ joining none (end 65537) ∷ []) 13
     -- both in one call
     ∷ both mixed none (tracedRow ∷ tracedDiag ∷ groupRow ∷ groupDiag ∷ composed ∷ [])
-    ∷ both mixed none (filled 99 tracedRow ∷ filled 9 tracedDiag ∷ filled 50 groupRow ∷ filled 7 groupDiag ∷ filled 13 composed ∷ [])
+    ∷ both mixed none (filled (rowWidth + 50) tracedRow ∷ filled 9 tracedDiag ∷ filled (rowWidth + 1) groupRow ∷ filled 7 groupDiag ∷ filled 13 composed ∷ [])
     -- "The traced listing ends, refusals included, before the group listing starts"
-    ∷ both mixed (over 11) (zeros 48 ∷ zeros 3 ∷ [] ∷ [] ∷ [] ∷ [])
-    ∷ both mixed (over 12) (zeros 49 ∷ zeros 3 ∷ [] ∷ [] ∷ [] ∷ [])
+    ∷ both mixed (over 11) (zeros (rowWidth - 1) ∷ zeros 3 ∷ [] ∷ [] ∷ [] ∷ [])
+    ∷ both mixed (over 12) (zeros rowWidth ∷ zeros 3 ∷ [] ∷ [] ∷ [] ∷ [])
     -- "A refusal leaves zeros in .. the listing's outputs, in both listings' where one call gives both"
-    ∷ both mixed (over 11) (zeros 49 ∷ zeros 4 ∷ zeros 48 ∷ zeros 3 ∷ zeros 11 ∷ [])
-    ∷ both mixed (over 14) (zeros 49 ∷ zeros 4 ∷ zeros 49 ∷ zeros 3 ∷ zeros 11 ∷ [])
-    ∷ both mixed (over 12) (zeros 49 ∷ zeros 4 ∷ zeros 49 ∷ zeros 3 ∷ zeros 12 ∷ [])
+    ∷ both mixed (over 11) (zeros rowWidth ∷ zeros 4 ∷ zeros (rowWidth - 1) ∷ zeros 3 ∷ zeros 11 ∷ [])
+    ∷ both mixed (over 14) (zeros rowWidth ∷ zeros 4 ∷ zeros rowWidth ∷ zeros 3 ∷ zeros 11 ∷ [])
+    ∷ both mixed (over 12) (zeros rowWidth ∷ zeros 4 ∷ zeros rowWidth ∷ zeros 3 ∷ zeros 12 ∷ [])
     -- tables that are not accepted are refused before any listing
-    ∷ traces parented badRoot (zeros 49) (zeros 4)
-    ∷ groups parented badRoot (zeros 48) (zeros 4) (zeros 12)
-    ∷ both parented badRoot (zeros 48 ∷ zeros 4 ∷ zeros 49 ∷ zeros 4 ∷ zeros 12 ∷ [])
+    ∷ traces parented badRoot (zeros rowWidth) (zeros 4)
+    ∷ groups parented badRoot (zeros (rowWidth - 1)) (zeros 4) (zeros 12)
+    ∷ both parented badRoot (zeros (rowWidth - 1) ∷ zeros 4 ∷ zeros rowWidth ∷ zeros 4 ∷ zeros 12 ∷ [])
     -- "A refusal prints only `R`, number, place, a space and the table letter or `-`"
     ∷ lists parented ("R     7     0 C" ∷ [])
     ∷ lists (change mixed letterN (λ t. t ++ (0 ∷ []))) ("R    10     0 N" ∷ [])

@@ -5,7 +5,7 @@ use Prim.Native.Nat.{ℕ, zero, suc}
 use lib.Dec.{eqb}
 use lib.ListN.{length}
 use Rattle.as5506.specs.Lists.{keep, when, isNil, each, upTo, sameBytes, has}
-use Rattle.as5506.specs.Tables.{Tables, present, Side, source, destination, other, nameOf, cCount, cName, cParent, cIndex, cPattern, childrenOf, xCount, xName, xOwner, xKind, xSub, xFeat, hasEnds, connectionsOf}
+use Rattle.as5506.specs.Tables.{Tables, present, Side, source, destination, other, nameOf, cCount, cName, cParent, hasIndex, cPattern, childrenOf, xCount, xName, xOwner, xKind, xSub, xFeat, hasEnds, connectionsOf}
 use Rattle.as5506.specs.Names.{sameFolded, bracket, baseName, isOneToOne}
 use Rattle.as5506.specs.Rows.{Row, Diag, diag}
 
@@ -17,7 +17,7 @@ isNamed m w i = sameBytes (nameOf m (cName m i)) w
 
 -- "children with an array index whose name up to the first `[` is equal folded"
 unfoldable pub isElement : Tables → List ℕ → ℕ → Bool
-isElement m w i = present (cIndex m i) && sameFolded (baseName (nameOf m (cName m i))) w
+isElement m w i = hasIndex m i && sameFolded (baseName (nameOf m (cName m i))) w
 
 -- "if none and the wanted name has no `[`": of the byte-equal children, and whether the wanted name has one
 unfoldable pub orElements : Bool → Tables → ℕ → List ℕ → List ℕ → List ℕ
