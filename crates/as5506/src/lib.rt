@@ -8,17 +8,54 @@ pub const SHEET_BYTES: usize = 16384;
 
 pub const TABLE_ROWS: usize = 4096;
 
+// The steps of a chain, at most.
 pub const STEPS: usize = 20;
+// Places for a connection and the steps of one chain.
+pub const CHAIN_PLACES: usize = STEPS + 1;
 
 pub const VISITS: u32 = 65536;
 // The letters in their order; a letter is known by its place in it.
 pub const LETTERS: [u8; 11] = *b"NCFXPITQUER";
-// The fields of a row, by letter.
-pub const WIDTHS: [usize; 11] = [2, 6, 3, 7, 1, 2, 3, 4, 9, 8, 5];
-// A listing's row: connection, kind, two components, three name fields, path length, 41 places.
-pub const ROW_NUMBERS: usize = 49;
+// The numbers of a row, by letter.
+pub const N_NUMBERS: usize = 2;
 
-pub const PATH_PLACES: usize = 41;
+pub const C_NUMBERS: usize = 6;
+
+pub const F_NUMBERS: usize = 3;
+
+pub const X_NUMBERS: usize = 7;
+
+pub const P_NUMBERS: usize = 1;
+
+pub const I_NUMBERS: usize = 2;
+
+pub const T_NUMBERS: usize = 3;
+
+pub const Q_NUMBERS: usize = 4;
+
+pub const U_NUMBERS: usize = 9;
+
+pub const E_NUMBERS: usize = 8;
+
+pub const R_NUMBERS: usize = 5;
+
+pub const WIDTHS: [usize; 11] = [
+    N_NUMBERS,
+    C_NUMBERS,
+    F_NUMBERS,
+    X_NUMBERS,
+    P_NUMBERS,
+    I_NUMBERS,
+    T_NUMBERS,
+    Q_NUMBERS,
+    U_NUMBERS,
+    E_NUMBERS,
+    R_NUMBERS,
+];
+// The path of a listing's row: a connection, the steps of its source's chain and those of its destination's.
+pub const PATH_PLACES: usize = CHAIN_PLACES + STEPS;
+// A listing's row: connection, kind, two components, three name fields, path length, the path's places.
+pub const ROW_NUMBERS: usize = 8 + PATH_PLACES;
 
 pub const DIAGNOSTIC_NUMBERS: usize = 4;
 // A feature of an expansion: name, kind, direction, length of its prefix, 10 places.

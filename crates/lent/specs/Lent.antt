@@ -1,4 +1,4 @@
--- Tables of which a call is lent some. The others are empty: what the contract of such a call says of these tables holds of the whole model, since the
+-- Tables of which a call is lent some. Where the others are empty, what the contract says of these tables holds of the whole model, since the
 -- definition asks for no other table there. Assumes nothing.
 use mathlib.Core.List.{List, []}
 use Prim.Native.Nat.{ℕ}
@@ -21,6 +21,10 @@ featuresIn bytes n f = tablesOf bytes n [] f [] [] [] [] [] [] [] []
 abbrev pub connectionsIn : List ℕ → List ℕ → List ℕ → Tables
 connectionsIn bytes n x = tablesOf bytes n [] [] x [] [] [] [] [] [] []
 
+-- U rows
+abbrev pub groupTypesIn : List ℕ → Tables
+groupTypesIn u = tablesOf [] [] [] [] [] [] [] [] [] u [] []
+
 -- E rows
 abbrev pub declaredIn : List ℕ → List ℕ → List ℕ → Tables
 declaredIn bytes n e = tablesOf bytes n [] [] [] [] [] [] [] [] e []
@@ -32,8 +36,47 @@ wiringIn bytes n c x = tablesOf bytes n c [] x [] [] [] [] [] [] []
 abbrev pub wiringOf : Tables → Tables
 wiringOf m = wiringIn (m .bytes) (m .n) (m .c) (m .x)
 
--- The tables in the slices that a contract names: `tablesLent` in a `requires`; in an `ensures` `tablesAt` and `wiringAt` as they are when
--- the call begins, and `tablesLeft` as it leaves them.
+-- A model of which some tables are lent, whatever its others are: o, with the lent ones in the place of its own.
+abbrev pub withNames : (bytes n : List ℕ) → Tables → Tables
+withNames bytes n o = tablesOf bytes n (o .c) (o .f) (o .x) (o .p) (o .i) (o .t) (o .q) (o .u) (o .e) (o .r)
+
+abbrev pub withC : List ℕ → Tables → Tables
+withC c o = tablesOf (o .bytes) (o .n) c (o .f) (o .x) (o .p) (o .i) (o .t) (o .q) (o .u) (o .e) (o .r)
+
+abbrev pub withF : List ℕ → Tables → Tables
+withF f o = tablesOf (o .bytes) (o .n) (o .c) f (o .x) (o .p) (o .i) (o .t) (o .q) (o .u) (o .e) (o .r)
+
+abbrev pub withP : List ℕ → Tables → Tables
+withP p o = tablesOf (o .bytes) (o .n) (o .c) (o .f) (o .x) p (o .i) (o .t) (o .q) (o .u) (o .e) (o .r)
+
+abbrev pub withI : List ℕ → Tables → Tables
+withI i o = tablesOf (o .bytes) (o .n) (o .c) (o .f) (o .x) (o .p) i (o .t) (o .q) (o .u) (o .e) (o .r)
+
+abbrev pub withT : List ℕ → Tables → Tables
+withT t o = tablesOf (o .bytes) (o .n) (o .c) (o .f) (o .x) (o .p) (o .i) t (o .q) (o .u) (o .e) (o .r)
+
+abbrev pub withQ : List ℕ → Tables → Tables
+withQ q o = tablesOf (o .bytes) (o .n) (o .c) (o .f) (o .x) (o .p) (o .i) (o .t) q (o .u) (o .e) (o .r)
+
+abbrev pub withU : List ℕ → Tables → Tables
+withU u o = tablesOf (o .bytes) (o .n) (o .c) (o .f) (o .x) (o .p) (o .i) (o .t) (o .q) u (o .e) (o .r)
+
+abbrev pub withE : List ℕ → Tables → Tables
+withE e o = tablesOf (o .bytes) (o .n) (o .c) (o .f) (o .x) (o .p) (o .i) (o .t) (o .q) (o .u) e (o .r)
+
+abbrev pub withR : List ℕ → Tables → Tables
+withR r o = tablesOf (o .bytes) (o .n) (o .c) (o .f) (o .x) (o .p) (o .i) (o .t) (o .q) (o .u) (o .e) r
+
+-- what a package holds: component types, implementations, group types
+abbrev pub withTypes : (t q u : List ℕ) → Tables → Tables
+withTypes t q u o = withT t (withQ q (withU u o))
+
+-- everything that a reference is resolved by: packages with their names, imports, types and renames
+abbrev pub withPackages : (bytes n p i t q u r : List ℕ) → Tables → Tables
+withPackages bytes n p i t q u r o = withNames bytes n (withP p (withI i (withTypes t q u (withR r o))))
+
+-- The tables in the slices that a contract names: `tablesLent` in a `requires`; in an `ensures` `tablesAt`, `wiringAt` and the like as they are
+-- when the call begins, and `tablesLeft` as it leaves them.
 abbrev pub Lent : Type 0
 Lent = RefT (List ℕ)
 
@@ -48,6 +91,17 @@ tablesAt bytes n c f x p i t q u e r =
 abbrev pub tablesLeft : (bytes n c f x p i t q u e r : Both Lent Lent) → Tables
 tablesLeft bytes n c f x p i t q u e r =
     tablesLent (bytes .exit) (n .exit) (c .exit) (f .exit) (x .exit) (p .exit) (i .exit) (t .exit) (q .exit) (u .exit) (e .exit) (r .exit)
+
+-- of a call that is lent all that references are resolved by
+abbrev pub packagesAt : (bytes n p i t q u r : Both Lent Lent) → Tables → Tables
+packagesAt bytes n p i t q u r o =
+    withPackages (now (bytes .entry)) (now (n .entry)) (now (p .entry)) (now (i .entry)) (now (t .entry)) (now (q .entry)) (now (u .entry)) (now (r .entry)) o
+
+abbrev pub componentsAt : (bytes n c : Both Lent Lent) → Tables
+componentsAt bytes n c = componentsIn (now (bytes .entry)) (now (n .entry)) (now (c .entry))
+
+abbrev pub connectionsAt : (bytes n x : Both Lent Lent) → Tables
+connectionsAt bytes n x = connectionsIn (now (bytes .entry)) (now (n .entry)) (now (x .entry))
 
 abbrev pub wiringAt : (bytes n c x : Both Lent Lent) → Tables
 wiringAt bytes n c x = wiringIn (now (bytes .entry)) (now (n .entry)) (now (c .entry)) (now (x .entry))

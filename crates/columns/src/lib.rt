@@ -1,0 +1,14 @@
+// The fields of the tables' rows, by name: which number of a row a field is stands here alone. A table is lent as one run of numbers, row behind row; a
+// row goes by its number, from 0. Every function takes any row number: past the end 0 is read.
+pub mod component;
+pub mod connection;
+pub mod declared;
+pub mod feature;
+mod field;
+pub mod group_type;
+
+// The two ends of a connection.
+pub enum Side {
+    Source,
+    Destination,
+}
