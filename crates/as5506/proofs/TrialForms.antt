@@ -22,7 +22,7 @@ use Rattle.as5506.specs.GroupList.{GroupConnection}
 use Rattle.as5506.specs.Listing.{Room, BothLists, groupOf, expansionWithin, expandAnswer, tracedAnswer, groupAnswer, bothAnswer}
 use Rattle.as5506.specs.Layout.{roomIn, output, featureNumbers, tracedRowNumbers, tracedDiagNumbers, groupRowNumbers, groupDiagNumbers, expansionNumbers, composedNames, ofTraced, ofGroup}
 use Rattle.as5506.specs.Text.{column}
-use Rattle.as5506.specs.Program.{lent, room, namesLent, textLent, printedOrRefusal, textAfter, conlist}
+use Rattle.as5506.specs.Program.{lent, textLent, conlistText, textAfter, conlist}
 use Rattle.as5506.proofs.Laws.{All, and-left, and-right, and-both}
 
 -- ---- sheets, and models in words
@@ -190,7 +190,7 @@ lengths l = l .bytes ∷ map (l .numbers) letters
 
 -- what conlist prints for tables
 abbrev pub listed : Tables → List ℕ
-listed m = printedOrRefusal textLent m (bothAnswer room room namesLent m)
+listed m = conlistText textLent m
 
 -- both listings in outputs of the given lengths, and each output afterwards
 abbrev pub bothIn : Tables → List (List ℕ) → Answer BothLists

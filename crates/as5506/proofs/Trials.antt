@@ -17,7 +17,7 @@ use Rattle.as5506.specs.GroupList.{isGroupFeature, typeOf, declaredGroup
 use Rattle.as5506.specs.Listing.{expansionWithin, expandOn, expandAnswer, tracedList, tracedWithin, rowNames, groupWithin, groupListOf, groupOf, tracedOn, tracedAnswer, groupOn, groupAnswer, withGroup, afterTraced, bothAnswer}
 use Rattle.as5506.specs.Layout.{featureBlock, expansionNumbers, tracedBlock, groupBlock, diagBlock, tracedRowNumbers, tracedDiagNumbers, groupRowNumbers, groupDiagNumbers, composedNames}
 use Rattle.as5506.specs.Text.{digitsWithin, digits, column, numberLine, textLine, rowText, message, pathNames, diagText, listText, refusalText, textWithin, printed}
-use Rattle.as5506.specs.Program.{textOrRefusal, printedOrRefusal, ofReading, whatFits, conlistWithin, textAfter, conlist}
+use Rattle.as5506.specs.Program.{textOrRefusal, printedOrRefusal, conlistText, ofReading, whatFits, conlistWithin, textAfter, conlist}
 use Rattle.as5506.proofs.Laws.{All}
 use Rattle.as5506.proofs.TrialForms.{Trial, Means, prints, lists, pattern, children, expands, whole, cut, text, offsets, every, all-meant}
 use Rattle.as5506.proofs.TrialsRead.{ofNames, ofSheets, ofLent, of10, of6, of7to9}
@@ -197,7 +197,7 @@ trialTable = starred ++ traps ++ further
 -- ---- THE PROOF
 
 table-passes : T (every trialTable)
-unfolding padded rowsNaming nameIn goodName folded key sameFolded baseName isOneToOne unspaced decimalFrom isDecimal fieldOf fieldsFit fieldNumbers lineWith linesOf letterOf linesWith keepsRules hasPlace isEarlier lineFaults faultsFrom sheetFaults placed rowsRead tablesRead readSheet tableAfter bytesAfter brokenRows tooManyRows badName faults10 allowsFrom badRow faults6 faults7 faults8 clashesFrom clashes faults9 faults accepted packageNamed typeNamed implNamed groupNamed renamesNamed typeHit inPackageBy inPackage inFound replacedBy replaced inNamed withPackage fromImports target renamesFor afterRename afterOwn withoutPackage resolveBy resolve turned featureBy featuresWalked extendedBy typeBy foundBy visitWithin expandFeatureGroup expand expansionWithin expandOn expandAnswer featureBlock expansionNumbers isNamed isElement orElements foundChildren leads stepsOver steps chainsBy chains shape named oneToOne pairsBy pairs appendNew rowOf pairRows rowsAt traced shown rows unlimited diagsBy diagsAt tracedDiags isGroupFeature typeOf declaredGroup classifierBy declaredBy typedBy endpointBy endpoint isGroupConnection endComponentBy endComponent groupConnection groupConnections overrun partner matchesBy matches dotted fullName connectionKind matchRow matchDiag rowsMatched diagsMatched tracedList tracedWithin rowNames groupWithin groupListOf groupOf tracedOn tracedAnswer groupOn groupAnswer withGroup afterTraced bothAnswer tracedBlock groupBlock diagBlock tracedRowNumbers tracedDiagNumbers groupRowNumbers groupDiagNumbers composedNames digitsWithin digits column numberLine textLine rowText message pathNames diagText listText refusalText textWithin printed textOrRefusal printedOrRefusal ofReading whatFits conlistWithin textAfter conlist
+unfolding padded rowsNaming nameIn goodName folded key sameFolded baseName isOneToOne unspaced decimalFrom isDecimal fieldOf fieldsFit fieldNumbers lineWith linesOf letterOf linesWith keepsRules hasPlace isEarlier lineFaults faultsFrom sheetFaults placed rowsRead tablesRead readSheet tableAfter bytesAfter brokenRows tooManyRows badName faults10 allowsFrom badRow faults6 faults7 faults8 clashesFrom clashes faults9 faults accepted packageNamed typeNamed implNamed groupNamed renamesNamed typeHit inPackageBy inPackage inFound replacedBy replaced inNamed withPackage fromImports target renamesFor afterRename afterOwn withoutPackage resolveBy resolve turned featureBy featuresWalked extendedBy typeBy foundBy visitWithin expandFeatureGroup expand expansionWithin expandOn expandAnswer featureBlock expansionNumbers isNamed isElement orElements foundChildren leads stepsOver steps chainsBy chains shape named oneToOne pairsBy pairs appendNew rowOf pairRows rowsAt traced shown rows unlimited diagsBy diagsAt tracedDiags isGroupFeature typeOf declaredGroup classifierBy declaredBy typedBy endpointBy endpoint isGroupConnection endComponentBy endComponent groupConnection groupConnections overrun partner matchesBy matches dotted fullName connectionKind matchRow matchDiag rowsMatched diagsMatched tracedList tracedWithin rowNames groupWithin groupListOf groupOf tracedOn tracedAnswer groupOn groupAnswer withGroup afterTraced bothAnswer tracedBlock groupBlock diagBlock tracedRowNumbers tracedDiagNumbers groupRowNumbers groupDiagNumbers composedNames digitsWithin digits column numberLine textLine rowText message pathNames diagText listText refusalText textWithin printed textOrRefusal printedOrRefusal conlistText ofReading whatFits conlistWithin textAfter conlist
 table-passes = tt
 
 -- EVERY TRIAL HOLDS

@@ -15,7 +15,9 @@ pub const CHAIN_PLACES: usize = STEPS + 1;
 
 pub const VISITS: u32 = 65536;
 // The letters in their order; a letter is known by its place in it.
-pub const LETTERS: [u8; 11] = *b"NCFXPITQUER";
+pub const LETTER_COUNT: usize = 11;
+
+pub const LETTERS: [u8; LETTER_COUNT] = *b"NCFXPITQUER";
 // The numbers of a row, by letter.
 pub const N_NUMBERS: usize = 2;
 
@@ -39,7 +41,7 @@ pub const E_NUMBERS: usize = 8;
 
 pub const R_NUMBERS: usize = 5;
 
-pub const WIDTHS: [usize; 11] = [
+pub const WIDTHS: [usize; LETTER_COUNT] = [
     N_NUMBERS,
     C_NUMBERS,
     F_NUMBERS,
@@ -62,6 +64,20 @@ pub const DIAGNOSTIC_NUMBERS: usize = 4;
 pub const FEATURE_NUMBERS: usize = 14;
 
 pub const PREFIX_PLACES: usize = 10;
+// What every program lends. For the tables of a sheet, of each letter (SHEET_BYTES for names):
+pub const N_ROWS_LENT: usize = 256;
+
+pub const ROWS_LENT: usize = 96;
+// For each listing, and for composed names:
+pub const LISTED_LENT: usize = 64;
+
+pub const DIAGNOSTICS_LENT: usize = 64;
+
+pub const NAMES_LENT: usize = 4096;
+// For text, and for the sheet: one byte more than it may have, so that a longer one is refused and not read on.
+pub const TEXT_LENT: usize = 8192;
+
+pub const SHEET_LENT: usize = SHEET_BYTES + 1;
 
 // A refusal as document 01 prints it: its number, its place (a line, a row, else 0) and the letter of the place's table, or `-`.
 pub struct Refusal {

@@ -2,14 +2,14 @@
 use mathlib.Core.Bool.{Bool, true, false}
 use mathlib.Core.Path.{_≡_, refl, sym, ap, ap₂, _∙_, subst}
 use mathlib.Core.List.{List, [], _∷_}
-use Prim.Native.Nat.{ℕ, _+_, _-_, _*_, _≤_, _<_}
-use native.Mathlib.Nat.{add-zero, sub-zero}
+use Prim.Native.Nat.{ℕ, _+_, _-_, _≤_, _<_}
+use native.Mathlib.Nat.{sub-zero}
 use native.Mathlib.Omega.{arith}
 use lib.Dec.{eqb}
-use lib.ListN.{length, getD}
+use lib.ListN.{length}
 use borrow.Author.Tests.{eq-eqb, ne-eqb}
 use Rattle.as5506.specs.Lists.{putIf, keep, isNil, has, sameBytes}
-use Rattle.as5506.specs.Tables.{Tables, missing, nameOf, rowsNaming, childrenOf, cCount, cParent, cIndex}
+use Rattle.as5506.specs.Tables.{Tables, nameOf, rowsNaming, childrenOf, cCount, cName, cParent, hasIndex}
 use Rattle.as5506.specs.Names.{sameFolded, bracket, baseName}
 use Rattle.as5506.specs.Tracing.{isNamed, isElement, orElements, foundChildren}
 use Rattle.as5506.proofs.Scans.{span-next, span-done, keep-put}
@@ -110,24 +110,23 @@ count-done l k n e h = omega (arith, ap length e, h)
 -- ---- one row
 
 module _ (m : Tables) (w : List ℕ) (i : ℕ) where
-  pub element-not : (v : ℕ) → v ≡ cIndex m i → v ≡ missing → false ≡ isElement m w i
+  pub element-not : (v : Bool) → v ≡ hasIndex m i → v ≡ false → false ≡ isElement m w i
   unfolding isElement
-  element-not v e f = rw (eq-eqb (cIndex m i) missing (sym e ∙ f))
+  element-not v e f = rw (sym e ∙ f)
 
-  pub element-is : (v k : ℕ) (own base s : List ℕ) (r : Bool) → v ≡ cIndex m i → (v ≡ missing → ⊥) → k ≡ getD (m .c) (i * 6) 0
+  pub element-is : (v : Bool) (k : ℕ) (own base s : List ℕ) (r : Bool) → v ≡ hasIndex m i → v ≡ true → k ≡ cName m i
       → own ≡ nameOf m k → base ≡ baseName own → s ≡ w → r ≡ sameFolded base s → r ≡ isElement m w i
   unfolding isElement
-  element-is v k own base s r e f g h b t q =
-      rw (ne-eqb (cIndex m i) missing (λ z. f (e ∙ z)), add-zero (i * 6)) (q ∙ ap₂ sameFolded (b ∙ ap baseName (h ∙ ap (nameOf m) g)) t)
+  element-is v k own base s r e f g h b t q = rw (sym e ∙ f) (q ∙ ap₂ sameFolded (b ∙ ap baseName (h ∙ ap (nameOf m) g)) t)
 
   pub other-parent : (rule : Rule) (v p : ℕ) → v ≡ cParent m i → (v ≡ p → ⊥) → false ≡ isFound m rule p w i
   unfolding isFound
   other-parent rule v p e f = rw (ne-eqb (cParent m i) p (λ z. f (e ∙ z)))
 
   module _ (rule : Rule) (v p : ℕ) (e : v ≡ cParent m i) (f : v ≡ p) where
-    pub child-exact : (k : ℕ) (r : Bool) → rule ≡ Exact → k ≡ getD (m .c) (i * 6) 0 → r ≡ sameBytes (nameOf m k) w → r ≡ isFound m rule p w i
+    pub child-exact : (k : ℕ) (r : Bool) → rule ≡ Exact → k ≡ cName m i → r ≡ sameBytes (nameOf m k) w → r ≡ isFound m rule p w i
     unfolding isFound fits isNamed
-    child-exact k r g h q = rw (eq-eqb (cParent m i) p (sym e ∙ f), g, add-zero (i * 6)) (q ∙ ap (λ (t : ℕ). sameBytes (nameOf m t) w) h)
+    child-exact k r g h q = rw (eq-eqb (cParent m i) p (sym e ∙ f), g) (q ∙ ap (λ (t : ℕ). sameBytes (nameOf m t) w) h)
 
     pub child-base : (r : Bool) → rule ≡ Base → r ≡ isElement m w i → r ≡ isFound m rule p w i
     unfolding isFound fits

@@ -1,12 +1,13 @@
 // The children of a component that a name finds (instance.rs, `find_children_by_name`). They are handed out one at a time, since nothing is lent to
 // hold them.
-use as5506::MISSING;
+use as5506::C_NUMBERS;
+use columns::component;
 ghost use mathlib.Core.Path.{_≡_};
-ghost use Prim.Native.Nat.{_+_, _*_, _/_, _<_, _≤_};
+ghost use Prim.Native.Nat.{_≤_};
 ghost use lib.ListN.{length};
-ghost use Rattle.as5506.specs.Tables.{nameIn};
+ghost use Rattle.as5506.specs.Tables.{nameOf, cCount};
 ghost use Rattle.as5506.specs.Tracing.{isElement, foundChildren};
-ghost use Rattle.lent.specs.Lent.{componentsIn};
+ghost use Rattle.lent.specs.Lent.{componentsAt};
 ghost use Rattle.children.specs.Found.{isFound, childrenFrom, ruleFor, foundFrom, afterChild, Inside};
 
 // How a name finds children.
@@ -25,13 +26,12 @@ pub enum Child {
 
 // Whether component i is an array element whose name before the bracket is the wanted one, case ignored.
 fn is_element(bytes: &[u8], n: &[u32], c: &[u32], wanted: u32, i: usize) -> bool
-    requires { ⌜ i < length (now c) / 6 ⌝ }
-    ensures { λ r. ⌜ r ≡ isElement (componentsIn (now (bytes .entry)) (now (n .entry)) (now (c .entry))) (nameIn (now (bytes .entry)) (now (n .entry)) wanted) i ⌝ }
+    ensures { λ r. ⌜ r ≡ isElement (componentsAt bytes n c) (nameOf (componentsAt bytes n c) wanted) i ⌝ }
 {
-    if lent::number_at(c, i * 6 + 2) == MISSING {
+    if !component::has_index(c, i) {
         return false;
     }
-    let own = name::name_of(bytes, n, lent::number_at(c, i * 6));
+    let own = name::name_of(bytes, n, component::name_of(c, i));
     name::same_folded(name::base_name_of(own), name::name_of(bytes, n, wanted))
 }
 
@@ -45,14 +45,13 @@ fn is_found(
     wanted: u32,
     i: usize,
 ) -> bool
-    requires { ⌜ i < length (now c) / 6 ⌝ }
-    ensures { λ r. ⌜ r ≡ isFound (componentsIn (now (bytes .entry)) (now (n .entry)) (now (c .entry))) rule owner (nameIn (now (bytes .entry)) (now (n .entry)) wanted) i ⌝ }
+    ensures { λ r. ⌜ r ≡ isFound (componentsAt bytes n c) rule owner (nameOf (componentsAt bytes n c) wanted) i ⌝ }
 {
-    if lent::number_at(c, i * 6 + 1) != owner {
+    if component::parent_of(c, i) != owner {
         return false;
     }
     match rule {
-        Rule::Exact => name::same_names(bytes, n, lent::number_at(c, i * 6), wanted),
+        Rule::Exact => name::same_names(bytes, n, component::name_of(c, i), wanted),
         Rule::Base => is_element(bytes, n, c, wanted, i),
     }
 }
@@ -67,11 +66,11 @@ fn next_by_rule(
     wanted: u32,
     from: usize,
 ) -> Child
-    ensures { λ r. ⌜ childrenFrom (componentsIn (now (bytes .entry)) (now (n .entry)) (now (c .entry))) rule owner (nameIn (now (bytes .entry)) (now (n .entry)) wanted) from
-        ≡ afterChild (childrenFrom (componentsIn (now (bytes .entry)) (now (n .entry)) (now (c .entry))) rule owner (nameIn (now (bytes .entry)) (now (n .entry)) wanted)) r ⌝ }
+    ensures { λ r. ⌜ childrenFrom (componentsAt bytes n c) rule owner (nameOf (componentsAt bytes n c) wanted) from
+        ≡ afterChild (childrenFrom (componentsAt bytes n c) rule owner (nameOf (componentsAt bytes n c) wanted)) r ⌝ }
     ensures { λ r. ⌜ Inside (now (c .entry)) r ⌝ }
 {
-    let count = c.len() / 6;
+    let count = c.len() / C_NUMBERS;
     let mut i = from;
     while i < count {
         if is_found(bytes, n, c, rule, owner, wanted, i) {
@@ -84,7 +83,7 @@ fn next_by_rule(
 
 // The rule by which a name finds children of a component: array elements only where no child has that very name and the name has no bracket.
 pub fn rule_for(bytes: &[u8], n: &[u32], c: &[u32], owner: u32, wanted: u32) -> Rule
-    ensures { λ r. ⌜ r ≡ ruleFor (componentsIn (now (bytes .entry)) (now (n .entry)) (now (c .entry))) owner (nameIn (now (bytes .entry)) (now (n .entry)) wanted) ⌝ }
+    ensures { λ r. ⌜ r ≡ ruleFor (componentsAt bytes n c) owner (nameOf (componentsAt bytes n c) wanted) ⌝ }
 {
     if let Child::At(_) = next_by_rule(bytes, n, c, Rule::Exact, owner, wanted, 0) {
         return Rule::Exact;
@@ -104,8 +103,8 @@ pub fn find_child_by_name(
     wanted: u32,
     from: usize,
 ) -> Child
-    ensures { λ r. ⌜ foundFrom (componentsIn (now (bytes .entry)) (now (n .entry)) (now (c .entry))) owner (nameIn (now (bytes .entry)) (now (n .entry)) wanted) from
-        ≡ afterChild (foundFrom (componentsIn (now (bytes .entry)) (now (n .entry)) (now (c .entry))) owner (nameIn (now (bytes .entry)) (now (n .entry)) wanted)) r ⌝ }
+    ensures { λ r. ⌜ foundFrom (componentsAt bytes n c) owner (nameOf (componentsAt bytes n c) wanted) from
+        ≡ afterChild (foundFrom (componentsAt bytes n c) owner (nameOf (componentsAt bytes n c) wanted)) r ⌝ }
     ensures { λ r. ⌜ Inside (now (c .entry)) r ⌝ }
 {
     let rule = rule_for(bytes, n, c, owner, wanted);
@@ -114,11 +113,11 @@ pub fn find_child_by_name(
 
 // How many children the wanted name finds.
 pub fn count_children(bytes: &[u8], n: &[u32], c: &[u32], owner: u32, wanted: u32) -> usize
-    ensures { λ r. ⌜ r ≡ length (foundChildren (componentsIn (now (bytes .entry)) (now (n .entry)) (now (c .entry))) owner (nameIn (now (bytes .entry)) (now (n .entry)) wanted)) ⌝ }
-    ensures { λ r. ⌜ r ≤ length (now (c .entry)) / 6 ⌝ }
+    ensures { λ r. ⌜ r ≡ length (foundChildren (componentsAt bytes n c) owner (nameOf (componentsAt bytes n c) wanted)) ⌝ }
+    ensures { λ r. ⌜ r ≤ cCount (componentsAt bytes n c) ⌝ }
 {
     let rule = rule_for(bytes, n, c, owner, wanted);
-    let rows = c.len() / 6;
+    let rows = c.len() / C_NUMBERS;
     let mut i = 0;
     let mut found = 0;
     while i < rows {

@@ -54,3 +54,10 @@ pub fn type_of(e: &[u32], i: usize) -> u32
 {
     field_at(e, E_NUMBERS, i, 6)
 }
+
+// The classifier's implementation, or missing.
+pub fn implementation_of(e: &[u32], i: usize) -> u32
+    ensures { λ r. ⌜ r ≡ eClassifier (declaredIn [] [] (now (e .entry))) i .impl ⌝ }
+{
+    field_at(e, E_NUMBERS, i, 7)
+}

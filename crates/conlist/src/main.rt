@@ -1,12 +1,23 @@
-// conlist: reads a sheet on standard input and prints the list of its connections on standard output, or the line of a refusal. One byte more
-// than a sheet may have is read, so that a longer input is refused and not read on.
+// conlist: reads a sheet on standard input and prints the list of its connections on standard output, or the line of a refusal.
+use as5506::SHEET_LENT;
+use as5506::TEXT_LENT;
 use libc::STDIN_FILENO;
 use libc::STDOUT_FILENO;
+use on_sheet::Task;
+ghost use Rattle.as5506.specs.Program.{conlist as written};
+ghost use Rattle.on_sheet.specs.Tasks.{Writes};
+
+// THE PROGRAM: the text for the bytes that were read. One byte more than a sheet may have is read, so that a longer input is refused and not read on.
+fn conlist(read: &[u8; SHEET_LENT], got: usize, text: &mut [u8; TEXT_LENT]) -> usize
+    ensures { λ z. ⌜ Writes written (now (read .entry)) got z (now (text .exit)) ⌝ }
+{
+    on_sheet::on_sheet(Task::Conlist, lent::part(read, 0, got), text)
+}
 
 fn main() {
-    let mut sheet = [0u8; 16385];
-    let got = io::read_full(STDIN_FILENO, &mut sheet);
-    let mut text = [0u8; 8192];
-    let used = sheet_list::list_sheet(&sheet[..got], &mut text);
+    let mut read = [0u8; SHEET_LENT];
+    let got = io::read_full(STDIN_FILENO, &mut read);
+    let mut text = [0u8; TEXT_LENT];
+    let used = conlist(&read, got, &mut text);
     io::write_all(STDOUT_FILENO, &text[..used]);
 }

@@ -3,7 +3,7 @@ ghost use mathlib.Core.Path.{_≡_};
 ghost use Rattle.lent.specs.Lent.{tablesAt};
 ghost use Rattle.listing.specs.Answer.{listed, outputs, answerFor, BothInto};
 ghost use Rattle.conlist_c.specs.Numbers.{bothNumbers};
-use listing::Both;
+use super::numbers;
 
 // Lists as `list_connections` does. `told` then holds 0, the traced rows and diagnostics and the group rows and diagnostics that were written, or a
 // refusal's number, place and letter and two zeros.
@@ -50,18 +50,5 @@ pub extern "C" fn conlist_list_connections(
         names,
         group_diagnostics,
     );
-    match answer {
-        Both::Rows(k, d, l, g) => {
-            *told = [0, k as u64, d as u64, l as u64, g as u64];
-        }
-        Both::Refused(reason) => {
-            *told = [
-                reason.number as u64,
-                reason.place as u64,
-                reason.letter as u64,
-                0,
-                0,
-            ];
-        }
-    }
+    *told = numbers::both(answer);
 }

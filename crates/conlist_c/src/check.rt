@@ -4,7 +4,7 @@ ghost use Rattle.lent.specs.Lent.{tablesAt};
 ghost use Rattle.as5506.specs.Refusals.{faults};
 ghost use Rattle.tables.specs.Answer.{checked};
 ghost use Rattle.conlist_c.specs.Numbers.{checkedNumbers};
-use tables::Checked;
+use super::numbers;
 
 // Checks as `check_tables` does. `told` then holds zeros, or a refusal's number, place and letter.
 #[no_mangle]
@@ -26,16 +26,5 @@ pub extern "C" fn conlist_check_tables(
     ensures { λ _. ⌜ now (told .exit) ≡ checkedNumbers (checked (faults (tablesAt bytes n c f x p i t q u e r))) ⌝ }
 {
     let answer = tables::check_tables(bytes, n, c, f, x, p, i, t, q, u, e, r);
-    match answer {
-        Checked::Accepted => {
-            *told = [0, 0, 0];
-        }
-        Checked::Refused(reason) => {
-            *told = [
-                reason.number as u64,
-                reason.place as u64,
-                reason.letter as u64,
-            ];
-        }
-    }
+    *told = numbers::checked(answer);
 }

@@ -3,7 +3,7 @@ ghost use mathlib.Core.Path.{_≡_};
 ghost use Rattle.lent.specs.Lent.{tablesAt};
 ghost use Rattle.feature_group.specs.Answer.{expanded, answerFor, ExpandedInto};
 ghost use Rattle.conlist_c.specs.Numbers.{expandedNumbers};
-use feature_group::Expanded;
+use super::numbers;
 
 // Expands as `expand_feature_group` does. `told` then holds 0, the features that were written and the visits that were made, or a refusal's number,
 // place and letter.
@@ -48,16 +48,5 @@ pub extern "C" fn conlist_expand_feature_group(
         type_name,
         inverse,
     );
-    match answer {
-        Expanded::Features(k, visits) => {
-            *told = [0, k as u64, visits as u64];
-        }
-        Expanded::Refused(reason) => {
-            *told = [
-                reason.number as u64,
-                reason.place as u64,
-                reason.letter as u64,
-            ];
-        }
-    }
+    *told = numbers::expanded(answer);
 }

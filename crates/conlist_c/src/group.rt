@@ -3,7 +3,7 @@ ghost use mathlib.Core.Path.{_≡_};
 ghost use Rattle.lent.specs.Lent.{tablesAt};
 ghost use Rattle.group_list.specs.Answer.{listed, answerFor, GroupListedInto};
 ghost use Rattle.conlist_c.specs.Numbers.{groupNumbers};
-use group_list::GroupListed;
+use super::numbers;
 
 // Lists as `expand_feature_group_connections` does. `told` then holds 0, the rows and the diagnostics that were written, or a refusal's number, place
 // and letter.
@@ -46,16 +46,5 @@ pub extern "C" fn conlist_expand_feature_group_connections(
         names,
         diagnostics,
     );
-    match answer {
-        GroupListed::Rows(k, d) => {
-            *told = [0, k as u64, d as u64];
-        }
-        GroupListed::Refused(reason) => {
-            *told = [
-                reason.number as u64,
-                reason.place as u64,
-                reason.letter as u64,
-            ];
-        }
-    }
+    *told = numbers::group(answer);
 }

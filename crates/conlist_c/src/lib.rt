@@ -3,6 +3,7 @@ mod both;
 mod check;
 mod expand;
 mod group;
+mod numbers;
 mod read;
 mod text;
 mod traced;

@@ -4,7 +4,7 @@ ghost use Rattle.lent.specs.Lent.{tablesAt, tablesLeft};
 ghost use Rattle.as5506.specs.Sheet.{lentOf, readSheet};
 ghost use Rattle.sheet.specs.Read.{sheetRead, ReadInto};
 ghost use Rattle.conlist_c.specs.Numbers.{readNumbers};
-use sheet::SheetRead;
+use super::numbers;
 
 // Reads as `read_sheet` does. `told` then holds 0, the bytes of names and the rows of each letter that were read, or a refusal's number, place and
 // letter and zeros.
@@ -29,40 +29,5 @@ pub extern "C" fn conlist_read_sheet(
     ensures { λ _. ⌜ ReadInto (tablesAt bytes n c f x p i t q u e r) (now (sheet .entry)) (sheetRead (readSheet (lentOf (tablesAt bytes n c f x p i t q u e r)) (now (sheet .entry)))) (tablesLeft bytes n c f x p i t q u e r) ⌝ }
 {
     let answer = sheet::read_sheet(sheet, bytes, n, c, f, x, p, i, t, q, u, e, r);
-    match answer {
-        SheetRead::Read(k) => {
-            *told = [
-                0,
-                k.bytes as u64,
-                k.n as u64,
-                k.c as u64,
-                k.f as u64,
-                k.x as u64,
-                k.p as u64,
-                k.i as u64,
-                k.t as u64,
-                k.q as u64,
-                k.u as u64,
-                k.e as u64,
-                k.r as u64,
-            ];
-        }
-        SheetRead::Refused(reason) => {
-            *told = [
-                reason.number as u64,
-                reason.place as u64,
-                reason.letter as u64,
-                0,
-                0,
-                0,
-                0,
-                0,
-                0,
-                0,
-                0,
-                0,
-                0,
-            ];
-        }
-    }
+    *told = numbers::read(answer);
 }

@@ -3,7 +3,7 @@ ghost use mathlib.Core.Path.{_≡_};
 ghost use Rattle.lent.specs.Lent.{tablesAt};
 ghost use Rattle.instance.specs.Answer.{listed, answerFor, TracedInto};
 ghost use Rattle.conlist_c.specs.Numbers.{tracedNumbers};
-use instance::Listed;
+use super::numbers;
 
 // Lists as `compute_semantic_connections` does. `told` then holds 0, the rows and the diagnostics that were written, or a refusal's number, place and
 // letter.
@@ -44,16 +44,5 @@ pub extern "C" fn conlist_compute_semantic_connections(
         rows,
         diagnostics,
     );
-    match answer {
-        Listed::Rows(k, d) => {
-            *told = [0, k as u64, d as u64];
-        }
-        Listed::Refused(reason) => {
-            *told = [
-                reason.number as u64,
-                reason.place as u64,
-                reason.letter as u64,
-            ];
-        }
-    }
+    *told = numbers::traced(answer);
 }

@@ -1,5 +1,6 @@
 // The diagnostics of a listing, in the caller's own slice of records. The listings leave them as numbers, four each; this crate makes the records.
 // Definitions: specs/Records.antt. Laws for the reader, from the definition's diagnostics to the records: proofs/Records.antt.
+use as5506::DIAGNOSTIC_NUMBERS;
 ghost use mathlib.Core.Path.{_≡_};
 ghost use Prim.Native.Nat.{_<_};
 ghost use lib.ListN.{length};
@@ -20,10 +21,10 @@ fn record_at(numbers: &[u32], i: usize) -> Diagnostic
     ensures { λ r. ⌜ r ≡ recordAt (now (numbers .entry)) i ⌝ }
 {
     Diagnostic {
-        code: lent::number_at(numbers, i * 4),
-        connection: lent::number_at(numbers, i * 4 + 1),
-        first: lent::number_at(numbers, i * 4 + 2),
-        second: lent::number_at(numbers, i * 4 + 3),
+        code: lent::number_at(numbers, i * DIAGNOSTIC_NUMBERS),
+        connection: lent::number_at(numbers, i * DIAGNOSTIC_NUMBERS + 1),
+        first: lent::number_at(numbers, i * DIAGNOSTIC_NUMBERS + 2),
+        second: lent::number_at(numbers, i * DIAGNOSTIC_NUMBERS + 3),
     }
 }
 

@@ -1,9 +1,8 @@
 -- The definition's searches as one scan of a table each. Assumes nothing.
 use mathlib.Core.Bool.{Bool, true, false, not, _&&_, _||_}
-use mathlib.Core.Path.{_≡_, refl, sym, ap, _∙_}
+use mathlib.Core.Path.{_≡_, refl, ap, _∙_}
 use mathlib.Core.List.{List, [], _∷_}
-use mathlib.Core.Option.{some}
-use Prim.Native.Nat.{ℕ, _-_, _<_}
+use Prim.Native.Nat.{ℕ, _-_}
 use native.Mathlib.Nat.{sub-zero}
 use lib.Dec.{eqb}
 use Rattle.as5506.specs.Lists.{span, upTo, putIf, keep, isNil, firstOf, anyOf, sameBytes}
@@ -13,7 +12,6 @@ use Rattle.as5506.specs.Groups.{featureKindGroup}
 use Rattle.as5506.specs.GroupList.{isGroupFeature, declaredGroup}
 use Rattle.as5506.proofs.Scans.{keep-both}
 use Rattle.lent.specs.Lent.{declaredIn, featuresIn}
-use Rattle.resolver.proofs.Scan.{rows-first}
 use Rattle.endpoint.specs.Ends.{isGroup, isDeclared}
 
 -- ---- F
@@ -54,10 +52,6 @@ module _ (m : Tables) (t : ℕ) (k : List ℕ) where
       (ap firstOf
       (keep-both (λ e. eqb (eKind m e) featureKindGroup && sameBytes (key m (eName m e)) k) (λ e. eqb (eHolderKind m e) 0) (keep (λ e. eqb (eHolder m e) t) (upTo (count m letterE)))
       ∙ keep-both (λ e. eqb (eHolderKind m e) 0 && (eqb (eKind m e) featureKindGroup && sameBytes (key m (eName m e)) k)) (λ e. eqb (eHolder m e) t) (upTo (count m letterE))))
-
-  -- what is found is a row
-  pub declared-row : (e : ℕ) → some e ≡ declaredGroup m t k → e < count m letterE
-  declared-row e h = rows-first (isDeclared m t k) 0 (count m letterE) e (sym (h ∙ declared-scan)) .1
 
 -- no other table is asked
 pub declared-same : (m : Tables) (t f : ℕ) → let l : Tables = declaredIn (m .bytes) (m .n) (m .e) in declaredGroup l t (key l f) ≡ declaredGroup m t (key m f)

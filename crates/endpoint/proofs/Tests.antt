@@ -1,11 +1,8 @@
 -- Laws of the parts of a test: of a number that was read, and of a key. Assumes nothing.
 use mathlib.Core.Bool.{Bool, true, false}
 use mathlib.Core.Path.{_≡_, sym, ap, _∙_}
-use mathlib.Core.List.{List}
-use Prim.Native.Nat.{ℕ, _+_}
-use native.Mathlib.Nat.{add-zero}
+use Prim.Native.Nat.{ℕ}
 use lib.Dec.{eqb}
-use lib.ListN.{getD}
 use borrow.Author.Tests.{eq-eqb, ne-eqb}
 use Rattle.as5506.specs.Lists.{sameBytes}
 use Rattle.as5506.specs.Tables.{Tables, nameOf}
@@ -20,10 +17,6 @@ module _ (v w : ℕ) (e : v ≡ w) where
 
   pub other : (k : ℕ) → (v ≡ k → ⊥) → eqb w k ≡ false
   other k h = ne-eqb w k (λ z. h (e ∙ z))
-
--- the first field of a row
-pub first-field : (t : List ℕ) (place v : ℕ) → v ≡ getD t place 0 → v ≡ getD t (place + 0) 0
-first-field t place v e = rw (add-zero place) e
 
 -- ---- names that were compared folded
 

@@ -1,20 +1,24 @@
 // The ends of a group connection (instance.rs, `resolve_endpoint_component` and `expand_endpoint_feature_group`): the component of an end, and the
 // group that its feature stands for.
+use as5506::E_NUMBERS;
+use as5506::F_NUMBERS;
 use as5506::MISSING;
 use children::Child;
-use lent::number_at;
+use columns::Side;
+use columns::component;
+use columns::connection;
+use columns::declared;
+use columns::feature;
 use resolver::Found;
 use resolver::Resolved;
-use trace::Side;
 ghost use mathlib.Core.Path.{_≡_};
-ghost use mathlib.Core.List.{List, []};
-ghost use Prim.Native.Nat.{ℕ, _/_, _<_};
-ghost use lib.ListN.{length};
-ghost use Rattle.as5506.specs.Tables.{Tables, tablesOf, nameIn, present, cPackage, eClassifier};
+ghost use mathlib.Core.List.{[]};
+ghost use Prim.Native.Nat.{ℕ};
+ghost use Rattle.as5506.specs.Tables.{Tables, nameIn, present, cPackage, eClassifier};
 ghost use Rattle.as5506.specs.Names.{key, sameFolded};
 ghost use Rattle.as5506.specs.GroupList.{isGroupConnection, isGroupFeature, declaredGroup, classifierBy, endComponent, endpoint as theEndpoint};
-ghost use Rattle.lent.specs.Lent.{featuresIn, connectionsIn, declaredIn, wiringAt};
-ghost use Rattle.trace.specs.Steps.{sideOf};
+ghost use Rattle.lent.specs.Lent.{featuresIn, connectionsIn, declaredIn, withC, withF, withE, packagesAt, wiringAt};
+ghost use Rattle.columns.specs.Side.{sideOf};
 ghost use Rattle.resolver.specs.Found.{rowOf};
 ghost use Rattle.endpoint.specs.Ends.{componentOf, expandedAt, isGroup, isDeclared};
 
@@ -31,25 +35,23 @@ const CONNECTION_KIND: u32 = 2;
 
 // Whether X row i connects groups: it has their kind, and a feature at both ends.
 pub fn is_group_connection(x: &[u32], i: usize) -> bool
-    requires { ⌜ i < length (now x) / 7 ⌝ }
     ensures { λ z. ⌜ z ≡ isGroupConnection (connectionsIn [] [] (now (x .entry))) i ⌝ }
 {
-    if number_at(x, i * 7 + 2) != CONNECTION_KIND {
+    if connection::kind_of(x, i) != CONNECTION_KIND {
         return false;
     }
-    if trace::feature_of(x, Side::Source, i) == MISSING {
+    if connection::feature_of(x, Side::Source, i) == MISSING {
         return false;
     }
-    trace::feature_of(x, Side::Destination, i) != MISSING
+    connection::feature_of(x, Side::Destination, i) != MISSING
 }
 
 // The component at an end of X row i: the first child of the name, or the owner where no subcomponent is named.
 pub fn end_component(bytes: &[u8], n: &[u32], c: &[u32], x: &[u32], side: Side, i: usize) -> Child
-    requires { ⌜ i < length (now x) / 7 ⌝ }
     ensures { λ z. ⌜ componentOf z ≡ endComponent (wiringAt bytes n c x) (sideOf side) i ⌝ }
 {
-    let owner = number_at(x, i * 7 + 1);
-    let sub = trace::subcomponent_of(x, side, i);
+    let owner = connection::owner_of(x, i);
+    let sub = connection::subcomponent_of(x, side, i);
     if sub == MISSING {
         let row = owner as usize;
         return Child::At(row);
@@ -73,19 +75,17 @@ fn is_group_feature(
     feature: u32,
     i: usize,
 ) -> bool
-    requires { ⌜ i < length (now f) / 3 ⌝ }
     ensures { λ z.
         ⌜ (let m : Tables = featuresIn (now (bytes .entry)) (now (n .entry)) (now (f .entry)) in
         z ≡ isGroup m component (key m feature) i) ⌝ }
 {
-    let place = i * 3;
-    if number_at(f, place + 1) != component {
+    if feature::owner_of(f, i) != component {
         return false;
     }
-    if number_at(f, place + 2) != FEATURE_KIND {
+    if feature::kind_of(f, i) != FEATURE_KIND {
         return false;
     }
-    same_folded_feature(bytes, n, number_at(f, place), feature)
+    same_folded_feature(bytes, n, feature::name_of(f, i), feature)
 }
 
 // Whether a component has such a feature.
@@ -94,7 +94,7 @@ fn has_group_feature(bytes: &[u8], n: &[u32], f: &[u32], component: u32, feature
         ⌜ (let m : Tables = featuresIn (now (bytes .entry)) (now (n .entry)) (now (f .entry)) in
         z ≡ isGroupFeature m component (key m feature)) ⌝ }
 {
-    let count = f.len() / 3;
+    let count = f.len() / F_NUMBERS;
     let mut i: usize = 0;
     while i < count {
         if is_group_feature(bytes, n, f, component, feature, i) {
@@ -114,22 +114,20 @@ fn is_declared_group(
     feature: u32,
     i: usize,
 ) -> bool
-    requires { ⌜ i < length (now e) / 8 ⌝ }
     ensures { λ z.
         ⌜ (let m : Tables = declaredIn (now (bytes .entry)) (now (n .entry)) (now (e .entry)) in
         z ≡ isDeclared m holder (key m feature) i) ⌝ }
 {
-    let place = i * 8;
-    if number_at(e, place + 1) as usize != holder {
+    if declared::holder_of(e, i) as usize != holder {
         return false;
     }
-    if number_at(e, place) != 0 {
+    if declared::holder_kind_of(e, i) != 0 {
         return false;
     }
-    if number_at(e, place + 3) != FEATURE_KIND {
+    if declared::kind_of(e, i) != FEATURE_KIND {
         return false;
     }
-    same_folded_feature(bytes, n, number_at(e, place + 2), feature)
+    same_folded_feature(bytes, n, declared::name_of(e, i), feature)
 }
 
 // The first such feature.
@@ -138,7 +136,7 @@ fn declared_group(bytes: &[u8], n: &[u32], e: &[u32], holder: usize, feature: u3
         ⌜ (let m : Tables = declaredIn (now (bytes .entry)) (now (n .entry)) (now (e .entry)) in
         rowOf z ≡ declaredGroup m holder (key m feature)) ⌝ }
 {
-    let count = e.len() / 8;
+    let count = e.len() / E_NUMBERS;
     let mut i: usize = 0;
     while i < count {
         if is_declared_group(bytes, n, e, holder, feature, i) {
@@ -151,18 +149,16 @@ fn declared_group(bytes: &[u8], n: &[u32], e: &[u32], holder: usize, feature: u3
 
 // The group that the classifier of E row i asks for: where it names no package, from the component's.
 fn classifier(e: &[u32], i: usize, component_package: u32) -> Asked
-    requires { ⌜ i < length (now e) / 8 ⌝ }
     ensures { λ z.
-        ⌜ ((bytes n c f x p j t q u r : List ℕ) (component : ℕ) →
-        let m : Tables = tablesOf bytes n c f x p j t q u (now (e .entry)) r in
+        ⌜ ((o : Tables) (component : ℕ) →
+        let m : Tables = withE (now (e .entry)) o in
         «component_package» ≡ cPackage m component → expandedAt m z ≡ classifierBy (present (eClassifier m i .type)) m component (eClassifier m i)) ⌝ }
 {
-    let place = i * 8;
-    let type_name = number_at(e, place + 6);
+    let type_name = declared::type_of(e, i);
     if type_name == MISSING {
         return Asked::NoGroup;
     }
-    let package = number_at(e, place + 5);
+    let package = declared::package_of(e, i);
     if package == MISSING {
         return Asked::Group {
             package: component_package,
@@ -193,15 +189,15 @@ pub fn endpoint(
     feature: u32,
 ) -> Asked
     ensures { λ z.
-        ⌜ ((x : List ℕ) →
-        let m : Tables = tablesOf (now (bytes .entry)) (now (n .entry)) (now (c .entry)) (now (f .entry)) x (now (p .entry)) (now (i .entry)) (now (t .entry)) (now (q .entry)) (now (u .entry)) (now (e .entry)) (now (r .entry)) in
+        ⌜ ((o : Tables) →
+        let m : Tables = packagesAt bytes n p i t q u r (withC (now (c .entry)) (withF (now (f .entry)) (withE (now (e .entry)) o))) in
         expandedAt m z ≡ theEndpoint m component feature) ⌝ }
 {
     if !has_group_feature(bytes, n, f, component, feature) {
         return Asked::NoGroup;
     }
-    let place = component as usize * 6;
-    let package = number_at(c, place + 3);
+    let row = component as usize;
+    let package = component::package_of(c, row);
     let found = resolver::resolve_classifier(
         bytes,
         n,
@@ -213,17 +209,14 @@ pub fn endpoint(
         r,
         package,
         package,
-        number_at(c, place + 4),
+        component::type_of(c, row),
         MISSING,
     );
     match found {
-        Resolved::ComponentType { package: _, row } => match declared_group(
-            bytes,
-            n,
-            e,
-            row,
-            feature,
-        ) {
+        Resolved::ComponentType {
+            package: _,
+            row: holder,
+        } => match declared_group(bytes, n, e, holder, feature) {
             Found::At(j) => classifier(e, j, package),
             Found::Nothing => Asked::NoGroup,
         },

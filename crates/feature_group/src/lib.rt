@@ -14,7 +14,7 @@ ghost use lib.ListN.{length};
 ghost use Rattle.lent.specs.Lent.{tablesAt};
 ghost use Rattle.as5506.specs.Groups.{depthLimit};
 ghost use Rattle.as5506.specs.Listing.{expansionWithin};
-ghost use Rattle.as5506.specs.Layout.{expansionNumbers};
+ghost use Rattle.as5506.specs.Layout.{featureNumbers, expansionNumbers};
 ghost use Rattle.lent.specs.Answered.{AnswerIn};
 ghost use Rattle.links.specs.Walk.{groupsIn, visitLink};
 ghost use Rattle.feature_group.specs.Answer.{expanded, answerFor, ExpandedInto};
@@ -37,8 +37,8 @@ fn write_features(
     to: u32,
     inverse: bool,
 ) -> Expanded
-    ensures { λ z. ⌜ z ≡ expanded (expansionWithin (length (now (out .entry)) / 14) (visitLink (groupsIn (now (e .entry)) (now (nested .entry)) (now (extends .entry)) (now (inverses .entry))) (suc depthLimit) to inverse [])) ⌝ }
-    ensures { λ _. ⌜ AnswerIn expansionNumbers (expansionWithin (length (now (out .entry)) / 14) (visitLink (groupsIn (now (e .entry)) (now (nested .entry)) (now (extends .entry)) (now (inverses .entry))) (suc depthLimit) to inverse [])) (now (out .entry)) (now (out .exit)) ⌝ }
+    ensures { λ z. ⌜ z ≡ expanded (expansionWithin (length (now (out .entry)) / featureNumbers) (visitLink (groupsIn (now (e .entry)) (now (nested .entry)) (now (extends .entry)) (now (inverses .entry))) (suc depthLimit) to inverse [])) ⌝ }
+    ensures { λ _. ⌜ AnswerIn expansionNumbers (expansionWithin (length (now (out .entry)) / featureNumbers) (visitLink (groupsIn (now (e .entry)) (now (nested .entry)) (now (extends .entry)) (now (inverses .entry))) (suc depthLimit) to inverse [])) (now (out .entry)) (now (out .exit)) ⌝ }
 {
     // The purpose uses only `out` and `calm`; a walk asks for the other three, so they have one place each.
     let kept = [0u32; 1];

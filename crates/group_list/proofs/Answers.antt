@@ -17,7 +17,7 @@ use Rattle.as5506.specs.Refusals.{faults, accepted}
 use Rattle.as5506.specs.Rows.{Row}
 use Rattle.as5506.specs.GroupList.{groupConnections, Match, matches, rowsMatched, diagsMatched}
 use Rattle.as5506.specs.Listing.{GroupList, Room, rowNames, groupWithin, groupListOf, groupOf, groupOn, groupAnswer}
-use Rattle.as5506.specs.Layout.{roomIn, groupBlock, diagBlock, groupRowNumbers, groupDiagNumbers, composedNames, output}
+use Rattle.as5506.specs.Layout.{rowNumbers, diagNumbers, roomIn, groupBlock, diagBlock, groupRowNumbers, groupDiagNumbers, composedNames, output}
 use Rattle.as5506.proofs.Laws.{each-length, zeros-length, not-both}
 use Rattle.as5506.proofs.Answers.{isGiven}
 use Rattle.lent.specs.Answered.{AnswerIn}
@@ -144,27 +144,27 @@ module _ (m : Tables) (rows names diags : List ℕ) where
         rows-fit : (length (each pairBlock thePairs) ≤ length rows) × (t .used ≡ length (each pairBlock thePairs)) × (rows₁ ≡ sets rows 0 (each pairBlock thePairs))
         rows-fit = rows-used .fits (omega (arith, h, rows-used .same))
 
-        pair-count : t .used / 49 ≡ length thePairs
+        pair-count : t .used / rowNumbers ≡ length thePairs
         pair-count = omega (arith, rows-fit .1, pairs-length thePairs short)
 
-        row-room : length (theList .rows) ≤ length rows / 49
+        row-room : length (theList .rows) ≤ length rows / rowNumbers
         row-room = omega (arith, rows-fit .0, pairs-length thePairs short, row-count)
 
         -- composing has room
-        pub composing-room : t .used / 49 * 49 ≤ length rows₁
+        pub composing-room : t .used / rowNumbers * rowNumbers ≤ length rows₁
         composing-room = omega (arith, h)
 
-        holds : Holds rows₁ (t .used / 49) thePairs
+        holds : Holds rows₁ (t .used / rowNumbers) thePairs
         holds =
             record {
               number = sym pair-count;
               short = short;
               blocks =
-                  ap₂ take (ap (λ (k : ℕ). k * 49) pair-count ∙ sym (pairs-length thePairs short)) (rows-fit .2) ∙ sets-block (each pairBlock thePairs) rows 0 (omega (arith, rows-fit .0));
+                  ap₂ take (ap (λ (k : ℕ). k * rowNumbers) pair-count ∙ sym (pairs-length thePairs short)) (rows-fit .2) ∙ sets-block (each pairBlock thePairs) rows 0 (omega (arith, rows-fit .0));
             }
 
         -- composing left rows₂ and names₂
-        module _ (names₂ rows₂ : List ℕ) (used : ℕ) (w : (ps : List Pair) → Holds rows₁ (t .used / 49) ps → Composed (connectionsIn (m .bytes) (m .n) (m .x)) ps rows₁ names used rows₂ names₂)
+        module _ (names₂ rows₂ : List ℕ) (used : ℕ) (w : (ps : List Pair) → Holds rows₁ (t .used / rowNumbers) ps → Composed (connectionsIn (m .bytes) (m .n) (m .x)) ps rows₁ names used rows₂ names₂)
             (same : length names₂ ≡ length names) where
           name-bytes : total (λ (r : Row). length (rowNames r)) (theList .rows) ≡ length (each rowNames theRows)
           unfolding groupListOf
@@ -201,14 +201,14 @@ module _ (m : Tables) (rows names diags : List ℕ) where
                 refused-for 12 z (answer-is ∙ within-12 _ _ theList row-room (rw name-bytes name-room) (omega (arith, s, notes-length (diagsMatched theMatches)))) g
 
             -- all fit
-            pub lists-all : t .noted ≤ length diags₁ → Lists (Rows (t .used / 49) (t .noted / 4)) rows₂ names₂ diags₁
+            pub lists-all : t .noted ≤ length diags₁ → Lists (Rows (t .used / rowNumbers) (t .noted / diagNumbers)) rows₂ names₂ diags₁
             unfolding groupListOf groupRowNumbers composedNames groupDiagNumbers
             lists-all j =
                 let d = notes-used .fits (omega (arith, j, notes-used .same)) in
                 let ds : ℕ = length (diagsMatched theMatches) in
                 let size : length (each groupBlock theRows) ≡ length (each pairBlock thePairs) = omega (arith, rows-length m theMatches, pairs-length thePairs short, rows-number m theMatches) in
                 let a : theAnswer ≡ given theList = answer-is ∙ within-given _ _ theList row-room (rw name-bytes name-room) (omega (arith, d .0, notes-length (diagsMatched theMatches))) in
-                let n : t .noted / 4 ≡ ds = omega (arith, d .1, notes-length (diagsMatched theMatches)) in
+                let n : t .noted / diagNumbers ≡ ds = omega (arith, d .1, notes-length (diagsMatched theMatches)) in
                 let c = composed .0 name-room in (
                   ap₂ Rows (pair-count ∙ sym row-count) n ∙ sym (ap listed a),
                   (

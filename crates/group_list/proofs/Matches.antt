@@ -11,7 +11,7 @@ use Rattle.as5506.specs.Tables.{Tables}
 use Rattle.as5506.specs.Groups.{Feature}
 use Rattle.as5506.specs.Rows.{Row, Diag}
 use Rattle.as5506.specs.GroupList.{GroupConnection, groupOverrun, overrun, Match, matchesBy, matches, matchRow, matchDiag, fullName, rowsMatched, diagsMatched}
-use Rattle.as5506.specs.Layout.{groupBlock, diagBlock}
+use Rattle.as5506.specs.Layout.{rowNumbers, groupBlock, diagBlock}
 use Rattle.as5506.proofs.Laws.{All, all-of, all-each, each-same, each-append, each-each, each-map, even-length, not-both}
 use Rattle.lent.specs.Append.{Filled, filled, appendAll, together}
 use Rattle.lent.proofs.Append.{all-append}
@@ -127,10 +127,10 @@ pair-blocks ms =
     (all-of (λ (p : Match). together (matchPiece (p .connection) (p .feature) (p .partner)) ≡ each pairBlock (pairBy (p .connection) (p .feature) (p .partner))) (λ p. pair-piece (p .connection) (p .feature) (p .partner)) ms)
     ∙ sym (each-each pairBlock (λ (p : Match). pairBy (p .connection) (p .feature) (p .partner)) ms)
 
-pub pairs-length : (ps : List Pair) → AllShort ps → length (each pairBlock ps) ≡ length ps * 49
-pairs-length ps h = even-length 49 pairBlock ps (go ps h)
+pub pairs-length : (ps : List Pair) → AllShort ps → length (each pairBlock ps) ≡ length ps * rowNumbers
+pairs-length ps h = even-length rowNumbers pairBlock ps (go ps h)
   where
-    go : (ps : List Pair) → AllShort ps → All (λ p. length (pairBlock p) ≡ 49) ps
+    go : (ps : List Pair) → AllShort ps → All (λ p. length (pairBlock p) ≡ rowNumbers) ps
     go [] t = tt
     go (p ∷ ps) t = (pair-length p (t .0), go ps (t .1))
 
@@ -169,16 +169,16 @@ module _ (m : Tables) where
       ∙ ap₂ _+_ (one-row (p .connection) (p .feature) (p .partner)) (rows-number ms)
       ∙ sym (length-append (pairBy (p .connection) (p .feature) (p .partner)) (pairsOf ms))
 
-  row-length : (b : GroupConnection) (s : Feature) (d : Option Feature) → All (λ r. length (groupBlock r) ≡ 49) (matchRow m b s d)
+  row-length : (b : GroupConnection) (s : Feature) (d : Option Feature) → All (λ r. length (groupBlock r) ≡ rowNumbers) (matchRow m b s d)
   unfolding matchRow groupBlock padded
   row-length b s none = tt
   row-length b s (some d) = (refl, tt)
 
-  pub rows-length : (ms : List Match) → length (each groupBlock (rowsMatched m ms)) ≡ length (rowsMatched m ms) * 49
+  pub rows-length : (ms : List Match) → length (each groupBlock (rowsMatched m ms)) ≡ length (rowsMatched m ms) * rowNumbers
   unfolding rowsMatched
   rows-length ms =
-      even-length 49 groupBlock (rowsMatched m ms)
-      (all-each (λ (p : Match). Unit {0}) (λ (r : Row). length (groupBlock r) ≡ 49) (λ (p : Match). matchRow m (p .connection) (p .feature) (p .partner)) (λ p u. row-length (p .connection) (p .feature) (p .partner)) ms
+      even-length rowNumbers groupBlock (rowsMatched m ms)
+      (all-each (λ (p : Match). Unit {0}) (λ (r : Row). length (groupBlock r) ≡ rowNumbers) (λ (p : Match). matchRow m (p .connection) (p .feature) (p .partner)) (λ p u. row-length (p .connection) (p .feature) (p .partner)) ms
       (all-of (λ (p : Match). Unit {0}) (λ p. tt) ms))
 
 -- ---- the diagnostics

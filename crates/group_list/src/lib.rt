@@ -1,23 +1,28 @@
 // The group listing (instance.rs, `expand_feature_group_connections`) over the caller's tables and outputs.
 use as5506::DIAGNOSTIC_NUMBERS;
+use as5506::E_NUMBERS;
 use as5506::FEATURE_NUMBERS;
+use as5506::N_NUMBERS;
 use as5506::ROW_NUMBERS;
 use as5506::Refusal;
 use as5506::TABLE_ROWS;
+use as5506::U_NUMBERS;
 use group_match::CALM_NUMBERS;
 use group_match::Matched;
 use tables::Checked;
 ghost use mathlib.Core.Path.{_≡_};
-ghost use Prim.Native.Nat.{_*_, _/_, _≤_};
+ghost use Prim.Native.Nat.{_/_, _≤_};
 ghost use lib.Dec.{T};
 ghost use lib.ListN.{length};
 ghost use Rattle.as5506.specs.Lists.{zeros};
+ghost use Rattle.as5506.specs.Tables.{width, letterN, letterU, letterE};
 ghost use Rattle.lent.specs.Lent.{tablesAt, tablesLent};
 ghost use Rattle.as5506.specs.Refusals.{accepted};
 ghost use Rattle.as5506.specs.Layout.{groupRowNumbers, groupDiagNumbers, composedNames};
 ghost use Rattle.lent.specs.Answered.{AnswerIn};
 ghost use Rattle.group_match.specs.Matching.{MatchedInto};
 ghost use Rattle.group_list.specs.Answer.{listed, answerOf, GroupListedInto};
+ghost use Rattle.group_list.specs.Ready.{MatchRoom, ListReady};
 
 // The names, and the group types or features, that the small room is enough for: all that the program conlist can read.
 const SMALL_NAMES: usize = 256;
@@ -54,16 +59,16 @@ fn match_in(
     rows: &mut [u32],
     notes: &mut [u32],
 ) -> Matched
-    requires { ⌜ T (accepted (tablesLent bytes n c f x p i t q u e r)) ⌝ }
-    requires { ⌜ (length (now e) / 8 ≤ length (now nested)) × (length (now u) / 9 ≤ length (now extends)) × (length (now u) / 9 ≤ length (now inverse)) ⌝ }
-    requires { ⌜ (length (now n) / 2 ≤ length (now memo)) × (length (now memo) * 14 ≤ length (now kept)) × (length (now u) / 9 * 11 ≤ length (now calm)) ⌝ }
+    requires { ⌜ MatchRoom
+        (tablesLent bytes n c f x p i t q u e r)
+        (now nested) (now extends) (now inverse) (now kept) (now memo) (now calm) ⌝ }
     ensures { λ z. ⌜ MatchedInto
         (tablesAt bytes n c f x p i t q u e r)
         (now (rows .entry)) (now (notes .entry)) z (now (rows .exit)) (now (notes .exit)) ⌝ }
 {
     links::link_groups(bytes, n, p, i, t, q, u, e, r, nested, extends, inverse);
-    let names = n.len() / 2;
-    let places = u.len() / 9 * CALM_NUMBERS;
+    let names = n.len() / N_NUMBERS;
+    let places = u.len() / U_NUMBERS * CALM_NUMBERS;
     group_match::match_connections(
         bytes,
         n,
@@ -106,7 +111,7 @@ fn match_small(
     notes: &mut [u32],
 ) -> Matched
     requires { ⌜ T (accepted (tablesLent bytes n c f x p i t q u e r)) ⌝ }
-    requires { ⌜ (length (now n) / 2 ≤ 256) × (length (now u) / 9 ≤ 96) × (length (now e) / 8 ≤ 96) ⌝ }
+    requires { ⌜ (length (now n) / width letterN ≤ 256) × (length (now u) / width letterU ≤ 96) × (length (now e) / width letterE ≤ 96) ⌝ }
     ensures { λ z. ⌜ MatchedInto
         (tablesAt bytes n c f x p i t q u e r)
         (now (rows .entry)) (now (notes .entry)) z (now (rows .exit)) (now (notes .exit)) ⌝ }
@@ -215,7 +220,10 @@ fn match_all(
         (tablesAt bytes n c f x p i t q u e r)
         (now (rows .entry)) (now (notes .entry)) z (now (rows .exit)) (now (notes .exit)) ⌝ }
 {
-    if n.len() / 2 <= SMALL_NAMES && u.len() / 9 <= SMALL_ROWS && e.len() / 8 <= SMALL_ROWS {
+    if n.len() / N_NUMBERS <= SMALL_NAMES
+        && u.len() / U_NUMBERS <= SMALL_ROWS
+        && e.len() / E_NUMBERS <= SMALL_ROWS
+    {
         return match_small(bytes, n, c, f, x, p, i, t, q, u, e, r, rows, notes);
     }
     match_large(bytes, n, c, f, x, p, i, t, q, u, e, r, rows, notes)
@@ -240,7 +248,7 @@ pub fn list_accepted(
     names: &mut [u8],
     diagnostics: &mut [u32],
 ) -> GroupListed
-    requires { ⌜ T (accepted (tablesLent bytes n c f x p i t q u e r)) ⌝ }
+    requires { ⌜ ListReady (tablesLent bytes n c f x p i t q u e r) ⌝ }
     ensures { λ z. ⌜ z ≡ listed (answerOf (tablesAt bytes n c f x p i t q u e r) (now (rows .entry)) (now (names .entry)) (now (diagnostics .entry))) ⌝ }
     ensures { λ _. ⌜ AnswerIn groupRowNumbers (answerOf (tablesAt bytes n c f x p i t q u e r) (now (rows .entry)) (now (names .entry)) (now (diagnostics .entry)))
         (now (rows .entry)) (now (rows .exit)) ⌝ }

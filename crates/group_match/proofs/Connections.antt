@@ -98,10 +98,10 @@ module _ (m : Tables) where
       → (a b : ℕ) → endComponent m source x ≡ some a → endComponent m destination x ≡ some b
       → (f g : ℕ) → f ≡ xFeat m source x → g ≡ xFeat m destination x
       → (s d : Option Expansion) → s ≡ endpoint m a f → d ≡ endpoint m b g
-      → after (namesIn (m .bytes) (m .n)) (between x a b s d) l ≡ afterAll m (connectionsAt m x) l
+      → (z : Lists) → z ≡ after (namesIn (m .bytes) (m .n)) (between x a b s d) l → z ≡ afterAll m (connectionsAt m x) l
   unfolding connectionsAt connectionAt groupConnection isGroupConnection afterAll
-  row-matched x l r e q a b ea eb f g ef eg s d es ed =
-      after-names (between x a b s d) l
+  row-matched x l r e q a b ea eb f g ef eg s d es ed z w =
+      w ∙ after-names (between x a b s d) l
       ∙ ap₂ (λ (s d : Option Expansion). after m (between x a b s d) l) (es ∙ ap (endpoint m a) ef) (ed ∙ ap (endpoint m b) eg)
       ∙ sym (ap (λ (t : Bool). afterAll m (each (connectionAt m) (when t x)) l) (sym e ∙ not-false r q)
       ∙ ap₂ (λ (i j : Option ℕ). afterAll m (groupConnection m x i j ++ []) l) ea eb)

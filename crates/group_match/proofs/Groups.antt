@@ -32,7 +32,8 @@ use Rattle.endpoint.specs.declared.Asked.the-variants.{Group, NoGroup}
 use Rattle.endpoint.specs.Ends.{expandedAt}
 use Rattle.group_match.specs.declared.Prepared.{Prepared}
 use Rattle.group_match.specs.declared.Prepared.the-variants.{Over, For}
-use Rattle.group_match.specs.Matching.{groupBy, groupAt, between, matchPieces, notePieces, Lists, over, lists, afterBy, after, Workplace}
+use Rattle.group_match.specs.Matching.{groupBy, groupAt, between, matchPieces, notePieces, Lists, over, lists, afterBy, after}
+use Rattle.group_match.specs.Ready.{Workplace}
 use Rattle.group_match.specs.Prepared.{Leaves, Prepares}
 use Rattle.group_match.proofs.Range.{Fine, expansion-fine}
 use Rattle.group_match.proofs.Firsts.{wrote-firsts}

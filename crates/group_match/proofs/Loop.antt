@@ -2,14 +2,12 @@
 use mathlib.Core.Bool.{Bool, true, false, _||_}
 use mathlib.Core.Path.{_≡_, refl, sym, ap, subst, _∙_}
 use mathlib.Core.List.{List, [], _∷_, _++_, append-assoc}
-use Prim.Native.Nat.{ℕ, _+_, _-_, _*_, _<_, _≤_}
+use Prim.Native.Nat.{ℕ, _+_, _-_, _<_, _≤_}
 use native.Mathlib.Nat.{sub-zero}
 use native.Mathlib.Omega.{arith}
-use lib.Dec.{T}
 use lib.ListN.{length}
 use Rattle.as5506.specs.Lists.{span, keep, putIf, when, each}
-use Rattle.as5506.specs.Tables.{Tables, letterN, count, xCount}
-use Rattle.as5506.specs.Refusals.{accepted}
+use Rattle.as5506.specs.Tables.{Tables, xCount}
 use Rattle.as5506.specs.GroupList.{isGroupConnection, GroupConnection, groupConnections, groupOverrun, Match, matchesBy}
 use Rattle.as5506.proofs.Scans.{span-next, keep-done}
 use Rattle.lent.specs.Append.{Filled, filled, appendAll}
@@ -18,7 +16,8 @@ use Rattle.tables.proofs.Facts.{facts}
 use Rattle.sink.specs.declared.Tally.{Tally}
 use Rattle.group_match.specs.declared.Matched.{Matched}
 use Rattle.group_match.specs.declared.Matched.the-variants.{Over, Done}
-use Rattle.group_match.specs.Matching.{matchPieces, notePieces, Lists, over, lists, afterBy, after, afterAll, connectionAt, connectionsAt, listsOf, Workplace}
+use Rattle.group_match.specs.Matching.{matchPieces, notePieces, Lists, over, lists, afterBy, after, afterAll, connectionAt, connectionsAt, listsOf}
+use Rattle.group_match.specs.Ready.{Workplace, ConnectionReady, MatchReady}
 
 -- ---- an output's use is within its length, or one more
 
@@ -140,9 +139,11 @@ module _ (m : Tables) where
             left = one-more (Done t) q;
           }
 
--- ---- the slices that matching works with, by their lengths
+-- ---- an X row asks for what all ask for: the slices have the lengths that they had
 
-pub workplace : (m : Tables) → T (accepted m) → (memo₀ kept₀ memo kept : List ℕ) → count m letterN ≤ length memo₀ → length memo₀ ≤ 4096 → length memo₀ * 14 ≤ length kept₀
-    → length memo ≡ length memo₀ → length kept ≡ length kept₀ → Workplace (m .e) memo kept
-workplace m ok memo₀ kept₀ memo kept names few room a b =
-    record { names = λ i h. omega (arith, facts m ok .e-name i h, names, a); few = omega (arith, few, a); room = omega (arith, room, a, b) }
+pub row-ready : (m : Tables) (nested extends inverses memo₀ kept₀ memo kept rows₀ notes₀ rows notes : List ℕ) (tally : Tally) (i : ℕ) → MatchReady m nested extends inverses memo₀ kept₀
+    → length memo ≡ length memo₀ → length kept ≡ length kept₀ → i < xCount m → Goes m rows₀ notes₀ rows notes tally i → ConnectionReady m nested extends inverses memo kept rows notes i tally
+row-ready m nested extends inverses memo₀ kept₀ memo kept rows₀ notes₀ rows notes tally i r a b h g =
+    let names : Workplace (m .e) memo kept =
+    record { names = λ i h. omega (arith, facts m (r .ok) .e-name i h, r .names, a); few = omega (arith, r .few, a); room = omega (arith, r .room, a, b) } in
+    record { ok = r .ok; linked = r .linked; is-row = h; groups = record { workplace = names; used-fits = g .rows-bound; noted-fits = g .notes-bound } }

@@ -58,13 +58,13 @@ module _ (kept : List ℕ) where
     scan [] i rest t q = tt
     scan (d ∷ ds) i rest t q =
         let after : List ℕ = each featureBlock ds ++ rest in
-        let e : drop (i * 14) kept ≡ featureBlock d ++ after = q ∙ append-assoc (featureBlock d) (each featureBlock ds) rest in
+        let e : drop (i * featureNumbers) kept ≡ featureBlock d ++ after = q ∙ append-assoc (featureBlock d) (each featureBlock ds) rest in
         let n : keptName kept i ≡ d .name =
-        ap (λ (k : ℕ). getD kept k 0) (sym (add-zero (i * 14))) ∙ sym (getD-drop (i * 14) kept 0 0) ∙ ap (λ (l : List ℕ). getD l 0 0) e ∙ block-name d after in
-        let w : take 14 (drop (i * 14) kept) ≡ featureBlock d = ap (take 14) e ∙ take-at (featureBlock d) after 14 (block-length d (t .0)) in
-        let s : suc i * 14 ≡ i * 14 + 14 = omega arith in
-        let m : drop (suc i * 14) kept ≡ after =
-        ap (λ (k : ℕ). drop k kept) s ∙ sym (drop-drop 14 (i * 14) kept) ∙ ap (drop 14) e ∙ drop-at (featureBlock d) after 14 (block-length d (t .0)) in
+        ap (λ (k : ℕ). getD kept k 0) (sym (add-zero (i * featureNumbers))) ∙ sym (getD-drop (i * featureNumbers) kept 0 0) ∙ ap (λ (l : List ℕ). getD l 0 0) e ∙ block-name d after in
+        let w : take featureNumbers (drop (i * featureNumbers) kept) ≡ featureBlock d = ap (take featureNumbers) e ∙ take-at (featureBlock d) after featureNumbers (block-length d (t .0)) in
+        let s : suc i * featureNumbers ≡ i * featureNumbers + featureNumbers = omega arith in
+        let m : drop (suc i * featureNumbers) kept ≡ after =
+        ap (λ (k : ℕ). drop k kept) s ∙ sym (drop-drop featureNumbers (i * featureNumbers) kept) ∙ ap (drop featureNumbers) e ∙ drop-at (featureBlock d) after featureNumbers (block-length d (t .0)) in
         rw n (here (p (d .name)) i d (keep test (span (suc i) (length ds))) (keep (λ d. p (d .name)) ds) w (scan ds (suc i) rest (t .1) m))
 
 -- ---- what a walk for first appearances leaves: its blocks, from the front of what is kept

@@ -3,15 +3,13 @@ use mathlib.Core.Bool.{Bool, true, false, _||_}
 use mathlib.Core.Option.{Option, none, some}
 use mathlib.Core.Path.{_≡_}
 use mathlib.Core.List.{List, [], _∷_, map}
-use Prim.Native.Nat.{ℕ, suc, _*_, _/_, _<_, _≤_}
-use lib.ListN.{length}
+use Prim.Native.Nat.{ℕ, suc}
 use Rattle.as5506.specs.Lists.{each, when}
-use Rattle.as5506.specs.Tables.{Tables, present, source, destination, eName}
+use Rattle.as5506.specs.Tables.{Tables, present, source, destination}
 use Rattle.as5506.specs.Groups.{Feature, Expansion, depthLimit}
 use Rattle.as5506.specs.GroupList.{isGroupConnection, endComponent, GroupConnection, groupConnection, groupConnections, groupOverrun, Match, matchesBy, diagsMatched}
-use Rattle.as5506.specs.Layout.{featureNumbers, featureBlock, diagBlock}
+use Rattle.as5506.specs.Layout.{featureBlock, diagBlock}
 use Rattle.lent.specs.Append.{Filled, filled, appendAll}
-use Rattle.lent.specs.Lent.{declaredIn}
 use Rattle.links.specs.Walk.{Groups, visitLink}
 use Rattle.sink.specs.Take.{matchBlock}
 use Rattle.group_match.specs.declared.Matched.{Matched}
@@ -74,9 +72,3 @@ listsOf (Done t) rows notes = lists (filled rows (t .used)) (filled notes (t .no
 -- what matching the groups of all connections of the tables m answers, and leaves in the outputs
 abbrev pub MatchedInto : Tables → List ℕ → List ℕ → Matched → List ℕ → List ℕ → Type 0
 MatchedInto m rows notes z rows′ notes′ = listsOf z rows′ notes′ ≡ afterAll m (groupConnections m) (lists (filled rows 0) (filled notes 0))
-
--- the slices that matching works with: a number for each name, and room for a feature of each name
-pub record Workplace (e memo kept : List ℕ) : Type 0 where
-  pub names : (i : ℕ) → i < length e / 8 → eName (declaredIn [] [] e) i < length memo
-  pub few : length memo ≤ 4096
-  pub room : length memo * featureNumbers ≤ length kept

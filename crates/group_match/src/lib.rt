@@ -3,32 +3,33 @@
 // the destination: the first feature of an equal name is among them.
 use as5506::FEATURE_NUMBERS;
 use as5506::MISSING;
+use as5506::X_NUMBERS;
 use children::Child;
+use columns::Side;
+use columns::connection;
 use endpoint::Asked;
 use group_walk::LEVELS;
 use group_walk::Walked;
 use lent::clear_numbers;
 use sink::Purpose;
 use sink::Tally;
-use trace::Side;
 ghost use mathlib.Core.Bool.{false};
 ghost use mathlib.Core.Path.{_≡_};
 ghost use mathlib.Core.List.{List, []};
-ghost use Prim.Native.Nat.{ℕ, _+_, _*_, _/_, _<_, _≤_};
-ghost use lib.Dec.{T};
+ghost use Prim.Native.Nat.{ℕ, _+_, _/_, _≤_};
 ghost use lib.ListN.{length};
 ghost use Rattle.as5506.specs.Lists.{zeros};
-ghost use Rattle.as5506.specs.Tables.{Tables, tablesOf};
-ghost use Rattle.as5506.specs.Refusals.{accepted};
+ghost use Rattle.as5506.specs.Tables.{Tables, width, letterU};
 ghost use Rattle.as5506.specs.GroupList.{endpoint as theEndpoint};
 ghost use Rattle.lent.specs.Append.{filled};
-ghost use Rattle.lent.specs.Lent.{namesIn, tablesAt, tablesLent};
+ghost use Rattle.lent.specs.Lent.{namesIn, withC, withF, withE, packagesAt, tablesAt, tablesLent};
 ghost use Rattle.links.specs.Links.{Linked};
 ghost use Rattle.links.specs.Walk.{groupsIn, visitLink};
 ghost use Rattle.sink.specs.Take.{held, taken, Ready};
 ghost use Rattle.group_walk.specs.Run.{going, run, stateOf};
-ghost use Rattle.group_match.specs.Matching.{groupAt, between, lists, after, afterAll, connectionsAt, listsOf, MatchedInto, Workplace};
+ghost use Rattle.group_match.specs.Matching.{groupAt, between, lists, after, afterAll, connectionsAt, listsOf, MatchedInto};
 ghost use Rattle.group_match.specs.Prepared.{Prepares};
+ghost use Rattle.group_match.specs.Ready.{Workplace, GroupsReady, ConnectionReady, MatchReady};
 
 // How many numbers of `calm` there are for a group type: one for each level.
 pub const CALM_NUMBERS: usize = LEVELS;
@@ -168,7 +169,7 @@ fn match_groups(
     to: u32,
     tally: Tally,
 ) -> Matched
-    requires { ⌜ Workplace (now e) (now memo) (now kept) × (tally .used ≤ length (now rows) + 1) × (tally .noted ≤ length (now notes) + 1) ⌝ }
+    requires { ⌜ GroupsReady (now e) (now memo) (now kept) (now rows) (now notes) tally ⌝ }
     ensures { λ z. ⌜ listsOf z (now (rows .exit)) (now (notes .exit))
         ≡ after (namesIn (now (bytes .entry)) (now (n .entry)))
         (between connection source destination
@@ -236,10 +237,10 @@ fn group_link(
     component: u32,
     feature: u32,
 ) -> u32
-    requires { ⌜ length (now u) / 9 ≤ 4096 ⌝ }
+    requires { ⌜ length (now u) / width letterU ≤ 4096 ⌝ }
     ensures { λ z.
-        ⌜ ((x nested extends inverses : List ℕ) →
-        let m : Tables = tablesOf (now (bytes .entry)) (now (n .entry)) (now (c .entry)) (now (f .entry)) x (now (p .entry)) (now (i .entry)) (now (t .entry)) (now (q .entry)) (now (u .entry)) (now (e .entry)) (now (r .entry)) in
+        ⌜ ((o : Tables) (nested extends inverses : List ℕ) →
+        let m : Tables = packagesAt bytes n p i t q u r (withC (now (c .entry)) (withF (now (f .entry)) (withE (now (e .entry)) o))) in
         Linked m nested extends inverses → groupAt (groupsIn (now (e .entry)) nested extends inverses) z ≡ theEndpoint m component feature) ⌝ }
 {
     match endpoint::endpoint(bytes, n, c, f, p, i, t, q, u, e, r, component, feature) {
@@ -286,9 +287,9 @@ fn match_connection(
     row: usize,
     tally: Tally,
 ) -> Matched
-    requires { ⌜ T (accepted (tablesLent bytes n c f x p i t q u e r)) ⌝ }
-    requires { ⌜ Linked (tablesLent bytes n c f x p i t q u e r) (now nested) (now extends) (now inverses) ⌝ }
-    requires { ⌜ Workplace (now e) (now memo) (now kept) × (row < length (now x) / 7) × (tally .used ≤ length (now rows) + 1) × (tally .noted ≤ length (now notes) + 1) ⌝ }
+    requires { ⌜ ConnectionReady
+        (tablesLent bytes n c f x p i t q u e r)
+        (now nested) (now extends) (now inverses) (now memo) (now kept) (now rows) (now notes) row tally ⌝ }
     ensures { λ z.
         ⌜ (let m : Tables = tablesAt bytes n c f x p i t q u e r in
         listsOf z (now (rows .exit)) (now (notes .exit)) ≡ afterAll m (connectionsAt m row) (lists (filled (now (rows .entry)) (tally .used)) (filled (now (notes .entry)) (tally .noted)))) ⌝ }
@@ -317,7 +318,7 @@ fn match_connection(
         e,
         r,
         source,
-        trace::feature_of(x, Side::Source, row),
+        connection::feature_of(x, Side::Source, row),
     );
     let destination_group = group_link(
         bytes,
@@ -332,7 +333,7 @@ fn match_connection(
         e,
         r,
         destination,
-        trace::feature_of(x, Side::Destination, row),
+        connection::feature_of(x, Side::Destination, row),
     );
     match_groups(
         e,
@@ -379,14 +380,14 @@ pub fn match_connections(
     rows: &mut [u32],
     notes: &mut [u32],
 ) -> Matched
-    requires { ⌜ T (accepted (tablesLent bytes n c f x p i t q u e r)) ⌝ }
-    requires { ⌜ Linked (tablesLent bytes n c f x p i t q u e r) (now nested) (now extends) (now inverses) ⌝ }
-    requires { ⌜ (length (now n) / 2 ≤ length (now memo)) × (length (now memo) ≤ 4096) × (length (now memo) * 14 ≤ length (now kept)) ⌝ }
+    requires { ⌜ MatchReady
+        (tablesLent bytes n c f x p i t q u e r)
+        (now nested) (now extends) (now inverses) (now memo) (now kept) ⌝ }
     ensures { λ z. ⌜ MatchedInto
         (tablesAt bytes n c f x p i t q u e r)
         (now (rows .entry)) (now (notes .entry)) z (now (rows .exit)) (now (notes .exit)) ⌝ }
 {
-    let count = x.len() / 7;
+    let count = x.len() / X_NUMBERS;
     let mut tally = Tally { used: 0, noted: 0 };
     let mut row: usize = 0;
     while row < count {

@@ -9,8 +9,8 @@ use lib.Seq.{sets, take-append-seam, drop-at, length-take-le, getD-take, getD-dr
 use Rattle.as5506.specs.Lists.{zeros, padded}
 use Rattle.as5506.specs.Groups.{Feature}
 use Rattle.as5506.specs.GroupList.{connectionKind}
-use Rattle.as5506.specs.Layout.{rowBlock, featureBlock}
-use Rattle.sink.specs.Take.{matchBlock}
+use Rattle.as5506.specs.Layout.{rowNumbers, featureNumbers, rowBlock, featureBlock}
+use Rattle.sink.specs.Take.{spareNumbers, matchBlock}
 use Rattle.sink.proofs.Blocks.{block-length}
 use Rattle.group_names.specs.Compose.{Pair, pairBlock, Short}
 use Rattle.group_names.specs.Pieces.{prefixLength, featureBack, pairBack, blockWith}
@@ -27,24 +27,24 @@ module _ (f : Feature) (h : length (f .prefix) ≤ 10) where
   feature-back rest = ap (λ (l : List ℕ). record { name = f .name; kind = f .kind; direction = f .direction; prefix = l }) (prefix-back rest)
 
 module _ (p : Pair) (h : Short p) where
-  pub pair-length : length (pairBlock p) ≡ 49
+  pub pair-length : length (pairBlock p) ≡ rowNumbers
   unfolding pairBlock matchBlock
   pair-length =
       let s : List ℕ = featureBlock (p .feature) in
       let d : List ℕ = featureBlock (p .partner) in
-      omega (arith, length-append (s ++ d) (zeros 18), length-append s d, block-length (p .feature) (h .0), block-length (p .partner) (h .1), length-replicate {A = ℕ} 18 0)
+      omega (arith, length-append (s ++ d) (zeros spareNumbers), length-append s d, block-length (p .feature) (h .0), block-length (p .partner) (h .1), length-replicate {A = ℕ} spareNumbers 0)
 
   pub pair-back : (rest : List ℕ) → pairBack (pairBlock p ++ rest) ≡ p
   unfolding pairBack pairBlock matchBlock
   pair-back rest =
       let s : List ℕ = featureBlock (p .feature) in
       let d : List ℕ = featureBlock (p .partner) in
-      let parts : s ++ d ++ zeros 18 ++ rest ≡ s ++ (d ++ (zeros 18 ++ rest)) = append-assoc (s ++ d) (zeros 18) rest ∙ append-assoc s d (zeros 18 ++ rest) in
+      let parts : s ++ d ++ zeros spareNumbers ++ rest ≡ s ++ (d ++ (zeros spareNumbers ++ rest)) = append-assoc (s ++ d) (zeros spareNumbers) rest ∙ append-assoc s d (zeros spareNumbers ++ rest) in
       ap₂ (λ (f g : Feature). record { conn = p .conn; src = p .src; dst = p .dst; feature = f; partner = g })
-      (ap featureBack parts ∙ feature-back (p .feature) (h .0) (d ++ (zeros 18 ++ rest)))
-      (ap (λ (l : List ℕ). featureBack (drop 14 l)) parts
-      ∙ ap featureBack (drop-at s (d ++ (zeros 18 ++ rest)) 14 (block-length (p .feature) (h .0)))
-      ∙ feature-back (p .partner) (h .1) (zeros 18 ++ rest))
+      (ap featureBack parts ∙ feature-back (p .feature) (h .0) (d ++ (zeros spareNumbers ++ rest)))
+      (ap (λ (l : List ℕ). featureBack (drop featureNumbers l)) parts
+      ∙ ap featureBack (drop-at s (d ++ (zeros spareNumbers ++ rest)) featureNumbers (block-length (p .feature) (h .0)))
+      ∙ feature-back (p .partner) (h .1) (zeros spareNumbers ++ rest))
 
 -- ---- a feature's names in the rows
 
@@ -55,7 +55,7 @@ module _ (rows : List ℕ) (place : ℕ) where
       let b : List ℕ = drop place rows in
       omega (arith, length-take (min 10 (getD b 3 0)) (drop 4 b), min-le-left (min 10 (getD b 3 0)) (length (drop 4 b)), min-le-left 10 (getD b 3 0))
 
-  pub prefix-length : place + 14 ≤ length rows → length (featureBack (drop place rows) .prefix) ≡ prefixLength (drop place rows)
+  pub prefix-length : place + featureNumbers ≤ length rows → length (featureBack (drop place rows) .prefix) ≡ prefixLength (drop place rows)
   unfolding featureBack
   prefix-length h =
       let b : List ℕ = drop place rows in
@@ -83,11 +83,11 @@ module _ (rows : List ℕ) (place : ℕ) where
 
 -- ---- the row in place of the match
 
-row-is : (conn kind src dst a b c : ℕ) → sets (zeros 49) 0 (conn ∷ kind ∷ src ∷ dst ∷ a ∷ b ∷ c ∷ 1 ∷ conn ∷ []) ≡ rowBlock conn kind src dst a b c (conn ∷ [])
+row-is : (conn kind src dst a b c : ℕ) → sets (zeros rowNumbers) 0 (conn ∷ kind ∷ src ∷ dst ∷ a ∷ b ∷ c ∷ 1 ∷ conn ∷ []) ≡ rowBlock conn kind src dst a b c (conn ∷ [])
 unfolding padded
 row-is conn kind src dst a b c = refl
 
-pub row-numbers : (p : Pair) (a b c : ℕ) → length (blockWith p a b c) ≡ 49
+pub row-numbers : (p : Pair) (a b c : ℕ) → length (blockWith p a b c) ≡ rowNumbers
 unfolding blockWith padded
 row-numbers p a b c = refl
 
@@ -106,6 +106,6 @@ module _ (rows : List ℕ) (place conn kind k src dst a b c : ℕ) where
 
   pub row-put :
       (row rows′ : List ℕ) → conn ≡ getD rows place 0 → k ≡ getD rows (place + 3 + 1) 0 → kind ≡ connectionKind k
-      → src ≡ getD rows (place + 1) 0 → dst ≡ getD rows (place + 2) 0 → row ≡ sets (zeros 49) 0 (conn ∷ kind ∷ src ∷ dst ∷ a ∷ b ∷ c ∷ 1 ∷ conn ∷ [])
+      → src ≡ getD rows (place + 1) 0 → dst ≡ getD rows (place + 2) 0 → row ≡ sets (zeros rowNumbers) 0 (conn ∷ kind ∷ src ∷ dst ∷ a ∷ b ∷ c ∷ 1 ∷ conn ∷ [])
       → rows′ ≡ sets rows place row → rows′ ≡ sets rows place (blockWith (pairBack (drop place rows)) a b c)
   row-put row rows′ e₀ e₁ e₂ e₃ e₄ e₅ e₆ = e₆ ∙ ap (sets rows place) (e₅ ∙ row-is conn kind src dst a b c ∙ block-is e₀ e₁ e₂ e₃ e₄)

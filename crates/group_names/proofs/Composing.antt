@@ -11,7 +11,7 @@ use Rattle.as5506.specs.Lists.{each}
 use Rattle.as5506.specs.Tables.{Tables, source, destination, nameIn, xName, xFeat}
 use Rattle.as5506.specs.Groups.{Feature}
 use Rattle.as5506.specs.Listing.{rowNames}
-use Rattle.as5506.specs.Layout.{groupBlock}
+use Rattle.as5506.specs.Layout.{rowNumbers, groupBlock}
 use Rattle.lent.specs.Append.{Filled, filled, append, appendAll, together}
 use Rattle.lent.proofs.Sets.{sets-append, sets-behind}
 use Rattle.lent.proofs.Append.{all-length, all-bound, all-append, all-fit, all-full}
@@ -58,34 +58,33 @@ module _ (bytes n x rows : List ℕ) (place v : ℕ) (e : v ≡ getD rows place 
   conn-is = e ∙ ap (λ (j : ℕ). getD rows j 0) (sym (add-zero place)) ∙ sym (getD-drop place rows 0 0)
 
   pub own-is :
-      (k j : ℕ) (o₀ o₁ o₂ : Filled) → k ≡ getD x (v * 7) 0 → j ≡ getD rows (place + 3) 0 → o₁ ≡ append (nameIn bytes n k) o₀
+      (k j : ℕ) (o₀ o₁ o₂ : Filled) → k ≡ xName (connectionsIn [] [] x) v → j ≡ getD rows (place + 3) 0 → o₁ ≡ append (nameIn bytes n k) o₀
       → o₂ ≡ appendAll (dotPieces bytes n j) o₁ → o₂ ≡ appendAll (ownPieces (connectionsIn bytes n x) (pairBack (drop place rows))) o₀
   unfolding ownPieces joinedPieces pairBack featureBack appendAll
   own-is k j o₀ o₁ o₂ p q f g =
-      let a : k ≡ getD x (getD (drop place rows) 0 0 * 7 + 0) 0
-      = p ∙ ap (λ (i : ℕ). getD x i 0) (sym (add-zero (v * 7)) ∙ ap (λ (i : ℕ). i * 7 + 0) conn-is) in
+      let a : k ≡ xName (connectionsIn [] [] x) (getD (drop place rows) 0 0) = p ∙ ap (xName (connectionsIn [] [] x)) conn-is in
       let b : j ≡ getD (drop 3 (drop place rows)) 0 0 = q ∙ sym (getD-drop 3 (drop place rows) 0 0 ∙ getD-drop place rows 3 0) in
       g ∙ ap₂ (λ (i : ℕ) (o : Filled). appendAll (dotPieces bytes n i) o) b (f ∙ ap (λ (i : ℕ). append (nameIn bytes n i) o₀) a)
 
   pub source-is :
-      (k : ℕ) (o₀ o₁ : Filled) → k ≡ getD x (v * 7 + 4) 0
+      (k : ℕ) (o₀ o₁ : Filled) → k ≡ xFeat (connectionsIn [] [] x) source v
       → o₁ ≡ appendAll (joinedPieces bytes n k (featureNames (featureBack (drop (place + 3) rows)))) o₀
       → o₁ ≡ appendAll (sourcePieces (connectionsIn bytes n x) (pairBack (drop place rows))) o₀
   unfolding sourcePieces pairBack
   source-is k o₀ o₁ p f =
       f
       ∙ ap₂ (λ (i : ℕ) (l : List ℕ). appendAll (joinedPieces bytes n i (featureNames (featureBack l))) o₀)
-      (p ∙ ap (λ (i : ℕ). getD x (i * 7 + 4) 0) conn-is) (sym (drop-drop 3 place rows))
+      (p ∙ ap (xFeat (connectionsIn [] [] x) source) conn-is) (sym (drop-drop 3 place rows))
 
   pub partner-is :
-      (k : ℕ) (o₀ o₁ : Filled) → k ≡ getD x (v * 7 + 6) 0
+      (k : ℕ) (o₀ o₁ : Filled) → k ≡ xFeat (connectionsIn [] [] x) destination v
       → o₁ ≡ appendAll (joinedPieces bytes n k (featureNames (featureBack (drop (place + 17) rows)))) o₀
       → o₁ ≡ appendAll (partnerPieces (connectionsIn bytes n x) (pairBack (drop place rows))) o₀
   unfolding partnerPieces pairBack
   partner-is k o₀ o₁ p f =
       f
       ∙ ap₂ (λ (i : ℕ) (l : List ℕ). appendAll (joinedPieces bytes n i (featureNames (featureBack l))) o₀)
-      (p ∙ ap (λ (i : ℕ). getD x (i * 7 + 6) 0) conn-is) (sym (drop-drop 17 place rows))
+      (p ∙ ap (xFeat (connectionsIn [] [] x) destination) conn-is) (sym (drop-drop 17 place rows))
 
 -- how far the output is used behind each of them, where it is not full
 pub record Ends (m : Tables) (p : Pair) (used a b c : ℕ) : Type 0 where
@@ -151,7 +150,7 @@ module _ (bytes n x rows : List ℕ) (place : ℕ) (h : ShortNames bytes n) wher
 
 -- ---- the loop over the matches
 
-row-length : (m : Tables) (p : Pair) → length (each groupBlock (pairRows m p)) ≡ 49
+row-length : (m : Tables) (p : Pair) → length (each groupBlock (pairRows m p)) ≡ rowNumbers
 row-length m p = ap length (pair-block m p) ∙ row-numbers p (length (together (ownPieces m p))) (length (together (sourcePieces m p))) (length (together (partnerPieces m p)))
 
 -- of the matches ps, those from place i on are still to be composed
@@ -160,8 +159,8 @@ pub record Left (m : Tables) (ps : List Pair) (rows₀ names₀ : List ℕ) (cou
   pub rest : List ℕ
   pub number : i + length left ≡ count
   pub short : AllShort left
-  pub blocks : drop (i * 49) rows ≡ each pairBlock left ++ rest
-  pub toRows : sets rows (i * 49) (each groupBlock (rowsOfPairs m left)) ≡ sets rows₀ 0 (each groupBlock (rowsOfPairs m ps))
+  pub blocks : drop (i * rowNumbers) rows ≡ each pairBlock left ++ rest
+  pub toRows : sets rows (i * rowNumbers) (each groupBlock (rowsOfPairs m left)) ≡ sets rows₀ 0 (each groupBlock (rowsOfPairs m ps))
   pub toNames : appendAll (each (pairPieces m) left) (filled names used) ≡ appendAll (each (pairPieces m) ps) (filled names₀ 0)
 
 module _ (m : Tables) (ps : List Pair) (rows₀ names₀ : List ℕ) (count : ℕ) where
@@ -169,10 +168,10 @@ module _ (m : Tables) (ps : List Pair) (rows₀ names₀ : List ℕ) (count : �
   left-start h =
       record {
         left = ps;
-        rest = drop (count * 49) rows₀;
+        rest = drop (count * rowNumbers) rows₀;
         number = omega (arith, h .number);
         short = h .short;
-        blocks = sym (take-append-drop (count * 49) rows₀) ∙ ap (λ (l : List ℕ). l ++ drop (count * 49) rows₀) (h .blocks);
+        blocks = sym (take-append-drop (count * rowNumbers) rows₀) ∙ ap (λ (l : List ℕ). l ++ drop (count * rowNumbers) rows₀) (h .blocks);
         toRows = refl;
         toNames = refl;
       }
@@ -198,7 +197,7 @@ module _ (m : Tables) (ps : List Pair) (rows₀ names₀ : List ℕ) (count : �
     left-end l h = go (l .left) (l .number) (l .toRows) (l .toNames)
       where
         go :
-            (left : List Pair) → i + length left ≡ count → sets rows (i * 49) (each groupBlock (rowsOfPairs m left)) ≡ sets rows₀ 0 (each groupBlock (rowsOfPairs m ps))
+            (left : List Pair) → i + length left ≡ count → sets rows (i * rowNumbers) (each groupBlock (rowsOfPairs m left)) ≡ sets rows₀ 0 (each groupBlock (rowsOfPairs m ps))
             → appendAll (each (pairPieces m) left) (filled names used) ≡ appendAll (each (pairPieces m) ps) (filled names₀ 0)
             → Composed m ps rows₀ names₀ used rows names
         go [] k e f = composed rows names used e f
@@ -209,8 +208,8 @@ module _ (m : Tables) (ps : List Pair) (rows₀ names₀ : List ℕ) (count : �
       pub pair : Pair
       pub behind : List Pair
       pub all : l .left ≡ pair ∷ behind
-      pub is : pairBack (drop (i * 49) rows) ≡ pair
-      pub then : drop (i * 49 + 49) rows ≡ each pairBlock behind ++ l .rest
+      pub is : pairBack (drop (i * rowNumbers) rows) ≡ pair
+      pub then : drop (i * rowNumbers + rowNumbers) rows ≡ each pairBlock behind ++ l .rest
 
     next : (l : Left m ps rows₀ names₀ count rows names used i) → i < count → Next l
     next l h = go (l .left) refl
@@ -219,18 +218,18 @@ module _ (m : Tables) (ps : List Pair) (rows₀ names₀ : List ℕ) (count : �
         go [] e = absurd (omega (arith, h, l .number, ap (λ (q : List Pair). length q) e))
         go (p ∷ left) e =
             let s : AllShort (p ∷ left) = subst AllShort e (l .short) in
-            let b : drop (i * 49) rows ≡ pairBlock p ++ (each pairBlock left ++ l .rest)
+            let b : drop (i * rowNumbers) rows ≡ pairBlock p ++ (each pairBlock left ++ l .rest)
             = l .blocks ∙ ap (λ (q : List Pair). each pairBlock q ++ l .rest) e ∙ append-assoc (pairBlock p) (each pairBlock left) (l .rest) in
             record {
               pair = p;
               behind = left;
               all = e;
               is = ap pairBack b ∙ pair-back p (s .0) (each pairBlock left ++ l .rest);
-              then = sym (drop-drop 49 (i * 49) rows) ∙ ap (drop 49) b ∙ drop-at (pairBlock p) (each pairBlock left ++ l .rest) 49 (pair-length p (s .0));
+              then = sym (drop-drop rowNumbers (i * rowNumbers) rows) ∙ ap (drop rowNumbers) b ∙ drop-at (pairBlock p) (each pairBlock left ++ l .rest) rowNumbers (pair-length p (s .0));
             }
 
     module _ (rows′ names′ : List ℕ) (z : ℕ) (l : Left m ps rows₀ names₀ count rows names used i) (h : i < count)
-        (e : filled names′ z ≡ appendAll (pairPieces m (pairBack (drop (i * 49) rows))) (filled names used)) where
+        (e : filled names′ z ≡ appendAll (pairPieces m (pairBack (drop (i * rowNumbers) rows))) (filled names used)) where
       abbrev after : List Pair
       after = next l h .behind
 
@@ -246,7 +245,7 @@ module _ (m : Tables) (ps : List Pair) (rows₀ names₀ : List ℕ) (count : �
       -- there was no room for them
       pub left-full : used ≤ length names → length names ≡ length names₀ → length names < z → Composed m ps rows₀ names₀ z rows′ names′
       left-full b s k =
-          let w = written (pairPieces m (pairBack (drop (i * 49) rows))) names used names′ z (omega (arith, b)) e in
+          let w = written (pairPieces m (pairBack (drop (i * rowNumbers) rows))) names used names′ z (omega (arith, b)) e in
           let u : appendAll (each (pairPieces m) ps) (filled names₀ 0) .used ≡ length names′ + 1
           = ap (λ (q : Filled). q .used) (sym names-turn)
           ∙ all-full (each (pairPieces m) after) (filled names′ z) (omega (arith, w .bound, w .same)) (omega (arith, k, w .same)) in
@@ -260,24 +259,24 @@ module _ (m : Tables) (ps : List Pair) (rows₀ names₀ : List ℕ) (count : �
           }
 
       -- the row is in its place
-      pub left-turn : rows′ ≡ sets rows (i * 49) (each groupBlock (pairRows m (pairBack (drop (i * 49) rows)))) → Left m ps rows₀ names₀ count rows′ names′ z (i + 1)
+      pub left-turn : rows′ ≡ sets rows (i * rowNumbers) (each groupBlock (pairRows m (pairBack (drop (i * rowNumbers) rows)))) → Left m ps rows₀ names₀ count rows′ names′ z (i + 1)
       unfolding rowsOfPairs
       left-turn r =
           let p : Pair = next l h .pair in
           let block : List ℕ = each groupBlock (pairRows m p) in
-          let n : i * 49 + length block ≡ (i + 1) * 49 = omega (arith, row-length m p) in
-          let n′ : (i + 1) * 49 ≡ i * 49 + 49 = omega arith in
-          let r′ : rows′ ≡ sets rows (i * 49) block = r ∙ ap (λ (q : Pair). sets rows (i * 49) (each groupBlock (pairRows m q))) (next l h .is) in
+          let n : i * rowNumbers + length block ≡ (i + 1) * rowNumbers = omega (arith, row-length m p) in
+          let n′ : (i + 1) * rowNumbers ≡ i * rowNumbers + rowNumbers = omega arith in
+          let r′ : rows′ ≡ sets rows (i * rowNumbers) block = r ∙ ap (λ (q : Pair). sets rows (i * rowNumbers) (each groupBlock (pairRows m q))) (next l h .is) in
           record {
             left = after;
             rest = l .rest;
             number = omega (arith, l .number, ap (λ (q : List Pair). length q) (next l h .all));
             short = subst AllShort (next l h .all) (l .short) .1;
-            blocks = ap (drop ((i + 1) * 49)) r′ ∙ sets-behind block rows ((i + 1) * 49) (i * 49) (omega (arith, n)) ∙ ap (λ (k : ℕ). drop k rows) n′ ∙ next l h .then;
+            blocks = ap (drop ((i + 1) * rowNumbers)) r′ ∙ sets-behind block rows ((i + 1) * rowNumbers) (i * rowNumbers) (omega (arith, n)) ∙ ap (λ (k : ℕ). drop k rows) n′ ∙ next l h .then;
             toRows = ap₂ (λ (q : List ℕ) (k : ℕ). sets q k (each groupBlock (rowsOfPairs m after))) r′ (sym n)
-                ∙ sym (sets-append block (each groupBlock (rowsOfPairs m after)) rows (i * 49))
-                ∙ ap (sets rows (i * 49)) (sym (each-append groupBlock (pairRows m p) (rowsOfPairs m after)))
-                ∙ ap (λ (q : List Pair). sets rows (i * 49) (each groupBlock (rowsOfPairs m q))) (sym (next l h .all))
+                ∙ sym (sets-append block (each groupBlock (rowsOfPairs m after)) rows (i * rowNumbers))
+                ∙ ap (sets rows (i * rowNumbers)) (sym (each-append groupBlock (pairRows m p) (rowsOfPairs m after)))
+                ∙ ap (λ (q : List Pair). sets rows (i * rowNumbers) (each groupBlock (rowsOfPairs m q))) (sym (next l h .all))
                 ∙ l .toRows;
             toNames = names-turn;
           }

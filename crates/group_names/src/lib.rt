@@ -1,5 +1,9 @@
 // The names of group rows (instance.rs, `make_expanded_name`): each match in the output of rows becomes its row, and its three names go, unseparated,
 // into the output of composed names.
+use as5506::PREFIX_PLACES;
+use as5506::ROW_NUMBERS;
+use columns::Side;
+use columns::connection;
 use lent::append_bytes;
 use lent::number_at;
 ghost use mathlib.Core.Path.{_≡_};
@@ -10,7 +14,7 @@ ghost use lib.Seq.{sets};
 ghost use Rattle.as5506.specs.Lists.{each};
 ghost use Rattle.as5506.specs.Tables.{nameIn};
 ghost use Rattle.as5506.specs.GroupList.{connectionKind};
-ghost use Rattle.as5506.specs.Layout.{groupBlock};
+ghost use Rattle.as5506.specs.Layout.{rowNumbers, featureNumbers, groupBlock};
 ghost use Rattle.lent.specs.Append.{filled, append, appendAll};
 ghost use Rattle.lent.specs.Lent.{connectionsIn};
 ghost use Rattle.group_names.specs.Compose.{Pair, Holds, pairRows, ShortNames, Composed};
@@ -54,14 +58,14 @@ fn put_dotted(bytes: &[u8], n: &[u32], names: &mut [u8], used: usize, k: u32) ->
 
 // How many names the prefix has of the feature whose block stands at a place of the rows: at most as many as it has places.
 fn prefix_length(rows: &[u32], place: usize) -> usize
-    requires { ⌜ place + 14 ≤ length (now rows) ⌝ }
+    requires { ⌜ place + featureNumbers ≤ length (now rows) ⌝ }
     ensures { λ z. ⌜ z ≡ prefixLength (drop place (now (rows .entry))) ⌝ }
 {
     let len = number_at(rows, place + PREFIX_LENGTH) as usize;
-    if len < as5506::PREFIX_PLACES {
+    if len < PREFIX_PLACES {
         return len;
     }
-    as5506::PREFIX_PLACES
+    PREFIX_PLACES
 }
 
 // Appends "group.prefix.feature" of the feature whose block stands at a place of the rows.
@@ -74,7 +78,7 @@ fn put_full_name(
     used: usize,
     group: u32,
 ) -> usize
-    requires { ⌜ place + 14 ≤ length (now rows) ⌝ }
+    requires { ⌜ place + featureNumbers ≤ length (now rows) ⌝ }
     ensures { λ z. ⌜ filled (now (names .exit)) z
         ≡ appendAll (joinedPieces (now (bytes .entry)) (now (n .entry)) group (featureNames (featureBack (drop place (now (rows .entry)))))) (filled (now (names .entry)) used) ⌝ }
 {
@@ -90,7 +94,7 @@ fn put_full_name(
 
 // Writes the row in place of the match at a place of the rows, given the lengths of its names.
 fn put_row(rows: &mut [u32], place: usize, own: u32, source: u32, partner: u32)
-    requires { ⌜ place + 49 ≤ length (now rows) ⌝ }
+    requires { ⌜ place + rowNumbers ≤ length (now rows) ⌝ }
     ensures { λ _. ⌜ now (rows .exit) ≡ sets (now (rows .entry)) place (blockWith (pairBack (drop place (now (rows .entry)))) own source partner) ⌝ }
 {
     let connection = number_at(rows, place);
@@ -105,7 +109,7 @@ fn put_row(rows: &mut [u32], place: usize, own: u32, source: u32, partner: u32)
         1,
         connection,
     ];
-    let mut row = [0u32; 49];
+    let mut row = [0u32; ROW_NUMBERS];
     lent::put_numbers(&mut row, 0, &head);
     lent::put_numbers(rows, place, &row);
 }
@@ -120,14 +124,14 @@ fn compose_row(
     names: &mut [u8],
     used: usize,
 ) -> usize
-    requires { ⌜ ShortNames (now bytes) (now n) × (place + 49 ≤ length (now rows)) × (used ≤ length (now names)) ⌝ }
+    requires { ⌜ ShortNames (now bytes) (now n) × (place + rowNumbers ≤ length (now rows)) × (used ≤ length (now names)) ⌝ }
     ensures { λ z. ⌜ filled (now (names .exit)) z
         ≡ appendAll (pairPieces (connectionsIn (now (bytes .entry)) (now (n .entry)) (now (x .entry))) (pairBack (drop place (now (rows .entry))))) (filled (now (names .entry)) used) ⌝ }
     ensures { λ z. ⌜ (z ≤ length (now (names .entry)) → now (rows .exit)
         ≡ sets (now (rows .entry)) place (each groupBlock (pairRows (connectionsIn (now (bytes .entry)) (now (n .entry)) (now (x .entry))) (pairBack (drop place (now (rows .entry))))))) ⌝ }
 {
-    let at = number_at(rows, place) as usize * 7;
-    let own = put_name(bytes, n, names, used, number_at(x, at));
+    let i = number_at(rows, place) as usize;
+    let own = put_name(bytes, n, names, used, connection::name_of(x, i));
     let a = put_dotted(bytes, n, names, own, number_at(rows, place + SOURCE));
     let b = put_full_name(
         bytes,
@@ -136,7 +140,7 @@ fn compose_row(
         place + SOURCE,
         names,
         a,
-        number_at(x, at + 4),
+        connection::feature_of(x, Side::Source, i),
     );
     let c = put_full_name(
         bytes,
@@ -145,7 +149,7 @@ fn compose_row(
         place + PARTNER,
         names,
         b,
-        number_at(x, at + 6),
+        connection::feature_of(x, Side::Destination, i),
     );
     if names.len() < c {
         return c;
@@ -169,7 +173,7 @@ pub fn compose_names(
     count: usize,
     names: &mut [u8],
 ) -> usize
-    requires { ⌜ ShortNames (now bytes) (now n) × (count * 49 ≤ length (now rows)) ⌝ }
+    requires { ⌜ ShortNames (now bytes) (now n) × (count * rowNumbers ≤ length (now rows)) ⌝ }
     ensures { λ z.
         ⌜ ((ps : List Pair) → Holds (now (rows .entry)) count ps →
         Composed (connectionsIn (now (bytes .entry)) (now (n .entry)) (now (x .entry))) ps (now (rows .entry)) (now (names .entry)) z (now (rows .exit)) (now (names .exit))) ⌝ }
@@ -177,7 +181,7 @@ pub fn compose_names(
     let mut used: usize = 0;
     let mut i: usize = 0;
     while i < count {
-        used = compose_row(bytes, n, x, rows, i * 49, names, used);
+        used = compose_row(bytes, n, x, rows, i * ROW_NUMBERS, names, used);
         if names.len() < used {
             return used;
         }

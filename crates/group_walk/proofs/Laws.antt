@@ -2,7 +2,7 @@
 use mathlib.Core.Bool.{Bool, true, false, not, _&&_}
 use mathlib.Core.Path.{_≡_, refl, sym, ap, ap₂, _∙_, subst}
 use mathlib.Core.List.{List, [], _∷_, _++_, map, append-nil}
-use Prim.Native.Nat.{ℕ, zero, suc, _+_, _*_, _-_, _/_, _≤_, _<_}
+use Prim.Native.Nat.{ℕ, zero, suc, _+_, _-_, _/_, _≤_, _<_}
 use native.Mathlib.Nat.{add-zero, add-assoc, sub-zero}
 use native.Mathlib.Numerals.{add-one}
 use native.Mathlib.Omega.{arith}
@@ -11,7 +11,7 @@ use lib.Dec.{eqb, leb, ltb}
 use lib.ListN.{length, getD, set, take}
 use lib.Seq.{take-suc-set}
 use Rattle.as5506.specs.Lists.{span, keep}
-use Rattle.as5506.specs.Tables.{missing, present, eHolder, eHolderKind, eName, eKind, eDirection, rowsNaming}
+use Rattle.as5506.specs.Tables.{missing, present, width, letterE, eHolder, eHolderKind, eName, eKind, eDirection, rowsNaming}
 use Rattle.as5506.specs.Groups.{Feature, Expansion, joined, oneVisit, oneFeature, turned}
 use Rattle.as5506.proofs.Laws.{missing-is, present-is}
 use Rattle.as5506.proofs.Scans.{keep-hit, keep-miss, keep-done, keep-both}
@@ -265,17 +265,17 @@ ofGroup e u i = eqb (eHolder (declaredIn [] [] e) i) u && eqb (eHolderKind (decl
 pub not-of : (e : List ℕ) (u i v : ℕ) → v ≡ eHolder (declaredIn [] [] e) i → (v ≡ u → ⊥) → false ≡ ofGroup e u i
 not-of e u i v a q = rw (ne-eqb (eHolder (declaredIn [] [] e) i) u (λ z. q (a ∙ z)))
 
-pub of-by : (e : List ℕ) (u i v w : ℕ) → v ≡ eHolder (declaredIn [] [] e) i → v ≡ u → w ≡ getD e (i * 8) 0 → eqb w 1 ≡ ofGroup e u i
-of-by e u i v w a q b = rw (eq-eqb (eHolder (declaredIn [] [] e) i) u (sym a ∙ q), add-zero (i * 8), b)
+pub of-by : (e : List ℕ) (u i v w : ℕ) → v ≡ eHolder (declaredIn [] [] e) i → v ≡ u → w ≡ eHolderKind (declaredIn [] [] e) i → eqb w 1 ≡ ofGroup e u i
+of-by e u i v w a q b = rw (eq-eqb (eHolder (declaredIn [] [] e) i) u (sym a ∙ q), b)
 
 -- those from row i on
 unfoldable pub rowsFrom : List ℕ → ℕ → ℕ → List ℕ
-rowsFrom e u i = keep (ofGroup e u) (span i (length e / 8 - i))
+rowsFrom e u i = keep (ofGroup e u) (span i (length e / width letterE - i))
 
 -- the one test after the other
 pub rows-start : (g : Groups) (u : ℕ) → rowsFrom (g .e) u 0 ≡ rowsIn g u
 unfolding rowsFrom rowsNaming
-rows-start g u = rw sub-zero (sym (keep-both (λ i. eqb (eHolderKind (declaredIn [] [] (g .e)) i) 1) (λ i. eqb (eHolder (declaredIn [] [] (g .e)) i) u) (span 0 (length (g .e) / 8))))
+rows-start g u = rw sub-zero (sym (keep-both (λ i. eqb (eHolderKind (declaredIn [] [] (g .e)) i) 1) (λ i. eqb (eHolder (declaredIn [] [] (g .e)) i) u) (span 0 (length (g .e) / width letterE))))
 
 -- ---- a walk over them, row by row
 
@@ -296,22 +296,22 @@ module _ (does : Take) (g : Groups) (visit : Visit) (inverse : Bool) (prefix : L
   onFrom s j = run does s (walk g visit inverse prefix (rowsFrom (g .e) u j))
 
   module _ (i : ℕ) where
-    pub walk-end : (h : Held) (k : ℕ) → length (g .e) / 8 ≤ i → k ≤ visitLimit → onFrom (going h k) i ≡ going h k
+    pub walk-end : (h : Held) (k : ℕ) → length (g .e) / width letterE ≤ i → k ≤ visitLimit → onFrom (going h k) i ≡ going h k
     unfolding walk rowsFrom
-    walk-end h k p l = rw (keep-done (ofGroup (g .e) u) i (length (g .e) / 8) p) (run-nothing does h k l)
+    walk-end h k p l = rw (keep-done (ofGroup (g .e) u) i (length (g .e) / width letterE) p) (run-nothing does h k l)
 
-    module _ (p : i < length (g .e) / 8) (h : Held) (k : ℕ) (b : Bool) (is : b ≡ ofGroup (g .e) u i) where
+    module _ (p : i < length (g .e) / width letterE) (h : Held) (k : ℕ) (b : Bool) (is : b ≡ ofGroup (g .e) u i) where
       abbrev here : State
       here = onFrom (going h k) i
 
       pub row-passed : b ≡ false → onFrom (going h k) (i + 1) ≡ here
       unfolding rowsFrom
-      row-passed q = rw (keep-miss (ofGroup (g .e) u) i (length (g .e) / 8) p (sym is ∙ q))
+      row-passed q = rw (keep-miss (ofGroup (g .e) u) i (length (g .e) / width letterE) p (sym is ∙ q))
 
       module _ (q : b ≡ true) (to : ℕ) (n : to ≡ getD (g .nested) i 0) where
         row-taken : here ≡ onFrom (run does (going h k) (rowBy (present to) g visit inverse prefix i)) (i + 1)
         unfolding walk rowsFrom
-        row-taken = rw (keep-hit (ofGroup (g .e) u) i (length (g .e) / 8) p (sym is ∙ q), n) (run-joined does (going h k) (part i) (map part (rowsFrom (g .e) u (i + 1))))
+        row-taken = rw (keep-hit (ofGroup (g .e) u) i (length (g .e) / width letterE) p (sym is ∙ q), n) (run-joined does (going h k) (part i) (map part (rowsFrom (g .e) u (i + 1))))
 
         pub row-listed : to ≡ missing → k ≤ visitLimit → (a : Held) → a ≡ does (featureAt (g .e) inverse prefix i) h → onFrom (going a k) (i + 1) ≡ here
         unfolding rowBy

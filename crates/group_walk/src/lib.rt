@@ -3,8 +3,10 @@
 // is done with a feature is `sink::take_feature`. A walk may make 65,536 visits, and most of them change nothing: names that have come, outputs
 // that are full. So a table `calm` has a number for each group type and level: 0, or how many visits a visit there makes that is known to change
 // nothing. Such a visit is passed over, and its visits are counted.
+use as5506::E_NUMBERS;
 use as5506::MISSING;
 use as5506::VISITS;
+use columns::declared;
 use lent::number_at;
 use links::UNFOUND;
 use sink::Feature;
@@ -13,17 +15,17 @@ use sink::Tally;
 ghost use mathlib.Core.Bool.{_&&_};
 ghost use mathlib.Core.Path.{_≡_};
 ghost use mathlib.Core.List.{[]};
-ghost use Prim.Native.Nat.{_+_, _*_, _/_, _<_, _≤_};
 ghost use lib.Dec.{eqb};
-ghost use lib.ListN.{length, getD, take};
+ghost use lib.ListN.{getD, take};
 ghost use Rattle.as5506.specs.Tables.{eHolder, eHolderKind, present};
 ghost use Rattle.as5506.specs.Groups.{turned};
 ghost use Rattle.lent.specs.Lent.{declaredIn};
 ghost use Rattle.links.specs.Walk.{groupsIn, rowsIn, walk, typeBy, visitLink};
-ghost use Rattle.sink.specs.Take.{held, taken, Ready};
+ghost use Rattle.sink.specs.Take.{held, taken};
 ghost use Rattle.sink.specs.Dull.{Dull};
 ghost use Rattle.group_walk.specs.Run.{going, run, stateOf};
-ghost use Rattle.group_walk.specs.Calm.{Passable, CalmAfter};
+ghost use Rattle.group_walk.specs.Calm.{CalmAfter};
+ghost use Rattle.group_walk.specs.Ready.{VisitReady, TypeReady};
 
 // How many visits may lie one inside the other.
 pub const LEVELS: usize = 11;
@@ -52,14 +54,12 @@ fn turn(inverse: bool, direction: u32) -> u32
 
 // Whether E row i is a feature of group type `row`.
 fn belongs(e: &[u32], row: u32, i: usize) -> bool
-    requires { ⌜ i < length (now e) / 8 ⌝ }
     ensures { λ z. ⌜ z ≡ eqb (eHolder (declaredIn [] [] (now (e .entry))) i) row && eqb (eHolderKind (declaredIn [] [] (now (e .entry))) i) 1 ⌝ }
 {
-    let place = i * 8;
-    if number_at(e, place + 1) != row {
+    if declared::holder_of(e, i) != row {
         return false;
     }
-    number_at(e, place) == 1
+    declared::holder_kind_of(e, i) == 1
 }
 
 // Visits what a link means: a row of U, or nothing. `left`: how many visits may lie one inside the other, this one included. Where the visit is
@@ -85,8 +85,8 @@ pub fn visit(
     tally: Tally,
     visits: u32,
 ) -> Walked
-    requires { ⌜ Ready purpose (now bytes) (now n) (now kept) (now memo) × (length prefix ≡ 11) × (len + left ≤ 11) ⌝ }
-    requires { ⌜ Passable (groupsIn (now e) (now nested) (now extends) (now inverses)) (Dull purpose (now bytes) (now n) (now kept)) (held tally (now memo) (now out) (now notes)) (now calm) ⌝ }
+    requires { ⌜ VisitReady
+        (groupsIn (now e) (now nested) (now extends) (now inverses)) purpose (now bytes) (now n) (now kept) (now memo) (now out) (now notes) (now calm) prefix len left tally ⌝ }
     ensures { λ z. ⌜ stateOf z (now (memo .exit)) (now (out .exit)) (now (notes .exit))
         ≡ run (taken purpose (now (bytes .entry)) (now (n .entry)) (now (kept .entry))) (going (held tally (now (memo .entry)) (now (out .entry)) (now (notes .entry))) visits)
         (visitLink (groupsIn (now (e .entry)) (now (nested .entry)) (now (extends .entry)) (now (inverses .entry))) left to inverse (take len prefix)) ⌝ }
@@ -186,8 +186,8 @@ fn expand_type(
     tally: Tally,
     visits: u32,
 ) -> Walked
-    requires { ⌜ Ready purpose (now bytes) (now n) (now kept) (now memo) × (length prefix ≡ 11) × (len + left ≤ 10) × (visits ≤ 65536) ⌝ }
-    requires { ⌜ Passable (groupsIn (now e) (now nested) (now extends) (now inverses)) (Dull purpose (now bytes) (now n) (now kept)) (held tally (now memo) (now out) (now notes)) (now calm) ⌝ }
+    requires { ⌜ TypeReady
+        (groupsIn (now e) (now nested) (now extends) (now inverses)) purpose (now bytes) (now n) (now kept) (now memo) (now out) (now notes) (now calm) prefix len left tally visits ⌝ }
     ensures { λ z. ⌜ stateOf z (now (memo .exit)) (now (out .exit)) (now (notes .exit))
         ≡ run (taken purpose (now (bytes .entry)) (now (n .entry)) (now (kept .entry))) (going (held tally (now (memo .entry)) (now (out .entry)) (now (notes .entry))) visits)
         (typeBy (present (getD (now (inverses .entry)) row 0)) (groupsIn (now (e .entry)) (now (nested .entry)) (now (extends .entry)) (now (inverses .entry)))
@@ -315,8 +315,8 @@ fn walk_features(
     tally: Tally,
     visits: u32,
 ) -> Walked
-    requires { ⌜ Ready purpose (now bytes) (now n) (now kept) (now memo) × (length prefix ≡ 11) × (len + left ≤ 10) × (visits ≤ 65536) ⌝ }
-    requires { ⌜ Passable (groupsIn (now e) (now nested) (now extends) (now inverses)) (Dull purpose (now bytes) (now n) (now kept)) (held tally (now memo) (now out) (now notes)) (now calm) ⌝ }
+    requires { ⌜ TypeReady
+        (groupsIn (now e) (now nested) (now extends) (now inverses)) purpose (now bytes) (now n) (now kept) (now memo) (now out) (now notes) (now calm) prefix len left tally visits ⌝ }
     ensures { λ z. ⌜ stateOf z (now (memo .exit)) (now (out .exit)) (now (notes .exit))
         ≡ run (taken purpose (now (bytes .entry)) (now (n .entry)) (now (kept .entry))) (going (held tally (now (memo .entry)) (now (out .entry)) (now (notes .entry))) visits)
         (walk (groupsIn (now (e .entry)) (now (nested .entry)) (now (extends .entry)) (now (inverses .entry)))
@@ -325,20 +325,19 @@ fn walk_features(
     ensures { λ z. ⌜ CalmAfter z (groupsIn (now (e .entry)) (now (nested .entry)) (now (extends .entry)) (now (inverses .entry))) (Dull purpose (now (bytes .entry)) (now (n .entry)) (now (kept .entry)))
         (now (memo .exit)) (now (out .exit)) (now (notes .exit)) (now (calm .exit)) ⌝ }
 {
-    let count = e.len() / 8;
+    let count = e.len() / E_NUMBERS;
     let mut so_far = tally;
     let mut seen = visits;
     let mut i: usize = 0;
     while i < count {
         if belongs(e, row, i) {
-            let place = i * 8;
-            let name = number_at(e, place + 2);
+            let name = declared::name_of(e, i);
             let to = number_at(nested, i);
             if to == MISSING {
                 let feature = Feature {
                     name: name,
-                    kind: number_at(e, place + 3),
-                    direction: turn(inverse, number_at(e, place + 4)),
+                    kind: declared::kind_of(e, i),
+                    direction: turn(inverse, declared::direction_of(e, i)),
                     prefix: prefix,
                     len: len,
                 };

@@ -11,14 +11,14 @@ use lib.Seq.{sets}
 use borrow.Author.Tests.{lt-ltb, le-ltb}
 use Rattle.as5506.specs.Lists.{isNil, each, zeros}
 use Rattle.as5506.specs.declared.Refusal.{Refusal as Told}
-use Rattle.as5506.specs.Tables.{Tables}
+use Rattle.as5506.specs.Tables.{Tables, letterC, letterX}
 use Rattle.as5506.specs.Answers.{Refusal, Answer, given, refused, refusal, nowhere, told}
 use Rattle.as5506.specs.Refusals.{faults, accepted}
 use Rattle.as5506.specs.Rows.{Diag}
 use Rattle.as5506.specs.Tracing.{Traced, traced, tracedDiags, unlimited, stepLimit}
 use Rattle.as5506.specs.Followed.{NoneHasNext}
 use Rattle.as5506.specs.Listing.{TracedList, Room, tracedList, tracedWithin, tracedOn, tracedAnswer}
-use Rattle.as5506.specs.Layout.{roomIn, tracedBlock, diagBlock, tracedRowNumbers, tracedDiagNumbers, output, rowsBack}
+use Rattle.as5506.specs.Layout.{rowNumbers, diagNumbers, roomIn, tracedBlock, diagBlock, tracedRowNumbers, tracedDiagNumbers, output, rowsBack}
 use Rattle.as5506.proofs.Laws.{not-both, zeros-length}
 use Rattle.as5506.proofs.Answers.{isGiven}
 use Rattle.as5506.proofs.Output.{demand-three-output}
@@ -29,9 +29,11 @@ use Rattle.tables.specs.declared.Checked.{Checked}
 use Rattle.tables.specs.declared.Checked.the-variants.{Refused as NotAccepted}
 use Rattle.tables.specs.Answer.{checked}
 use Rattle.tables.proofs.Answers.{refused-is}
+use Rattle.tables.proofs.Facts.{facts}
 use Rattle.trace.specs.declared.Wrote.{Wrote as Blocks}
 use Rattle.trace.specs.declared.Wrote.the-variants.{Count, Full}
 use Rattle.trace.specs.Writing.{Written}
+use Rattle.trace.specs.Ready.{Traceable}
 use Rattle.instance.specs.declared.Listed.{Listed}
 use Rattle.instance.specs.declared.Listed.the-variants.{Rows, Refused}
 use Rattle.instance.specs.Answer.{listed, answerFor, TracedInto}
@@ -54,6 +56,11 @@ is-given (refused r) k d h = not-both isRows (Rows k d) (Refused (told r)) (sym 
 is-refused : (a : Answer TracedList) (r : Told) → listed a ≡ Refused r → T (not (isGiven a))
 is-refused (given l) r h = not-both isRows (Rows (length (l .rows)) (length (l .diags))) (Refused r) h tt refl
 is-refused (refused x) r h = tt
+
+-- ---- accepted tables can be traced
+
+pub can-trace : (m : Tables) → T (accepted m) → Traceable (m .c) (m .x)
+can-trace m ok = record { components = facts m ok .few letterC; connections = facts m ok .few letterX }
 
 -- ---- THE ORDER 11, 12
 
@@ -108,7 +115,7 @@ module _ (m : Tables) (rows diags : List ℕ) where
   tables-refused q e r f = let s = refused-is m q e r f in refuses (s .0) (ap (tracedOn room m) (s .2)) r (s .3)
 
   -- they are accepted: q and rows₁ are what tracing gives
-  module _ (ok : T (accepted m)) (q : Blocks) (rows₁ : List ℕ) (v : Written 49 (tracedBlock (wiringOf m)) (traced stepLimit (wiringOf m)) rows 0 q rows₁) where
+  module _ (ok : T (accepted m)) (q : Blocks) (rows₁ : List ℕ) (v : Written rowNumbers (tracedBlock (wiringOf m)) (traced stepLimit (wiringOf m)) rows 0 q rows₁) where
     answer-is : theAnswer ≡ tracedWithin room (tracedList m)
     unfolding tracedAnswer tracedOn accepted
     answer-is = go (faults m) ok
@@ -117,33 +124,33 @@ module _ (m : Tables) (rows diags : List ℕ) where
         go [] t = refl
         go (r ∷ fs) t = absurd t
 
-    rows-written : Written 49 (tracedBlock m) (tracedList m .rows) rows 0 q rows₁
+    rows-written : Written rowNumbers (tracedBlock m) (tracedList m .rows) rows 0 q rows₁
     unfolding tracedBlock tracedList
-    rows-written = subst (λ (l : List Traced). Written 49 (tracedBlock m) l rows 0 q rows₁) (traced-seen m stepLimit) v
+    rows-written = subst (λ (l : List Traced). Written rowNumbers (tracedBlock m) l rows 0 q rows₁) (traced-seen m stepLimit) v
 
     -- 11: the rows do not fit
     pub lists-11 : q ≡ Full → (r : Told) → r ≡ told (refusal 11 nowhere) → (rows′ diags′ : List ℕ) → Leaves (Refused r) rows′ diags′
-    lists-11 e = refuses (refusal 11 nowhere) (answer-is ∙ within-11 room (tracedList m) (over 49 (tracedBlock m) (tracedList m .rows) rows q rows₁ rows-written e))
+    lists-11 e = refuses (refusal 11 nowhere) (answer-is ∙ within-11 room (tracedList m) (over rowNumbers (tracedBlock m) (tracedList m .rows) rows q rows₁ rows-written e))
 
     -- the rows fit: p and diags₁ are what diagnosing gives
-    module _ (k : ℕ) (e : q ≡ Count k) (p : Blocks) (diags₁ : List ℕ) (u : Written 4 diagBlock (tracedDiags (wiringOf m)) diags 0 p diags₁) where
+    module _ (k : ℕ) (e : q ≡ Count k) (p : Blocks) (diags₁ : List ℕ) (u : Written diagNumbers diagBlock (tracedDiags (wiringOf m)) diags 0 p diags₁) where
       rows-fit : (k ≡ length (tracedList m .rows)) × (length (tracedList m .rows) ≤ room .rows) × (length (tracedRowNumbers m (tracedList m)) ≤ length rows) × (rows₁ ≡ sets rows 0 (tracedRowNumbers m (tracedList m)))
       unfolding tracedRowNumbers
-      rows-fit = fit 49 (tracedBlock m) (tracedList m .rows) rows q rows₁ rows-written k e
+      rows-fit = fit rowNumbers (tracedBlock m) (tracedList m .rows) rows q rows₁ rows-written k e
 
-      diags-written : Written 4 diagBlock (tracedList m .diags) diags 0 p diags₁
+      diags-written : Written diagNumbers diagBlock (tracedList m .diags) diags 0 p diags₁
       unfolding tracedList
-      diags-written = subst (λ (l : List Diag). Written 4 diagBlock l diags 0 p diags₁) (diags-seen m) u
+      diags-written = subst (λ (l : List Diag). Written diagNumbers diagBlock l diags 0 p diags₁) (diags-seen m) u
 
       -- 12: the diagnostics do not fit
       pub lists-12 : p ≡ Full → (r : Told) → r ≡ told (refusal 12 nowhere) → (rows′ diags′ : List ℕ) → Leaves (Refused r) rows′ diags′
-      lists-12 f = refuses (refusal 12 nowhere) (answer-is ∙ within-12 room (tracedList m) (rows-fit .1) (over 4 diagBlock (tracedList m .diags) diags p diags₁ diags-written f))
+      lists-12 f = refuses (refusal 12 nowhere) (answer-is ∙ within-12 room (tracedList m) (rows-fit .1) (over diagNumbers diagBlock (tracedList m .diags) diags p diags₁ diags-written f))
 
       -- both fit
       pub lists-both : (d : ℕ) → p ≡ Count d → Leaves (Rows k d) rows₁ diags₁
       unfolding tracedDiagNumbers
       lists-both d f =
-          let g = fit 4 diagBlock (tracedList m .diags) diags p diags₁ diags-written d f in
+          let g = fit diagNumbers diagBlock (tracedList m .diags) diags p diags₁ diags-written d f in
           let a : theAnswer ≡ given (tracedList m) = answer-is ∙ within-given room (tracedList m) (rows-fit .1) (g .1) in (
             ap₂ Rows (rows-fit .0) (g .0) ∙ sym (ap listed a),
             (given-in (tracedRowNumbers m) theAnswer rows rows₁ (tracedList m) a (rows-fit .2) (rows-fit .3), given-in tracedDiagNumbers theAnswer diags diags₁ (tracedList m) a (g .2) (g .3)),

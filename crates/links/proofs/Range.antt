@@ -6,7 +6,7 @@ use native.Mathlib.Omega.{arith}
 use lib.Dec.{eqb, ltb}
 use lib.ListN.{length, getD, length-append}
 use Rattle.as5506.specs.Lists.{upTo}
-use Rattle.as5506.specs.Tables.{present, letterE, eHolderKind, eHolder, eName, rowsNaming}
+use Rattle.as5506.specs.Tables.{present, width, letterE, eHolderKind, eHolder, eName, rowsNaming}
 use Rattle.as5506.specs.Groups.{Feature, Expansion, depthLimit}
 use Rattle.as5506.proofs.Laws.{All, all-append, upTo-below, all-kept}
 use Rattle.lent.specs.Lent.{declaredIn}
@@ -15,7 +15,7 @@ use Rattle.links.specs.Walk.{Groups, Visit, featureAt, rowBy, walk, rows
 
 -- whatever the features of E rows have, with either flag and each prefix of at most ten names
 module _ (g : Groups) (P : Feature → Type 0)
-    (own : (i : ℕ) (inverse : Bool) (prefix : List ℕ) → i < length (g .e) / 8 → length prefix ≤ depthLimit → P (featureAt (g .e) inverse prefix i)) where
+    (own : (i : ℕ) (inverse : Bool) (prefix : List ℕ) → i < length (g .e) / width letterE → length prefix ≤ depthLimit → P (featureAt (g .e) inverse prefix i)) where
   abbrev Each : Expansion → Type 0
   Each x = All P (x .features)
 
@@ -23,26 +23,26 @@ module _ (g : Groups) (P : Feature → Type 0)
 
   module _ (visit : Visit) (left : ℕ) (deeper : (to : ℕ) (inverse : Bool) (prefix : List ℕ) → length prefix + left ≤ suc depthLimit → Each (visit to inverse prefix))
       (inverse : Bool) (prefix : List ℕ) (short : length prefix + suc left ≤ suc depthLimit) where
-    row-each : (b : Bool) (i : ℕ) → i < length (g .e) / 8 → Each (rowBy b g visit inverse prefix i)
+    row-each : (b : Bool) (i : ℕ) → i < length (g .e) / width letterE → Each (rowBy b g visit inverse prefix i)
     unfolding rowBy
     row-each true i h =
         let name : List ℕ = eName (declaredIn [] [] (g .e)) i ∷ [] in
         deeper (getD (g .nested) i 0) inverse (prefix ++ name) (omega (arith, length-append prefix name, short))
     row-each false i h = (own i inverse prefix h (omega (arith, short)), tt)
 
-    walk-each : (rows : List ℕ) → All (λ i. i < length (g .e) / 8) rows → Each (walk g visit inverse prefix rows)
+    walk-each : (rows : List ℕ) → All (λ i. i < length (g .e) / width letterE) rows → Each (walk g visit inverse prefix rows)
     unfolding walk
     walk-each [] t = tt
     walk-each (i ∷ rows) t =
         all-append P (rowBy (present (getD (g .nested) i 0)) g visit inverse prefix i .features) (walk g visit inverse prefix rows .features)
         (row-each (present (getD (g .nested) i 0)) i (t .0)) (walk-each rows (t .1))
 
-    rows-below : (u : ℕ) → All (λ i. i < length (g .e) / 8) (rowsIn g u)
+    rows-below : (u : ℕ) → All (λ i. i < length (g .e) / width letterE) (rowsIn g u)
     unfolding rowsNaming
     rows-below u =
-        let Row : ℕ → Type 0 = λ i. i < length (g .e) / 8 in
+        let Row : ℕ → Type 0 = λ i. i < length (g .e) / width letterE in
         all-kept Row (λ i. eqb (eHolderKind (declaredIn [] [] (g .e)) i) 1) (rowsNaming (declaredIn [] [] (g .e)) letterE (eHolder (declaredIn [] [] (g .e))) u)
-        (all-kept Row (λ i. eqb (eHolder (declaredIn [] [] (g .e)) i) u) (upTo (length (g .e) / 8)) (upTo-below (length (g .e) / 8)))
+        (all-kept Row (λ i. eqb (eHolder (declaredIn [] [] (g .e)) i) u) (upTo (length (g .e) / width letterE)) (upTo-below (length (g .e) / width letterE)))
 
     extended-each : (b : Bool) (u : ℕ) → Each (extendedBy b g visit inverse prefix u)
     unfolding extendedBy

@@ -2,20 +2,20 @@
 use mathlib.Core.Path.{_≡_, sym, ap, _∙_}
 use mathlib.Core.List.{List}
 use Prim.Native.Nat.{ℕ, _+_, _*_, _≤_, _<_}
-use native.Mathlib.Nat.{add-assoc, add-zero, mul-one, not-suc-le-zero}
+use native.Mathlib.Nat.{add-zero, mul-one, not-suc-le-zero}
 use native.Mathlib.Decide.{decLe}
 use native.Mathlib.Omega.{arith}
 use borrow.Author.Tests.{eq-eqb, ne-eqb}
 use lib.Dec.{eqb}
 use lib.ListN.{length, getD, set}
 use lib.Seq.{getD-set-same, getD-set-other}
-use Rattle.as5506.specs.Tables.{Tables, missing, present, Ref, ref, pName, uPackage, eHolderKind, eKind}
+use Rattle.as5506.specs.Tables.{Tables, missing, present, Ref, ref, pName, uPackage, uExtends, uInverseOf, eHolderKind, eHolder, eKind, eClassifier}
 use Rattle.as5506.specs.Resolve.{resolve}
 use Rattle.as5506.proofs.Laws.{and-false}
 use Rattle.resolver.specs.declared.Resolved.{Resolved}
 use Rattle.resolver.specs.Found.{found}
 use Rattle.resolver.proofs.Answers.{meant, means}
-use Rattle.links.specs.Links.{groupRow, linkOf, linkIn, refIn, extendsLink, inverseLink, nestedLink, Holds}
+use Rattle.links.specs.Links.{groupRow, linkOf, linkIn, extendsLink, inverseLink, nestedLink, Holds}
 
 module _ (m : Tables) where
   -- z is what the resolver gave, and y the case that it is
@@ -23,45 +23,49 @@ module _ (m : Tables) where
   unfolding linkOf
   link-means from r z y e q = ap groupRow (sym (means m from r z y e q))
 
-  -- ---- the reference of group type u in three numbers of a table
+  -- ---- a reference of group type u
 
-  module _ (table : List ℕ) (place u : ℕ) where
-    pub at-none : (v : ℕ) → v ≡ getD table (place + 1) 0 → v ≡ missing → missing ≡ linkIn (present (getD table (place + 1) 0)) m u (refIn table place)
-    at-none v e q = rw (eq-eqb (getD table (place + 1) 0) missing (sym e ∙ q))
+  module _ (u : ℕ) (r : Ref) where
+    pub at-none : r .type ≡ missing → missing ≡ linkIn (present (r .type)) m u r
+    at-none q = rw (eq-eqb (r .type) missing q)
 
-    -- g, v and j are the three numbers, and `from` is the name of package a, in which u was found
-    pub at-some : (a from g v j z : ℕ) → a ≡ getD (m .u) (u * 9) 0 → from ≡ getD (m .p) a 0
-        → g ≡ getD table place 0 → v ≡ getD table (place + 1) 0 → j ≡ getD table (place + 2) 0
-        → (v ≡ missing → ⊥) → z ≡ linkOf m from (ref g v j) → z ≡ linkIn (present (getD table (place + 1) 0)) m u (refIn table place)
-    at-some a from g v j z ea ef eg ev ej h e =
-        let f : from ≡ pName m (uPackage m u) = rw (add-zero (u * 9), ← ea, add-zero (a * 1), mul-one a) ef in
-        rw (← ev, ne-eqb v missing h, ← f, ← eg, ← ej) e
+    -- `from` is the name of package a, in which u was found
+    pub at-some : (a from z : ℕ) → a ≡ uPackage m u → from ≡ getD (m .p) a 0 → (r .type ≡ missing → ⊥) → z ≡ linkOf m from r → z ≡ linkIn (present (r .type)) m u r
+    at-some a from z ea ef h e =
+        let f : from ≡ pName m (uPackage m u) = rw (← ea, add-zero (a * 1), mul-one a) ef in
+        rw (ne-eqb (r .type) missing h, ← f) e
+
+    -- read field by field: g, v and j are its three numbers
+    of-fields : (g v j z : ℕ) → g ≡ r .pkg → v ≡ r .type → j ≡ r .impl → z ≡ linkIn (present v) m u (ref g v j) → z ≡ linkIn (present (r .type)) m u (ref (r .pkg) (r .type) (r .impl))
+    of-fields g v j z eg ev ej e = rw (← eg, ← ev, ← ej) e
 
   -- ---- row i of U
 
-  pub extends-at : (i z : ℕ) → z ≡ linkIn (present (getD (m .u) (i * 9 + 3 + 1) 0)) m i (refIn (m .u) (i * 9 + 3)) → z ≡ extendsLink m i
-  unfolding extendsLink
-  extends-at i z e = rw (← add-assoc (i * 9) 3 1, ← add-assoc (i * 9) 3 2) e
+  module _ (i g v j z : ℕ) where
+    pub extends-at : g ≡ uExtends m i .pkg → v ≡ uExtends m i .type → j ≡ uExtends m i .impl → z ≡ linkIn (present v) m i (ref g v j) → z ≡ extendsLink m i
+    unfolding extendsLink
+    extends-at eg ev ej e = of-fields i (uExtends m i) g v j z eg ev ej e
 
-  pub inverse-at : (i z : ℕ) → z ≡ linkIn (present (getD (m .u) (i * 9 + 6 + 1) 0)) m i (refIn (m .u) (i * 9 + 6)) → z ≡ inverseLink m i
-  unfolding inverseLink
-  inverse-at i z e = rw (← add-assoc (i * 9) 6 1, ← add-assoc (i * 9) 6 2) e
+    pub inverse-at : g ≡ uInverseOf m i .pkg → v ≡ uInverseOf m i .type → j ≡ uInverseOf m i .impl → z ≡ linkIn (present v) m i (ref g v j) → z ≡ inverseLink m i
+    unfolding inverseLink
+    inverse-at eg ev ej e = of-fields i (uInverseOf m i) g v j z eg ev ej e
 
   -- ---- row i of E
 
   module _ (i : ℕ) where
-    pub nested-none : (v : ℕ) → v ≡ getD (m .e) (i * 8) 0 → (v ≡ 1 → ⊥) → missing ≡ nestedLink m i
+    pub nested-none : (h : ℕ) → h ≡ eHolderKind m i → (h ≡ 1 → ⊥) → missing ≡ nestedLink m i
     unfolding nestedLink
-    nested-none v e h = rw (add-zero (i * 8), ← e, ne-eqb v 1 h)
+    nested-none h e n = rw (← e, ne-eqb h 1 n)
 
-    pub nested-other : (v : ℕ) → v ≡ getD (m .e) (i * 8 + 3) 0 → (v ≡ 8 → ⊥) → missing ≡ nestedLink m i
+    pub nested-other : (k : ℕ) → k ≡ eKind m i → (k ≡ 8 → ⊥) → missing ≡ nestedLink m i
     unfolding nestedLink
-    nested-other v e h = rw (ne-eqb (eKind m i) 8 (λ q. h (e ∙ q)), and-false (eqb (eHolderKind m i) 1))
+    nested-other k e n = rw (ne-eqb (eKind m i) 8 (λ q. n (e ∙ q)), and-false (eqb (eHolderKind m i) 1))
 
-    pub nested-at : (v k u z : ℕ) → v ≡ getD (m .e) (i * 8) 0 → v ≡ 1 → k ≡ getD (m .e) (i * 8 + 3) 0 → k ≡ 8 → u ≡ getD (m .e) (i * 8 + 1) 0
-        → z ≡ linkIn (present (getD (m .e) (i * 8 + 5 + 1) 0)) m u (refIn (m .e) (i * 8 + 5)) → z ≡ nestedLink m i
+    pub nested-at : (h k u g v j z : ℕ) → h ≡ eHolderKind m i → h ≡ 1 → k ≡ eKind m i → k ≡ 8 → u ≡ eHolder m i
+        → g ≡ eClassifier m i .pkg → v ≡ eClassifier m i .type → j ≡ eClassifier m i .impl
+        → z ≡ linkIn (present v) m u (ref g v j) → z ≡ nestedLink m i
     unfolding nestedLink
-    nested-at v k u z ev v1 ek k8 eu e = rw (add-zero (i * 8), ← ev, eq-eqb v 1 v1, ← ek, eq-eqb k 8 k8, ← eu, ← add-assoc (i * 8) 5 1, ← add-assoc (i * 8) 5 2) e
+    nested-at h k u g v j z eh h1 ek k8 eu eg ev ej e = rw (← eh, eq-eqb h 1 h1, ← ek, eq-eqb k 8 k8, ← eu) (of-fields u (eClassifier m i) g v j z eg ev ej e)
 
 -- ---- a table that is filled row by row
 

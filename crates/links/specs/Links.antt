@@ -2,10 +2,10 @@
 use mathlib.Core.Bool.{Bool, _&&_, cond}
 use mathlib.Core.Path.{_≡_}
 use mathlib.Core.List.{List}
-use Prim.Native.Nat.{ℕ, _+_, _<_}
+use Prim.Native.Nat.{ℕ, _/_, _≤_, _<_}
 use lib.Dec.{eqb}
-use lib.ListN.{getD}
-use Rattle.as5506.specs.Tables.{Tables, missing, present, letterU, letterE, count, Ref, ref, pName, uPackage, uExtends, uInverseOf, eHolderKind, eHolder, eClassifier}
+use lib.ListN.{length, getD}
+use Rattle.as5506.specs.Tables.{Tables, missing, present, width, letterU, letterE, count, Ref, pName, uPackage, uExtends, uInverseOf, eHolderKind, eHolder, eClassifier}
 use Rattle.as5506.specs.Resolve.{Resolved, componentType, componentImpl, groupType, unresolved, resolve}
 use Rattle.as5506.specs.Groups.{isNested}
 
@@ -28,10 +28,6 @@ linkOf m from r = groupRow (resolve m from r)
 abbrev pub linkIn : Bool → Tables → ℕ → Ref → ℕ
 linkIn b m u r = cond b (linkOf m (pName m (uPackage m u)) r) missing
 
--- the reference in the three numbers of a table from a place on
-abbrev pub refIn : List ℕ → ℕ → Ref
-refIn table place = ref (getD table place 0) (getD table (place + 1) 0) (getD table (place + 2) 0)
-
 -- what group type u extends
 unfoldable pub extendsLink : Tables → ℕ → ℕ
 extendsLink m u = linkIn (present (uExtends m u .type)) m u (uExtends m u)
@@ -53,3 +49,21 @@ pub record Linked (m : Tables) (nested extends inverse : List ℕ) : Type 0 wher
   pub of-nested : (e : ℕ) → e < count m letterE → getD nested e 0 ≡ nestedLink m e
   pub of-extends : (u : ℕ) → u < count m letterU → getD extends u 0 ≡ extendsLink m u
   pub of-inverse : (u : ℕ) → u < count m letterU → getD inverse u 0 ≡ inverseLink m u
+
+-- ---- what the outputs are asked for: a link has a number below `unfound`, and each row has a place for it
+
+-- extends and inverse by U row
+pub record TypesFit (u extends inverse : List ℕ) : Type 0 where
+  pub few-types : length u / width letterU ≤ 4096
+  pub fits-extends : length u / width letterU ≤ length extends
+  pub fits-inverse : length u / width letterU ≤ length inverse
+
+-- nested by E row
+pub record FeaturesFit (u e nested : List ℕ) : Type 0 where
+  pub few-types : length u / width letterU ≤ 4096
+  pub fits-nested : length e / width letterE ≤ length nested
+
+-- all three
+pub record LinksFit (u e nested extends inverse : List ℕ) : Type 0 where
+  pub fits-types : TypesFit u extends inverse
+  pub fits-features : FeaturesFit u e nested

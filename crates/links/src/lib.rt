@@ -1,14 +1,18 @@
 // What the references between group types mean, each as one number, its link: the row of U. Each is resolved once, before any expansion: a walk makes
 // up to 65,536 visits, and a reference means the same in all of them.
+use as5506::E_NUMBERS;
 use as5506::MISSING;
+use as5506::U_NUMBERS;
+use columns::declared;
+use columns::group_type;
 use lent::number_at;
 use resolver::Resolved;
 ghost use mathlib.Core.Path.{_≡_};
-ghost use mathlib.Core.List.{List};
-ghost use Prim.Native.Nat.{ℕ, _+_, _/_, _<_, _≤_};
-ghost use lib.ListN.{length, getD};
-ghost use Rattle.as5506.specs.Tables.{Tables, tablesOf, present, ref};
-ghost use Rattle.links.specs.Links.{linkOf, linkIn, refIn, extendsLink, inverseLink, nestedLink, Holds, Linked};
+ghost use Prim.Native.Nat.{_/_, _≤_};
+ghost use lib.ListN.{length};
+ghost use Rattle.as5506.specs.Tables.{Tables, width, letterU, letterE, count, present, ref};
+ghost use Rattle.lent.specs.Lent.{withE, packagesAt};
+ghost use Rattle.links.specs.Links.{linkOf, linkIn, extendsLink, inverseLink, nestedLink, Holds, Linked, TypesFit, FeaturesFit, LinksFit};
 
 // The link of a reference that names no group type.
 pub const UNFOUND: u32 = 4294967294;
@@ -28,10 +32,11 @@ pub fn link(
     type_name: u32,
     implementation: u32,
 ) -> u32
-    requires { ⌜ length (now u) / 9 ≤ 4096 ⌝ }
+    requires { ⌜ length (now u) / width letterU ≤ 4096 ⌝ }
     ensures { λ z.
-        ⌜ ((c f x e : List ℕ) →
-        z ≡ linkOf (tablesOf (now (bytes .entry)) (now (n .entry)) c f x (now (p .entry)) (now (i .entry)) (now (t .entry)) (now (q .entry)) (now (u .entry)) e (now (r .entry))) from (ref «package» «type_name» implementation)) ⌝ }
+        ⌜ ((o : Tables) →
+        let m : Tables = packagesAt bytes n p i t q u r o in
+        z ≡ linkOf m from (ref «package» «type_name» implementation)) ⌝ }
 {
     let found = resolver::resolve_classifier(
         bytes,
@@ -55,7 +60,7 @@ pub fn link(
     }
 }
 
-// The link of the reference that group type `row` has in three numbers of a table, from `place` on; `MISSING` where none stands there.
+// The link of a reference that group type `row` has, or a feature of it; `MISSING` where its type is missing: then there is none.
 fn link_at(
     bytes: &[u8],
     n: &[u32],
@@ -66,19 +71,20 @@ fn link_at(
     u: &[u32],
     r: &[u32],
     row: usize,
-    table: &[u32],
-    place: usize,
+    package: u32,
+    type_name: u32,
+    implementation: u32,
 ) -> u32
-    requires { ⌜ (length (now u) / 9 ≤ 4096) × (row < 4294967296) × (place + 3 ≤ length (now table)) ⌝ }
+    requires { ⌜ length (now u) / width letterU ≤ 4096 ⌝ }
     ensures { λ z.
-        ⌜ ((c f x e : List ℕ) →
-        z ≡ linkIn (present (getD (now (table .entry)) (place + 1) 0)) (tablesOf (now (bytes .entry)) (now (n .entry)) c f x (now (p .entry)) (now (i .entry)) (now (t .entry)) (now (q .entry)) (now (u .entry)) e (now (r .entry))) row (refIn (now (table .entry)) place)) ⌝ }
+        ⌜ ((o : Tables) →
+        let m : Tables = packagesAt bytes n p i t q u r o in
+        z ≡ linkIn (present «type_name») m row (ref «package» «type_name» implementation)) ⌝ }
 {
-    let type_name = number_at(table, place + 1);
     if type_name == MISSING {
         return MISSING;
     }
-    let from = number_at(p, number_at(u, row * 9) as usize);
+    let from = number_at(p, group_type::package_of(u, row) as usize);
     link(
         bytes,
         n,
@@ -89,9 +95,9 @@ fn link_at(
         u,
         r,
         from,
-        number_at(table, place),
+        package,
         type_name,
-        number_at(table, place + 2),
+        implementation,
     )
 }
 
@@ -108,18 +114,44 @@ fn link_types(
     extends: &mut [u32],
     inverse: &mut [u32],
 )
-    requires { ⌜ (length (now u) / 9 ≤ 4096) × (length (now u) / 9 ≤ length (now extends)) × (length (now u) / 9 ≤ length (now inverse)) ⌝ }
+    requires { ⌜ TypesFit (now u) (now extends) (now inverse) ⌝ }
     ensures { λ _.
-        ⌜ ((c f x e : List ℕ) →
-        let m : Tables = tablesOf (now (bytes .entry)) (now (n .entry)) c f x (now (p .entry)) (now (i .entry)) (now (t .entry)) (now (q .entry)) (now (u .entry)) e (now (r .entry)) in
-        Holds (extendsLink m) (now (extends .exit)) (length (now (u .entry)) / 9) × Holds (inverseLink m) (now (inverse .exit)) (length (now (u .entry)) / 9)) ⌝ }
+        ⌜ ((o : Tables) →
+        let m : Tables = packagesAt bytes n p i t q u r o in
+        Holds (extendsLink m) (now (extends .exit)) (count m letterU) × Holds (inverseLink m) (now (inverse .exit)) (count m letterU)) ⌝ }
 {
-    let count = u.len() / 9;
+    let count = u.len() / U_NUMBERS;
     let mut row: usize = 0;
     while row < count {
-        let up = link_at(bytes, n, p, i, t, q, u, r, row, u, row * 9 + 3);
+        let up = link_at(
+            bytes,
+            n,
+            p,
+            i,
+            t,
+            q,
+            u,
+            r,
+            row,
+            group_type::extends_package_of(u, row),
+            group_type::extends_type_of(u, row),
+            group_type::extends_implementation_of(u, row),
+        );
         lent::put_number(extends, row, up);
-        let back = link_at(bytes, n, p, i, t, q, u, r, row, u, row * 9 + 6);
+        let back = link_at(
+            bytes,
+            n,
+            p,
+            i,
+            t,
+            q,
+            u,
+            r,
+            row,
+            group_type::inverse_package_of(u, row),
+            group_type::inverse_type_of(u, row),
+            group_type::inverse_implementation_of(u, row),
+        );
         lent::put_number(inverse, row, back);
         row += 1;
     }
@@ -138,20 +170,34 @@ fn link_feature(
     r: &[u32],
     row: usize,
 ) -> u32
-    requires { ⌜ (length (now u) / 9 ≤ 4096) × (row < length (now e) / 8) ⌝ }
+    requires { ⌜ length (now u) / width letterU ≤ 4096 ⌝ }
     ensures { λ z.
-        ⌜ ((c f x : List ℕ) →
-        z ≡ nestedLink (tablesOf (now (bytes .entry)) (now (n .entry)) c f x (now (p .entry)) (now (i .entry)) (now (t .entry)) (now (q .entry)) (now (u .entry)) (now (e .entry)) (now (r .entry))) row) ⌝ }
+        ⌜ ((o : Tables) →
+        let m : Tables = packagesAt bytes n p i t q u r (withE (now (e .entry)) o) in
+        z ≡ nestedLink m row) ⌝ }
 {
-    let place = row * 8;
-    if number_at(e, place) != 1 {
+    if declared::holder_kind_of(e, row) != 1 {
         return MISSING;
     }
-    if number_at(e, place + 3) != 8 {
+    if declared::kind_of(e, row) != 8 {
         return MISSING;
     }
-    let holder = number_at(e, place + 1) as usize;
-    link_at(bytes, n, p, i, t, q, u, r, holder, e, place + 5)
+    let holder = declared::holder_of(e, row) as usize;
+    let implementation = declared::implementation_of(e, row);
+    link_at(
+        bytes,
+        n,
+        p,
+        i,
+        t,
+        q,
+        u,
+        r,
+        holder,
+        declared::package_of(e, row),
+        declared::type_of(e, row),
+        implementation,
+    )
 }
 
 // Writes the links of E rows.
@@ -167,12 +213,13 @@ fn link_features(
     r: &[u32],
     nested: &mut [u32],
 )
-    requires { ⌜ (length (now u) / 9 ≤ 4096) × (length (now e) / 8 ≤ length (now nested)) ⌝ }
+    requires { ⌜ FeaturesFit (now u) (now e) (now nested) ⌝ }
     ensures { λ _.
-        ⌜ ((c f x : List ℕ) →
-        Holds (nestedLink (tablesOf (now (bytes .entry)) (now (n .entry)) c f x (now (p .entry)) (now (i .entry)) (now (t .entry)) (now (q .entry)) (now (u .entry)) (now (e .entry)) (now (r .entry)))) (now (nested .exit)) (length (now (e .entry)) / 8)) ⌝ }
+        ⌜ ((o : Tables) →
+        let m : Tables = packagesAt bytes n p i t q u r (withE (now (e .entry)) o) in
+        Holds (nestedLink m) (now (nested .exit)) (count m letterE)) ⌝ }
 {
-    let count = e.len() / 8;
+    let count = e.len() / E_NUMBERS;
     let mut row: usize = 0;
     while row < count {
         let to = link_feature(bytes, n, p, i, t, q, u, e, r, row);
@@ -196,10 +243,11 @@ pub fn link_groups(
     extends: &mut [u32],
     inverse: &mut [u32],
 )
-    requires { ⌜ (length (now u) / 9 ≤ 4096) × (length (now e) / 8 ≤ length (now nested)) × (length (now u) / 9 ≤ length (now extends)) × (length (now u) / 9 ≤ length (now inverse)) ⌝ }
+    requires { ⌜ LinksFit (now u) (now e) (now nested) (now extends) (now inverse) ⌝ }
     ensures { λ _.
-        ⌜ ((c f x : List ℕ) →
-        Linked (tablesOf (now (bytes .entry)) (now (n .entry)) c f x (now (p .entry)) (now (i .entry)) (now (t .entry)) (now (q .entry)) (now (u .entry)) (now (e .entry)) (now (r .entry))) (now (nested .exit)) (now (extends .exit)) (now (inverse .exit))) ⌝ }
+        ⌜ ((o : Tables) →
+        let m : Tables = packagesAt bytes n p i t q u r (withE (now (e .entry)) o) in
+        Linked m (now (nested .exit)) (now (extends .exit)) (now (inverse .exit))) ⌝ }
 {
     link_types(bytes, n, p, i, t, q, u, r, extends, inverse);
     link_features(bytes, n, p, i, t, q, u, e, r, nested);

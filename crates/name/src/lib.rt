@@ -180,7 +180,7 @@ pub fn parse_connection_pattern(text: &[u8]) -> ConnectionPattern
 pub fn name_of<'a>(bytes: &'a [u8], n: &[u32], k: u32) -> &'a [u8]
     ensures { λ r. ⌜ now r ≡ nameIn (now (bytes .entry)) (now (n .entry)) k ⌝ }
 {
-    let row = (k as usize) * 2;
+    let row = (k as usize) * as5506::N_NUMBERS;
     let from = lent::number_at(n, row) as usize;
     let len = lent::number_at(n, row + 1) as usize;
     lent::part(bytes, from, len)

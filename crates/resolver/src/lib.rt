@@ -1,19 +1,26 @@
 // `resolve_classifier` (resolver.rs) over lent tables of any contents: past a table 0 is read, and a name past the names is empty, as in the definition.
 // A contract holds whatever stands in the tables that its function does not read, and whichever package the reference names where that is not asked.
+use as5506::I_NUMBERS;
 use as5506::MISSING;
+use as5506::P_NUMBERS;
+use as5506::Q_NUMBERS;
+use as5506::R_NUMBERS;
+use as5506::T_NUMBERS;
+use as5506::U_NUMBERS;
+use columns::group_type;
 use lent::number_at;
 use name::same_folded_names;
 ghost use mathlib.Core.Bool.{_||_, cond};
-ghost use mathlib.Core.List.{List};
 ghost use mathlib.Core.Option.{some};
 ghost use mathlib.Core.Path.{_≡_};
 ghost use Prim.Native.Nat.{ℕ, _+_, _*_, _/_, _<_, _≤_};
 ghost use lib.Dec.{eqb};
 ghost use lib.ListN.{length, getD};
 ghost use Rattle.as5506.specs.Lists.{firstOf};
-ghost use Rattle.as5506.specs.Tables.{Tables, tablesOf, ref};
+ghost use Rattle.as5506.specs.Tables.{Tables, ref};
 ghost use Rattle.as5506.specs.Names.{key};
 ghost use Rattle.as5506.specs.Resolve.{packageNamed, typeNamed, implNamed, groupNamed, renamesNamed, inPackage, inFound, replacedBy, withPackage, fromImports, renamesFor, withoutPackage, resolve};
+ghost use Rattle.lent.specs.Lent.{withNames, withP, withI, withT, withQ, withU, withR, withTypes, packagesAt};
 ghost use Rattle.resolver.specs.Keys.{hasPart, hasKey, rowsWithKey};
 ghost use Rattle.resolver.specs.Found.{rowOf, found, isFound};
 ghost use Rattle.resolver.specs.declared.Resolved.the-variants.{Unresolved};
@@ -41,19 +48,6 @@ pub enum Found {
     At(usize),
     Nothing,
 }
-
-// How many fields a row has, by letter: of packages, imports, component types, implementations, group types and renames.
-const P_FIELDS: usize = 1;
-
-const I_FIELDS: usize = 2;
-
-const T_FIELDS: usize = 3;
-
-const Q_FIELDS: usize = 4;
-
-const U_FIELDS: usize = 9;
-
-const R_FIELDS: usize = 5;
 
 // What a row of R renames.
 const PACKAGE: usize = 0;
@@ -119,23 +113,23 @@ fn find_row(bytes: &[u8], n: &[u32], table: &[u32], width: usize, start: usize, 
 // The package of a name.
 fn find_package(bytes: &[u8], n: &[u32], p: &[u32], name: u32) -> Found
     ensures { λ z.
-        ⌜ ((c f x i t q u e r : List ℕ) →
-        let m : Tables = tablesOf (now (bytes .entry)) (now (n .entry)) c f x (now (p .entry)) i t q u e r in
+        ⌜ ((o : Tables) →
+        let m : Tables = withNames (now (bytes .entry)) (now (n .entry)) (withP (now (p .entry)) o) in
         rowOf z ≡ packageNamed m (key m name)) ⌝ }
 {
     let key = Key(Part::Name(name), Part::Any, Part::Any);
-    find_row(bytes, n, p, P_FIELDS, 0, key)
+    find_row(bytes, n, p, P_NUMBERS, 0, key)
 }
 
 // The component type of a package and a name.
 fn find_type(bytes: &[u8], n: &[u32], t: &[u32], package: usize, name: u32) -> Found
     ensures { λ z.
-        ⌜ ((c f x p i q u e r : List ℕ) →
-        let m : Tables = tablesOf (now (bytes .entry)) (now (n .entry)) c f x p i (now (t .entry)) q u e r in
+        ⌜ ((o : Tables) →
+        let m : Tables = withNames (now (bytes .entry)) (now (n .entry)) (withT (now (t .entry)) o) in
         rowOf z ≡ typeNamed m «package» (key m name)) ⌝ }
 {
     let key = Key(Part::Number(package), Part::Name(name), Part::Any);
-    find_row(bytes, n, t, T_FIELDS, 0, key)
+    find_row(bytes, n, t, T_NUMBERS, 0, key)
 }
 
 // The implementation of a package and a pair of names.
@@ -148,8 +142,8 @@ fn find_impl(
     implementation: u32,
 ) -> Found
     ensures { λ z.
-        ⌜ ((c f x p i t u e r : List ℕ) →
-        let m : Tables = tablesOf (now (bytes .entry)) (now (n .entry)) c f x p i t (now (q .entry)) u e r in
+        ⌜ ((o : Tables) →
+        let m : Tables = withNames (now (bytes .entry)) (now (n .entry)) (withQ (now (q .entry)) o) in
         rowOf z ≡ implNamed m «package» (key m «type_name») (key m implementation)) ⌝ }
 {
     let key = Key(
@@ -157,29 +151,29 @@ fn find_impl(
         Part::Name(type_name),
         Part::Name(implementation),
     );
-    find_row(bytes, n, q, Q_FIELDS, 0, key)
+    find_row(bytes, n, q, Q_NUMBERS, 0, key)
 }
 
 // The group type of a package and a name.
 fn find_group(bytes: &[u8], n: &[u32], u: &[u32], package: usize, name: u32) -> Found
     ensures { λ z.
-        ⌜ ((c f x p i t q e r : List ℕ) →
-        let m : Tables = tablesOf (now (bytes .entry)) (now (n .entry)) c f x p i t q (now (u .entry)) e r in
+        ⌜ ((o : Tables) →
+        let m : Tables = withNames (now (bytes .entry)) (now (n .entry)) (withU (now (u .entry)) o) in
         rowOf z ≡ groupNamed m «package» (key m name)) ⌝ }
 {
     let key = Key(Part::Number(package), Part::Name(name), Part::Any);
-    find_row(bytes, n, u, U_FIELDS, 0, key)
+    find_row(bytes, n, u, U_NUMBERS, 0, key)
 }
 
 // The rename of a package, of one kind, by its alias.
 fn find_rename(bytes: &[u8], n: &[u32], r: &[u32], package: usize, what: usize, alias: u32) -> Found
     ensures { λ z.
-        ⌜ ((c f x p i t q u e : List ℕ) →
-        let m : Tables = tablesOf (now (bytes .entry)) (now (n .entry)) c f x p i t q u e (now (r .entry)) in
+        ⌜ ((o : Tables) →
+        let m : Tables = withNames (now (bytes .entry)) (now (n .entry)) (withR (now (r .entry)) o) in
         rowOf z ≡ firstOf (renamesNamed m «package» what (key m alias))) ⌝ }
 {
     let key = Key(Part::Number(package), Part::Number(what), Part::Name(alias));
-    find_row(bytes, n, r, R_FIELDS, 0, key)
+    find_row(bytes, n, r, R_NUMBERS, 0, key)
 }
 
 // ---- in one package
@@ -210,27 +204,27 @@ fn in_package(
     implementation: u32,
 ) -> Resolved
     ensures { λ z.
-        ⌜ ((c f x p i e r : List ℕ) (name : ℕ) →
-        let m : Tables = tablesOf (now (bytes .entry)) (now (n .entry)) c f x p i (now (t .entry)) (now (q .entry)) (now (u .entry)) e r in
+        ⌜ ((o : Tables) (name : ℕ) →
+        let m : Tables = withNames (now (bytes .entry)) (now (n .entry)) (withTypes (now (t .entry)) (now (q .entry)) (now (u .entry)) o) in
         z ≡ found m (inPackage m own «package» (ref name «type_name» implementation))) ⌝ }
 {
     if implementation != MISSING {
         let Found::At(row) = find_impl(bytes, n, q, package, type_name, implementation) else {
             return Resolved::Unresolved;
         };
-        let private = field(q, Q_FIELDS, row, 3);
+        let private = field(q, Q_NUMBERS, row, 3);
         return if_visible(own, private, Resolved::ComponentImpl { package, row });
     }
     match find_type(bytes, n, t, package, type_name) {
         Found::At(row) => {
-            let private = field(t, T_FIELDS, row, 2);
+            let private = field(t, T_NUMBERS, row, 2);
             if_visible(own, private, Resolved::ComponentType { package, row })
         }
         Found::Nothing => {
             let Found::At(row) = find_group(bytes, n, u, package, type_name) else {
                 return Resolved::Unresolved;
             };
-            let private = field(u, U_FIELDS, row, 2);
+            let private = group_type::private_of(u, row);
             if_visible(own, private, Resolved::GroupType { package, row })
         }
     }
@@ -250,8 +244,8 @@ fn resolve_in_package(
     implementation: u32,
 ) -> Resolved
     ensures { λ z.
-        ⌜ ((c f x i e r : List ℕ) (name : ℕ) →
-        let m : Tables = tablesOf (now (bytes .entry)) (now (n .entry)) c f x (now (p .entry)) i (now (t .entry)) (now (q .entry)) (now (u .entry)) e r in
+        ⌜ ((o : Tables) (name : ℕ) →
+        let m : Tables = withNames (now (bytes .entry)) (now (n .entry)) (withP (now (p .entry)) (withTypes (now (t .entry)) (now (q .entry)) (now (u .entry)) o)) in
         z ≡ found m (inFound m own (ref name «type_name» implementation) (packageNamed m (key m «package»)))) ⌝ }
 {
     let Found::At(row) = find_package(bytes, n, p, package) else {
@@ -265,8 +259,8 @@ fn resolve_in_package(
 // A package name as the asking package means it: "at most one replacement by the asking package's package renames".
 fn replaced(bytes: &[u8], n: &[u32], r: &[u32], asking: Found, package: u32) -> u32
     ensures { λ z.
-        ⌜ ((c f x p i t q u e : List ℕ) →
-        let m : Tables = tablesOf (now (bytes .entry)) (now (n .entry)) c f x p i t q u e (now (r .entry)) in
+        ⌜ ((o : Tables) →
+        let m : Tables = withNames (now (bytes .entry)) (now (n .entry)) (withR (now (r .entry)) o) in
         z ≡ replacedBy m «package» (rowOf asking)) ⌝ }
 {
     let Found::At(row) = asking else {
@@ -275,7 +269,7 @@ fn replaced(bytes: &[u8], n: &[u32], r: &[u32], asking: Found, package: u32) -> 
     let Found::At(rename) = find_rename(bytes, n, r, row, PACKAGE, package) else {
         return package;
     };
-    field(r, R_FIELDS, rename, 3)
+    field(r, R_NUMBERS, rename, 3)
 }
 
 // "A reference with a package is looked up there, after at most one replacement"; ""Own" means equal keys after replacement".
@@ -295,8 +289,8 @@ fn with_package(
     implementation: u32,
 ) -> Resolved
     ensures { λ z.
-        ⌜ ((c f x i e : List ℕ) →
-        let m : Tables = tablesOf (now (bytes .entry)) (now (n .entry)) c f x (now (p .entry)) i (now (t .entry)) (now (q .entry)) (now (u .entry)) e (now (r .entry)) in
+        ⌜ ((o : Tables) →
+        let m : Tables = withNames (now (bytes .entry)) (now (n .entry)) (withP (now (p .entry)) (withTypes (now (t .entry)) (now (q .entry)) (now (u .entry)) (withR (now (r .entry)) o))) in
         rowOf asking ≡ packageNamed m (key m from) → z ≡ found m (withPackage m from (ref «package» «type_name» implementation))) ⌝ }
 {
     let name = replaced(bytes, n, r, asking, package);
@@ -332,17 +326,17 @@ fn from_imports(
     implementation: u32,
 ) -> Resolved
     ensures { λ z.
-        ⌜ ((c f x e r : List ℕ) (name : ℕ) →
-        let m : Tables = tablesOf (now (bytes .entry)) (now (n .entry)) c f x (now (p .entry)) (now (i .entry)) (now (t .entry)) (now (q .entry)) (now (u .entry)) e r in
+        ⌜ ((o : Tables) (name : ℕ) →
+        let m : Tables = withNames (now (bytes .entry)) (now (n .entry)) (withP (now (p .entry)) (withI (now (i .entry)) (withTypes (now (t .entry)) (now (q .entry)) (now (u .entry)) o))) in
         z ≡ found m (fromImports m asking (ref name «type_name» implementation))) ⌝ }
 {
     let key = Key(Part::Number(asking), Part::Any, Part::Any);
     let mut start: usize = 0;
     loop {
-        let Found::At(row) = find_row(bytes, n, i, I_FIELDS, start, key) else {
+        let Found::At(row) = find_row(bytes, n, i, I_NUMBERS, start, key) else {
             return Resolved::Unresolved;
         };
-        let name = field(i, I_FIELDS, row, 1);
+        let name = field(i, I_NUMBERS, row, 1);
         let hit = resolve_in_package(bytes, n, p, t, q, u, false, name, type_name, implementation);
         if is_found(hit) {
             return hit;
@@ -361,8 +355,8 @@ fn rename_for(
     implementation: u32,
 ) -> Found
     ensures { λ z.
-        ⌜ ((c f x p i t q u e : List ℕ) (name : ℕ) →
-        let m : Tables = tablesOf (now (bytes .entry)) (now (n .entry)) c f x p i t q u e (now (r .entry)) in
+        ⌜ ((o : Tables) (name : ℕ) →
+        let m : Tables = withNames (now (bytes .entry)) (now (n .entry)) (withR (now (r .entry)) o) in
         rowOf z ≡ firstOf (renamesFor m asking (ref name «type_name» implementation))) ⌝ }
 {
     let classifier = find_rename(bytes, n, r, asking, CLASSIFIER, type_name);
@@ -394,8 +388,8 @@ fn without_package(
     implementation: u32,
 ) -> Resolved
     ensures { λ z.
-        ⌜ ((c f x e : List ℕ) (name : ℕ) →
-        let m : Tables = tablesOf (now (bytes .entry)) (now (n .entry)) c f x (now (p .entry)) (now (i .entry)) (now (t .entry)) (now (q .entry)) (now (u .entry)) e (now (r .entry)) in
+        ⌜ ((o : Tables) (name : ℕ) →
+        let m : Tables = packagesAt bytes n p i t q u r o in
         some asking ≡ packageNamed m (key m from) → z ≡ found m (withoutPackage m from (ref name «type_name» implementation) (some asking))) ⌝ }
 {
     let own = in_package(bytes, n, t, q, u, true, asking, type_name, implementation);
@@ -405,8 +399,8 @@ fn without_package(
     let Found::At(rename) = rename_for(bytes, n, r, asking, type_name, implementation) else {
         return from_imports(bytes, n, p, i, t, q, u, asking, type_name, implementation);
     };
-    let package = field(r, R_FIELDS, rename, 3);
-    let original = field(r, R_FIELDS, rename, 4);
+    let package = field(r, R_NUMBERS, rename, 3);
+    let original = field(r, R_NUMBERS, rename, 4);
     with_package(
         bytes,
         n,
@@ -439,8 +433,8 @@ pub fn resolve_classifier(
     implementation: u32,
 ) -> Resolved
     ensures { λ z.
-        ⌜ ((c f x e : List ℕ) →
-        let m : Tables = tablesOf (now (bytes .entry)) (now (n .entry)) c f x (now (p .entry)) (now (i .entry)) (now (t .entry)) (now (q .entry)) (now (u .entry)) e (now (r .entry)) in
+        ⌜ ((o : Tables) →
+        let m : Tables = packagesAt bytes n p i t q u r o in
         z ≡ found m (resolve m from (ref «package» «type_name» implementation))) ⌝ }
 {
     let asking = find_package(bytes, n, p, from);

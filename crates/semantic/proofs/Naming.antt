@@ -1,6 +1,6 @@
 -- What an X row names: its shape, its children. Assumes nothing.
 use mathlib.Core.Bool.{Bool, _&&_}
-use mathlib.Core.Path.{_≡_, refl, sym, ap, ap₂, _∙_}
+use mathlib.Core.Path.{_≡_, sym, ap, ap₂, _∙_}
 use mathlib.Core.List.{List, []}
 use Prim.Native.Nat.{ℕ}
 use lib.ListN.{length}
@@ -25,9 +25,10 @@ pub shape-same : (bytes n c x : List ℕ) (i : ℕ) (r h : Shape) → shapeOf r 
 unfolding shape
 shape-same bytes n c x i r h e f = sym e ∙ ap shapeOf f
 
-pub pattern-same : (bytes n c x : List ℕ) (p : ℕ) → oneToOne (componentsIn bytes n c) p ≡ oneToOne (wiringIn bytes n c x) p
+-- the pattern that was read from the components, for the owner p
+pub pattern-is : (m : Tables) (b : Bool) (o p : ℕ) → b ≡ oneToOne (componentsIn (m .bytes) (m .n) (m .c)) o → o ≡ p → b ≡ oneToOne m p
 unfolding oneToOne
-pattern-same bytes n c x p = refl
+pattern-is m b o p e f = e ∙ ap (oneToOne m) f
 
 -- ---- the children
 

@@ -8,19 +8,19 @@ use Rattle.as5506.specs.Tables.{Tables, source, destination, xCount}
 use Rattle.as5506.specs.Tables.{Side as TheSide}
 use Rattle.as5506.specs.Rows.{Diag}
 use Rattle.as5506.specs.Tracing.{diagsAt}
-use Rattle.as5506.specs.Layout.{diagBlock}
+use Rattle.as5506.specs.Layout.{diagBlock, diagNumbers}
 use Rattle.trace.specs.declared.Wrote.{Wrote}
 use Rattle.trace.specs.declared.Wrote.the-variants.{Count, Full}
 use Rattle.trace.specs.Writing.{Written}
 
 -- the blocks that were counted before fit the output
 unfoldable pub Room : List ℕ → Wrote → Type 0
-Room out (Count k) = k ≤ length out / 4
+Room out (Count k) = k ≤ length out / diagNumbers
 Room out Full = Unit {0}
 
 -- the diagnostics l are written behind those that were counted before; where there was no room for those, there is none
 unfoldable pub WrittenAfter : List Diag → List ℕ → Wrote → Wrote → List ℕ → Type 0
-WrittenAfter l out (Count k) r out′ = Written 4 diagBlock l out k r out′
+WrittenAfter l out (Count k) r out′ = Written diagNumbers diagBlock l out k r out′
 WrittenAfter l out Full r out′ = r ≡ Full
 
 -- "diagnostic 2 for no source child, 3 for no destination child"

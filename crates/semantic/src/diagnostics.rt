@@ -3,29 +3,31 @@
 ghost use mathlib.Core.Bool.{not, _&&_};
 ghost use mathlib.Core.Path.{_≡_};
 ghost use mathlib.Core.List.{[], _∷_};
-ghost use Prim.Native.Nat.{_+_, _*_, _/_, _<_, _≤_};
 ghost use lib.Dec.{eqb};
-ghost use lib.ListN.{length};
 ghost use Rattle.as5506.specs.Lists.{when};
 ghost use Rattle.as5506.specs.Rows.{diag};
 ghost use Rattle.as5506.specs.Tracing.{diagsBy, diagsAt, tracedDiags, across};
-ghost use Rattle.as5506.specs.Layout.{diagBlock};
+ghost use Rattle.as5506.specs.Layout.{diagBlock, diagNumbers};
 ghost use Rattle.lent.specs.Lent.{wiringAt};
+ghost use Rattle.columns.specs.Side.{sideOf};
 ghost use Rattle.name.specs.Pattern.{saysOneToOne};
-ghost use Rattle.trace.specs.Steps.{sideOf};
 ghost use Rattle.trace.specs.Writing.{Written};
+ghost use Rattle.trace.specs.Ready.{Traceable};
 ghost use Rattle.semantic.specs.Rows.{edgeOf};
 ghost use Rattle.semantic.specs.Diagnostics.{Room, WrittenAfter, noChildCode};
+ghost use Rattle.semantic.specs.Ready.{RowReady};
 use super::Shape;
 use super::ends;
 use as5506::DIAGNOSTIC_NUMBERS;
+use as5506::X_NUMBERS;
+use columns::Side;
+use columns::connection;
 use name::ConnectionPattern;
-use trace::Side;
 use trace::Wrote;
 
 // Writes a diagnostic behind the first `count`: its code, the connection, and two numbers.
 fn put_diagnostic(out: &mut [u32], code: u32, conn: u32, one: u32, two: u32, count: usize) -> Wrote
-    ensures { λ r. ⌜ Written 4 diagBlock (diag code conn one two ∷ []) (now (out .entry)) count r (now (out .exit)) ⌝ }
+    ensures { λ r. ⌜ Written diagNumbers diagBlock (diag code conn one two ∷ []) (now (out .entry)) count r (now (out .exit)) ⌝ }
 {
     if out.len() / DIAGNOSTIC_NUMBERS <= count {
         return Wrote::Full;
@@ -87,20 +89,20 @@ fn diagnose_across(
     i: usize,
     count: usize,
 ) -> Wrote
-    requires { ⌜ (length (now c) / 6 ≤ 4096) × (length (now x) / 7 ≤ 4096) × (count ≤ length (now out) / 4) × (i < length (now x) / 7) ⌝ }
-    ensures { λ r. ⌜ Written 4 diagBlock (diagsBy (wiringAt bytes n c x) i across) (now (out .entry)) count r (now (out .exit)) ⌝ }
+    requires { ⌜ RowReady diagNumbers (now c) (now x) (now out) count i ⌝ }
+    ensures { λ r. ⌜ Written diagNumbers diagBlock (diagsBy (wiringAt bytes n c x) i across) (now (out .entry)) count r (now (out .exit)) ⌝ }
 {
     let conn = i as u32;
     let s = ends::count_named(bytes, n, c, x, Side::Source, i);
     let d = ends::count_named(bytes, n, c, x, Side::Destination, i);
-    let pattern = ends::resolve_connection_pattern(bytes, n, c, ends::owner_of(x, i));
+    let pattern = ends::resolve_connection_pattern(bytes, n, c, connection::owner_of(x, i));
     let first = diagnose_if(
         out,
         Wrote::Count(count),
         s == 0,
         2,
         conn,
-        trace::subcomponent_of(x, Side::Source, i),
+        connection::subcomponent_of(x, Side::Source, i),
         0,
     );
     let second = diagnose_if(
@@ -109,7 +111,7 @@ fn diagnose_across(
         d == 0,
         3,
         conn,
-        trace::subcomponent_of(x, Side::Destination, i),
+        connection::subcomponent_of(x, Side::Destination, i),
         0,
     );
     diagnose_if(
@@ -134,10 +136,10 @@ fn diagnose_edge(
     side: Side,
     count: usize,
 ) -> Wrote
-    requires { ⌜ (length (now c) / 6 ≤ 4096) × (length (now x) / 7 ≤ 4096) × (count ≤ length (now out) / 4) × (i < length (now x) / 7) ⌝ }
-    ensures { λ r. ⌜ Written 4 diagBlock (diagsBy (wiringAt bytes n c x) i (edgeOf (sideOf side))) (now (out .entry)) count r (now (out .exit)) ⌝ }
+    requires { ⌜ RowReady diagNumbers (now c) (now x) (now out) count i ⌝ }
+    ensures { λ r. ⌜ Written diagNumbers diagBlock (diagsBy (wiringAt bytes n c x) i (edgeOf (sideOf side))) (now (out .entry)) count r (now (out .exit)) ⌝ }
 {
-    if ends::has_parent(c, ends::owner_of(x, i)) {
+    if ends::has_parent(c, connection::owner_of(x, i)) {
         return Wrote::Count(count);
     }
     let found = ends::count_named(bytes, n, c, x, side, i);
@@ -147,7 +149,7 @@ fn diagnose_edge(
         found == 0,
         no_child_code(side),
         i as u32,
-        trace::subcomponent_of(x, side, i),
+        connection::subcomponent_of(x, side, i),
         0,
     )
 }
@@ -162,8 +164,8 @@ fn diagnose_connection(
     i: usize,
     count: usize,
 ) -> Wrote
-    requires { ⌜ (length (now c) / 6 ≤ 4096) × (length (now x) / 7 ≤ 4096) × (count ≤ length (now out) / 4) × (i < length (now x) / 7) ⌝ }
-    ensures { λ r. ⌜ Written 4 diagBlock (diagsAt (wiringAt bytes n c x) i) (now (out .entry)) count r (now (out .exit)) ⌝ }
+    requires { ⌜ RowReady diagNumbers (now c) (now x) (now out) count i ⌝ }
+    ensures { λ r. ⌜ Written diagNumbers diagBlock (diagsAt (wiringAt bytes n c x) i) (now (out .entry)) count r (now (out .exit)) ⌝ }
 {
     match ends::shape_of(x, i) {
         Shape::Faulty => put_diagnostic(out, 1, i as u32, 0, 0, count),
@@ -176,10 +178,10 @@ fn diagnose_connection(
 
 // Writes the diagnostics of all X rows, from the front of the output on.
 pub fn diagnose_connections(bytes: &[u8], n: &[u32], c: &[u32], x: &[u32], out: &mut [u32]) -> Wrote
-    requires { ⌜ (length (now c) / 6 ≤ 4096) × (length (now x) / 7 ≤ 4096) ⌝ }
-    ensures { λ r. ⌜ Written 4 diagBlock (tracedDiags (wiringAt bytes n c x)) (now (out .entry)) 0 r (now (out .exit)) ⌝ }
+    requires { ⌜ Traceable (now c) (now x) ⌝ }
+    ensures { λ r. ⌜ Written diagNumbers diagBlock (tracedDiags (wiringAt bytes n c x)) (now (out .entry)) 0 r (now (out .exit)) ⌝ }
 {
-    let rows = x.len() / 7;
+    let rows = x.len() / X_NUMBERS;
     let mut done = 0;
     let mut i = 0;
     while i < rows {

@@ -1,36 +1,37 @@
 // What a connection names: its owner, the children on each side, the pattern by which they are paired.
 ghost use mathlib.Core.Path.{_≡_};
 ghost use mathlib.Core.List.{[]};
-ghost use Prim.Native.Nat.{_+_, _*_, _/_, _<_, _≤_};
+ghost use Prim.Native.Nat.{_≤_};
 ghost use lib.ListN.{length};
-ghost use Rattle.as5506.specs.Tables.{present, xOwner, cParent};
+ghost use Rattle.as5506.specs.Tables.{present, cCount, cParent};
 ghost use Rattle.as5506.specs.Tracing.{shape, named, oneToOne};
-ghost use Rattle.lent.specs.Lent.{componentsIn, connectionsIn, wiringAt};
+ghost use Rattle.lent.specs.Lent.{componentsIn, connectionsIn, componentsAt, wiringAt};
+ghost use Rattle.columns.specs.Side.{sideOf};
 ghost use Rattle.name.specs.Pattern.{saysOneToOne};
 ghost use Rattle.children.specs.Found.{afterChild, Inside};
-ghost use Rattle.trace.specs.Steps.{sideOf};
 ghost use Rattle.semantic.specs.Rows.{shapeOf, namedFrom, componentOf, limitOf};
 use super::Shape;
 use super::Start;
 use as5506::MISSING;
 use as5506::STEPS;
 use children::Child;
+use columns::Side;
+use columns::component;
+use columns::connection;
 use name::ConnectionPattern;
-use trace::Side;
 
 // The shape of X row i.
 pub fn shape_of(x: &[u32], i: usize) -> Shape
-    requires { ⌜ i < length (now x) / 7 ⌝ }
     ensures { λ r. ⌜ shapeOf r ≡ shape (connectionsIn [] [] (now (x .entry))) i ⌝ }
 {
-    if trace::feature_of(x, Side::Source, i) == MISSING {
+    if connection::feature_of(x, Side::Source, i) == MISSING {
         return Shape::Faulty;
     }
-    if trace::feature_of(x, Side::Destination, i) == MISSING {
+    if connection::feature_of(x, Side::Destination, i) == MISSING {
         return Shape::Faulty;
     }
-    let to = trace::subcomponent_of(x, Side::Destination, i);
-    if trace::subcomponent_of(x, Side::Source, i) == MISSING {
+    let to = connection::subcomponent_of(x, Side::Destination, i);
+    if connection::subcomponent_of(x, Side::Source, i) == MISSING {
         if to == MISSING {
             return Shape::Neither;
         }
@@ -42,19 +43,11 @@ pub fn shape_of(x: &[u32], i: usize) -> Shape
     Shape::Across
 }
 
-// The owner of X row i.
-pub fn owner_of(x: &[u32], i: usize) -> u32
-    requires { ⌜ i < length (now x) / 7 ⌝ }
-    ensures { λ r. ⌜ r ≡ xOwner (connectionsIn [] [] (now (x .entry))) i ⌝ }
-{
-    lent::number_at(x, i * 7 + 1)
-}
-
 // Whether a component has a parent.
 pub fn has_parent(c: &[u32], owner: u32) -> bool
     ensures { λ r. ⌜ r ≡ present (cParent (componentsIn [] [] (now (c .entry))) owner) ⌝ }
 {
-    lent::number_at(c, (owner as usize) * 6 + 1) != MISSING
+    component::parent_of(c, owner as usize) != MISSING
 }
 
 // The pattern of a component's connections.
@@ -64,9 +57,9 @@ pub fn resolve_connection_pattern(
     c: &[u32],
     owner: u32,
 ) -> ConnectionPattern
-    ensures { λ r. ⌜ saysOneToOne r ≡ oneToOne (componentsIn (now (bytes .entry)) (now (n .entry)) (now (c .entry))) owner ⌝ }
+    ensures { λ r. ⌜ saysOneToOne r ≡ oneToOne (componentsAt bytes n c) owner ⌝ }
 {
-    name::pattern_of(bytes, n, lent::number_at(c, (owner as usize) * 6 + 5))
+    name::pattern_of(bytes, n, component::pattern_of(c, owner as usize))
 }
 
 // The first child from row `from` on that X row i names on a side.
@@ -79,7 +72,6 @@ pub fn next_named(
     i: usize,
     from: usize,
 ) -> Child
-    requires { ⌜ i < length (now x) / 7 ⌝ }
     ensures { λ r. ⌜ namedFrom (wiringAt bytes n c x) (sideOf side) i from
         ≡ afterChild (namedFrom (wiringAt bytes n c x) (sideOf side) i) r ⌝ }
     ensures { λ r. ⌜ Inside (now (c .entry)) r ⌝ }
@@ -88,24 +80,23 @@ pub fn next_named(
         bytes,
         n,
         c,
-        owner_of(x, i),
-        trace::subcomponent_of(x, side, i),
+        connection::owner_of(x, i),
+        connection::subcomponent_of(x, side, i),
         from,
     )
 }
 
 // How many children X row i names on a side.
 pub fn count_named(bytes: &[u8], n: &[u32], c: &[u32], x: &[u32], side: Side, i: usize) -> usize
-    requires { ⌜ i < length (now x) / 7 ⌝ }
     ensures { λ r. ⌜ r ≡ length (named (wiringAt bytes n c x) (sideOf side) i) ⌝ }
-    ensures { λ r. ⌜ r ≤ length (now (c .entry)) / 6 ⌝ }
+    ensures { λ r. ⌜ r ≤ cCount (wiringAt bytes n c x) ⌝ }
 {
     children::count_children(
         bytes,
         n,
         c,
-        owner_of(x, i),
-        trace::subcomponent_of(x, side, i),
+        connection::owner_of(x, i),
+        connection::subcomponent_of(x, side, i),
     )
 }
 

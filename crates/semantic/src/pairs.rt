@@ -1,21 +1,24 @@
 // The rows of each connection: every pair of its ends, traced on both sides.
-ghost use Prim.Native.Nat.{_+_, _/_, _<_, _≤_};
-ghost use lib.ListN.{length};
 ghost use Rattle.as5506.specs.Tables.{source, destination};
 ghost use Rattle.as5506.specs.Tracing.{pairRows, rowsAt, traced, stepLimit, pairsBy, across};
 ghost use Rattle.as5506.specs.Lists.{each};
-ghost use Rattle.as5506.specs.Layout.{tracedBlock};
+ghost use Rattle.as5506.specs.Layout.{tracedBlock, rowNumbers};
 ghost use Rattle.lent.specs.Lent.{wiringAt};
-ghost use Rattle.trace.specs.Steps.{sideOf};
+ghost use Rattle.columns.specs.Side.{sideOf};
 ghost use Rattle.trace.specs.Writing.{Written};
+ghost use Rattle.trace.specs.Ready.{Traceable};
 ghost use Rattle.semantic.specs.Rows.{pairOn, namedFrom, rowsBeside, rowsAll, rowsZip, edgeOf};
+ghost use Rattle.semantic.specs.Ready.{RowReady};
 use super::Shape;
 use super::Start;
 use super::ends;
+use as5506::CHAIN_PLACES;
+use as5506::X_NUMBERS;
 use children::Child;
+use columns::Side;
+use columns::connection;
 use name::ConnectionPattern;
 use trace::End;
-use trace::Side;
 use trace::Wrote;
 
 // Writes the rows of one pair of ends of X row i.
@@ -30,24 +33,24 @@ fn trace_pair(
     to: Start,
     count: usize,
 ) -> Wrote
-    requires { ⌜ (length (now c) / 6 ≤ 4096) × (length (now x) / 7 ≤ 4096) × (count ≤ length (now out) / 49) × (i < length (now x) / 7) ⌝ }
-    ensures { λ r. ⌜ Written 49 (tracedBlock (wiringAt bytes n c x))
+    requires { ⌜ RowReady rowNumbers (now c) (now x) (now out) count i ⌝ }
+    ensures { λ r. ⌜ Written rowNumbers (tracedBlock (wiringAt bytes n c x))
         (pairRows (wiringAt bytes n c x) stepLimit i
         (pairOn (wiringAt bytes n c x) i source from to))
         (now (out .entry)) count r (now (out .exit)) ⌝ }
 {
-    let mut path = [0u32; 21];
+    let mut path = [0u32; CHAIN_PLACES];
     path[0] = i as u32;
     let s = End {
         component: ends::component_of(from),
-        feature: trace::feature_of(x, Side::Source, i),
+        feature: connection::feature_of(x, Side::Source, i),
         path: path,
         len: 1,
     };
     let d = End {
         component: ends::component_of(to),
-        feature: trace::feature_of(x, Side::Destination, i),
-        path: [0u32; 21],
+        feature: connection::feature_of(x, Side::Destination, i),
+        path: [0u32; CHAIN_PLACES],
         len: 0,
     };
     trace::trace(
@@ -79,8 +82,8 @@ fn trace_on(
     far: Start,
     count: usize,
 ) -> Wrote
-    requires { ⌜ (length (now c) / 6 ≤ 4096) × (length (now x) / 7 ≤ 4096) × (count ≤ length (now out) / 49) × (i < length (now x) / 7) ⌝ }
-    ensures { λ r. ⌜ Written 49 (tracedBlock (wiringAt bytes n c x))
+    requires { ⌜ RowReady rowNumbers (now c) (now x) (now out) count i ⌝ }
+    ensures { λ r. ⌜ Written rowNumbers (tracedBlock (wiringAt bytes n c x))
         (pairRows (wiringAt bytes n c x) stepLimit i
         (pairOn (wiringAt bytes n c x) i (sideOf side) near far))
         (now (out .entry)) count r (now (out .exit)) ⌝ }
@@ -103,8 +106,8 @@ fn trace_beside(
     far: Start,
     count: usize,
 ) -> Wrote
-    requires { ⌜ (length (now c) / 6 ≤ 4096) × (length (now x) / 7 ≤ 4096) × (count ≤ length (now out) / 49) × (i < length (now x) / 7) ⌝ }
-    ensures { λ r. ⌜ Written 49 (tracedBlock (wiringAt bytes n c x))
+    requires { ⌜ RowReady rowNumbers (now c) (now x) (now out) count i ⌝ }
+    ensures { λ r. ⌜ Written rowNumbers (tracedBlock (wiringAt bytes n c x))
         (rowsBeside (wiringAt bytes n c x) i (sideOf side) far
         (namedFrom (wiringAt bytes n c x) (sideOf side) i 0))
         (now (out .entry)) count r (now (out .exit)) ⌝ }
@@ -152,8 +155,8 @@ fn trace_all_to_all(
     i: usize,
     count: usize,
 ) -> Wrote
-    requires { ⌜ (length (now c) / 6 ≤ 4096) × (length (now x) / 7 ≤ 4096) × (count ≤ length (now out) / 49) × (i < length (now x) / 7) ⌝ }
-    ensures { λ r. ⌜ Written 49 (tracedBlock (wiringAt bytes n c x))
+    requires { ⌜ RowReady rowNumbers (now c) (now x) (now out) count i ⌝ }
+    ensures { λ r. ⌜ Written rowNumbers (tracedBlock (wiringAt bytes n c x))
         (rowsAll (wiringAt bytes n c x) i
         (namedFrom (wiringAt bytes n c x) source i 0))
         (now (out .entry)) count r (now (out .exit)) ⌝ }
@@ -203,8 +206,8 @@ fn trace_one_to_one(
     i: usize,
     count: usize,
 ) -> Wrote
-    requires { ⌜ (length (now c) / 6 ≤ 4096) × (length (now x) / 7 ≤ 4096) × (count ≤ length (now out) / 49) × (i < length (now x) / 7) ⌝ }
-    ensures { λ r. ⌜ Written 49 (tracedBlock (wiringAt bytes n c x))
+    requires { ⌜ RowReady rowNumbers (now c) (now x) (now out) count i ⌝ }
+    ensures { λ r. ⌜ Written rowNumbers (tracedBlock (wiringAt bytes n c x))
         (rowsZip (wiringAt bytes n c x) i
         (namedFrom (wiringAt bytes n c x) source i 0)
         (namedFrom (wiringAt bytes n c x) destination i 0))
@@ -253,13 +256,13 @@ fn trace_across(
     i: usize,
     count: usize,
 ) -> Wrote
-    requires { ⌜ (length (now c) / 6 ≤ 4096) × (length (now x) / 7 ≤ 4096) × (count ≤ length (now out) / 49) × (i < length (now x) / 7) ⌝ }
-    ensures { λ r. ⌜ Written 49 (tracedBlock (wiringAt bytes n c x))
+    requires { ⌜ RowReady rowNumbers (now c) (now x) (now out) count i ⌝ }
+    ensures { λ r. ⌜ Written rowNumbers (tracedBlock (wiringAt bytes n c x))
         (each (pairRows (wiringAt bytes n c x) stepLimit i)
         (pairsBy (wiringAt bytes n c x) i across))
         (now (out .entry)) count r (now (out .exit)) ⌝ }
 {
-    match ends::resolve_connection_pattern(bytes, n, c, ends::owner_of(x, i)) {
+    match ends::resolve_connection_pattern(bytes, n, c, connection::owner_of(x, i)) {
         ConnectionPattern::OneToOne => trace_one_to_one(bytes, n, c, x, out, i, count),
         ConnectionPattern::AllToAll => trace_all_to_all(bytes, n, c, x, out, i, count),
     }
@@ -276,13 +279,13 @@ fn trace_edge(
     side: Side,
     count: usize,
 ) -> Wrote
-    requires { ⌜ (length (now c) / 6 ≤ 4096) × (length (now x) / 7 ≤ 4096) × (count ≤ length (now out) / 49) × (i < length (now x) / 7) ⌝ }
-    ensures { λ r. ⌜ Written 49 (tracedBlock (wiringAt bytes n c x))
+    requires { ⌜ RowReady rowNumbers (now c) (now x) (now out) count i ⌝ }
+    ensures { λ r. ⌜ Written rowNumbers (tracedBlock (wiringAt bytes n c x))
         (each (pairRows (wiringAt bytes n c x) stepLimit i)
         (pairsBy (wiringAt bytes n c x) i (edgeOf (sideOf side))))
         (now (out .entry)) count r (now (out .exit)) ⌝ }
 {
-    let owner = ends::owner_of(x, i);
+    let owner = connection::owner_of(x, i);
     if ends::has_parent(c, owner) {
         return Wrote::Count(count);
     }
@@ -299,8 +302,8 @@ fn trace_connection(
     i: usize,
     count: usize,
 ) -> Wrote
-    requires { ⌜ (length (now c) / 6 ≤ 4096) × (length (now x) / 7 ≤ 4096) × (count ≤ length (now out) / 49) × (i < length (now x) / 7) ⌝ }
-    ensures { λ r. ⌜ Written 49 (tracedBlock (wiringAt bytes n c x))
+    requires { ⌜ RowReady rowNumbers (now c) (now x) (now out) count i ⌝ }
+    ensures { λ r. ⌜ Written rowNumbers (tracedBlock (wiringAt bytes n c x))
         (rowsAt (wiringAt bytes n c x) stepLimit i)
         (now (out .entry)) count r (now (out .exit)) ⌝ }
 {
@@ -315,12 +318,12 @@ fn trace_connection(
 
 // Writes the rows of all X rows, from the front of the output on.
 pub fn trace_connections(bytes: &[u8], n: &[u32], c: &[u32], x: &[u32], out: &mut [u32]) -> Wrote
-    requires { ⌜ (length (now c) / 6 ≤ 4096) × (length (now x) / 7 ≤ 4096) ⌝ }
-    ensures { λ r. ⌜ Written 49 (tracedBlock (wiringAt bytes n c x))
+    requires { ⌜ Traceable (now c) (now x) ⌝ }
+    ensures { λ r. ⌜ Written rowNumbers (tracedBlock (wiringAt bytes n c x))
         (traced stepLimit (wiringAt bytes n c x))
         (now (out .entry)) 0 r (now (out .exit)) ⌝ }
 {
-    let rows = x.len() / 7;
+    let rows = x.len() / X_NUMBERS;
     let mut done = 0;
     let mut i = 0;
     while i < rows {

@@ -5,14 +5,14 @@ use mathlib.Core.Option.{Option, none, some}
 use mathlib.Core.Path.{_≡_, refl, sym, ap, ap₂, subst, _∙_}
 use Prim.Native.Nat.{ℕ, suc, _+_, _-_, _*_, _/_, _≤_, _<_}
 use native.Mathlib.Decide.{decLe, ℕ-discrete}
-use native.Mathlib.Nat.{suc-mul, zero-mul, div-one}
+use native.Mathlib.Nat.{suc-mul, zero-mul}
 use native.Mathlib.Omega.{arith}
 use borrow.Author.Tests.{eqb-true, leb-true, eq-eqb, ne-eqb, le-leb, lt-leb, le-ltb, lt-ltb}
 use lib.Dec.{eqb, leb, ltb, leb·suc-zero}
 use lib.ListN.{length, getD, set, drop, length-drop}
 use lib.Seq.{getD-set-same, getD-set-other}
 use Rattle.as5506.specs.Answers.{refusal, line, told, unlessFaults}
-use Rattle.as5506.specs.Columns.{rank, columns}
+use Rattle.as5506.specs.Columns.{rank, columns, letterCount}
 use Rattle.as5506.specs.Fields.{space, fieldsFit}
 use Rattle.as5506.specs.Lists.{when, allOf}
 use Rattle.as5506.specs.Names.{nameByte, goodName}
@@ -118,11 +118,11 @@ module _ (seen : Seen) (before : List (List ℕ)) (counted : Counted seen before
 
 -- ---- the number of a line's refusal
 
-pub no-2 : (lent : Lent) (before : List (List ℕ)) (s : List ℕ) → 11 ≤ rankOf (letterOf s) → 2 ≡ firstFault (lineFaults lent before (ended s))
+pub no-2 : (lent : Lent) (before : List (List ℕ)) (s : List ℕ) → letterCount ≤ rankOf (letterOf s) → 2 ≡ firstFault (lineFaults lent before (ended s))
 unfolding lineFaults
 no-2 lent before s h = go (letterOf s) h
   where
-    go : (o : Option Letter) → 11 ≤ rankOf o → 2 ≡ firstFault (knownFaults lent before s o)
+    go : (o : Option Letter) → letterCount ≤ rankOf o → 2 ≡ firstFault (knownFaults lent before s o)
     go none h = refl
     go (some l) h = absurd (omega (arith, rank-below l))
 
@@ -200,14 +200,14 @@ counted-none seen last bytes numbers =
     }
 
 module _ (seen : Seen) (before : List (List ℕ)) (counted : Counted seen before) (s : List ℕ) (l : Letter) (known : letterOf s ≡ some l) where
-  own-numbers : length (seen .numbers) ≡ 11
+  own-numbers : length (seen .numbers) ≡ letterCount
       → getD (set (seen .numbers) (rank l) (getD (seen .numbers) (rank l) 0 + width l)) (rank l) 0 ≡ length (linesWith l (s ∷ before)) * width l
   own-numbers size =
       getD-set-same (seen .numbers) (rank l) (getD (seen .numbers) (rank l) 0 + width l) 0 (omega (arith, rank-below l))
       ∙ ap (λ (n : ℕ). n + width l) (counted .numbers l)
       ∙ sym (ap (λ (ls : List (List ℕ)). length ls * width l) (own-line l s before (letter-byte s l known)) ∙ suc-mul (length (linesWith l before)) (width l))
 
-  numbers-more : length (seen .numbers) ≡ 11 → (m : Letter)
+  numbers-more : length (seen .numbers) ≡ letterCount → (m : Letter)
       → getD (set (seen .numbers) (rank l) (getD (seen .numbers) (rank l) 0 + width l)) (rank m) 0 ≡ length (linesWith m (s ∷ before)) * width m
   numbers-more size m =
       elim (ℕ-discrete (rank m) (rank l)) [
@@ -218,7 +218,7 @@ module _ (seen : Seen) (before : List (List ℕ)) (counted : Counted seen before
       ]
 
   -- with one more line
-  pub counted-more : (r : Seen) (k : ℕ) → k ≡ rank l → length (seen .numbers) ≡ 11
+  pub counted-more : (r : Seen) (k : ℕ) → k ≡ rank l → length (seen .numbers) ≡ letterCount
       → r .last ≡ k → r .bytes ≡ seen .bytes + nameBytes (s ∷ []) → r .numbers ≡ set (seen .numbers) k (getD (seen .numbers) k 0 + width l) → Counted r (s ∷ before)
   counted-more r k at size last bytes numbers =
       record {
@@ -237,10 +237,13 @@ module _ (seen : Seen) (before : List (List ℕ)) (counted : Counted seen before
   unfolding tablesRead
   bytes-seen = counted .bytes ∙ sym (names-length (linesWith letterN (reverse before)) ∙ names-turned before)
 
+  -- the rows of a letter, by the numbers that its lines take
+  abbrev rowsOf : Letter → ℕ
+  rowsOf l = getD (seen .numbers) (rank l) 0 / width l
+
   pub counted-rows : (r : Counts) → r .bytes ≡ seen .bytes
-      → r .n ≡ getD (seen .numbers) 0 0 / 2 → r .c ≡ getD (seen .numbers) 1 0 / 6 → r .f ≡ getD (seen .numbers) 2 0 / 3 → r .x ≡ getD (seen .numbers) 3 0 / 7
-      → r .p ≡ getD (seen .numbers) 4 0 → r .i ≡ getD (seen .numbers) 5 0 / 2 → r .t ≡ getD (seen .numbers) 6 0 / 3 → r .q ≡ getD (seen .numbers) 7 0 / 4
-      → r .u ≡ getD (seen .numbers) 8 0 / 9 → r .e ≡ getD (seen .numbers) 9 0 / 8 → r .r ≡ getD (seen .numbers) 10 0 / 5
+      → r .n ≡ rowsOf letterN → r .c ≡ rowsOf letterC → r .f ≡ rowsOf letterF → r .x ≡ rowsOf letterX → r .p ≡ rowsOf letterP → r .i ≡ rowsOf letterI
+      → r .t ≡ rowsOf letterT → r .q ≡ rowsOf letterQ → r .u ≡ rowsOf letterU → r .e ≡ rowsOf letterE → r .r ≡ rowsOf letterR
       → r ≡ countsOf (tablesRead (reverse before))
   counted-rows r eb en ec ef ex ep ei et eq eu ee er = λ j. record {
     bytes = (eb ∙ bytes-seen) j;
@@ -248,7 +251,7 @@ module _ (seen : Seen) (before : List (List ℕ)) (counted : Counted seen before
     c = (ec ∙ rows-seen letterC) j;
     f = (ef ∙ rows-seen letterF) j;
     x = (ex ∙ rows-seen letterX) j;
-    p = (ep ∙ sym (div-one (getD (seen .numbers) 4 0)) ∙ rows-seen letterP) j;
+    p = (ep ∙ rows-seen letterP) j;
     i = (ei ∙ rows-seen letterI) j;
     t = (et ∙ rows-seen letterT) j;
     q = (eq ∙ rows-seen letterQ) j;

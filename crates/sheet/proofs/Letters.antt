@@ -10,7 +10,7 @@ use native.Mathlib.Omega.{arith}
 use borrow.Author.Tests.{eqb-true, eq-eqb}
 use lib.Dec.{eqb}
 use lib.ListN.{length, getD, drop, List·getD-eq-default}
-use Rattle.as5506.specs.Columns.{order, rank, letterByte, columns}
+use Rattle.as5506.specs.Columns.{order, rank, letterByte, columns, letterCount}
 use Rattle.as5506.specs.Lists.{span, putIf, keep, firstOf}
 use Rattle.as5506.specs.Sheet.{letterOf}
 use Rattle.as5506.specs.Tables.{Letter, letterN, letterC, letterF, letterX, letterP, letterI, letterT, letterQ, letterU, letterE, letterR, width}
@@ -39,15 +39,15 @@ letter-at = each-letter (λ l. letterAt (rank l) ≡ l) refl refl refl refl refl
 pub same-letter : (a b : Letter) → rank a ≡ rank b → a ≡ b
 same-letter a b e = sym (letter-at a) ∙ ap letterAt e ∙ letter-at b
 
-pub rank-below : (l : Letter) → rank l < 11
-rank-below = each-letter (λ l. rank l < 11) (omega arith) (omega arith) (omega arith) (omega arith) (omega arith) (omega arith) (omega arith) (omega arith) (omega arith) (omega arith) (omega arith)
+pub rank-below : (l : Letter) → rank l < letterCount
+rank-below = each-letter (λ l. rank l < letterCount) (omega arith) (omega arith) (omega arith) (omega arith) (omega arith) (omega arith) (omega arith) (omega arith) (omega arith) (omega arith) (omega arith)
 
 mapped-at : (f : Letter → ℕ) (ls : List Letter) (k : ℕ) → k < length ls → getD (map f ls) k 0 ≡ f (getD ls k letterN)
 mapped-at f [] k h = absurd (not-suc-le-zero h)
 mapped-at f (l ∷ ls) zero h = refl
 mapped-at f (l ∷ ls) (suc k) h = mapped-at f ls k (le-of-suc-le-suc h)
 
-entry : (f : Letter → ℕ) (k : ℕ) → k < 11 → getD (map f order) k 0 ≡ f (letterAt k)
+entry : (f : Letter → ℕ) (k : ℕ) → k < letterCount → getD (map f order) k 0 ≡ f (letterAt k)
 entry f = mapped-at f order
 
 -- tables with an entry for each letter: as5506::WIDTHS and LETTERS are the first two, the code's OPTIONAL is the third
@@ -64,7 +64,7 @@ optionals-right : optionals ≡ map (λ l. marksOf (columns l)) order
 unfolding marksOf
 optionals-right = refl
 
-module _ (k : ℕ) (h : k < 11) where
+module _ (k : ℕ) (h : k < letterCount) where
   pub width-at : getD widths k 0 ≡ width (letterAt k)
   width-at = entry width k h
 
@@ -79,14 +79,14 @@ span-at i zero k h = absurd (not-suc-le-zero h)
 span-at i (suc n) zero h = omega arith
 span-at i (suc n) (suc k) h = span-at (suc i) n k (le-of-suc-le-suc h) ∙ omega arith
 
-pub rank-at : (k : ℕ) → k < 11 → rank (letterAt k) ≡ k
-rank-at k h = sym (entry rank k h) ∙ span-at 0 11 k h ∙ omega arith
+pub rank-at : (k : ℕ) → k < letterCount → rank (letterAt k) ≡ k
+rank-at k h = sym (entry rank k h) ∙ span-at 0 letterCount k h ∙ omega arith
 
 pub width-small : (l : Letter) → width l < 10
 width-small = each-letter (λ l. width l < 10) (omega arith) (omega arith) (omega arith) (omega arith) (omega arith) (omega arith) (omega arith) (omega arith) (omega arith) (omega arith) (omega arith)
 
 -- of every letter but N the row has a number for each column
-pub column-count : (k : ℕ) → 0 < k → k < 11 → width (letterAt k) ≡ length (columns (letterAt k))
+pub column-count : (k : ℕ) → 0 < k → k < letterCount → width (letterAt k) ≡ length (columns (letterAt k))
 column-count k p h = sym (entry width k h) ∙ above k p ∙ entry (λ l. length (columns l)) k h
   where
     above : (k : ℕ) → 0 < k → getD (map width order) k 0 ≡ getD (map (λ l. length (columns l)) order) k 0
@@ -96,7 +96,7 @@ column-count k p h = sym (entry width k h) ∙ above k p ∙ entry (λ l. length
 -- ---- a line's letter
 
 -- the first of letters of ranks i, i + 1, .. to 10
-first-by : (b : ℕ) (ls : List Letter) (i : ℕ) → map rank ls ≡ span i (length ls) → i + length ls ≡ 11
+first-by : (b : ℕ) (ls : List Letter) (i : ℕ) → map rank ls ≡ span i (length ls) → i + length ls ≡ letterCount
     → rankOf (firstOf (keep (λ l. eqb (letterByte l) b) ls)) ≡ i + indexOf b (map letterByte ls)
 unfolding indexOf
 first-by b [] i e n = omega arith
@@ -153,12 +153,12 @@ byte-letter (b ∷ s) l e = ap (λ (c : ℕ). letterOf (c ∷ s)) (eqb-true b (l
 pub same-byte : (a b : Letter) → letterByte a ≡ letterByte b → a ≡ b
 same-byte a b e = cc (known a [], byte-letter (letterByte a ∷ []) b (eq-eqb (letterByte a) (letterByte b) e))
 
-rank-letter : (o : Option Letter) (k : ℕ) → k < 11 → k ≡ rankOf o → o ≡ some (letterAt k)
+rank-letter : (o : Option Letter) (k : ℕ) → k < letterCount → k ≡ rankOf o → o ≡ some (letterAt k)
 rank-letter none k h e = absurd (omega arith)
 rank-letter (some l) k h e = ap some (sym (letter-at l) ∙ ap letterAt (sym e))
 
 -- the letter of a line whose rank the code has
-pub letter-is : (s : List ℕ) (k : ℕ) → k < 11 → k ≡ rankOf (letterOf s) → letterOf s ≡ some (letterAt k)
+pub letter-is : (s : List ℕ) (k : ℕ) → k < letterCount → k ≡ rankOf (letterOf s) → letterOf s ≡ some (letterAt k)
 letter-is s = rank-letter (letterOf s)
 
 -- a line of one letter is of no other

@@ -8,7 +8,7 @@ use borrow.Author.Tests.{eqb-true, eqb-false, eq-eqb, ne-eqb}
 use lib.Dec.{eqb}
 use lib.ListN.{length, drop, getD, length-append, length-drop}
 use lib.Seq.{sets, length-sets}
-use Rattle.as5506.specs.Columns.{rank, letterByte, columns}
+use Rattle.as5506.specs.Columns.{rank, letterByte, columns, letterCount}
 use Rattle.as5506.specs.Fields.{fieldNumbers}
 use Rattle.as5506.specs.Lists.{total, each}
 use Rattle.as5506.specs.Sheet.{textOf, linesOf, linesWith, lineName, lineRow, nameBytes, placed, rowsRead}
@@ -49,7 +49,7 @@ module _ (s : List ℕ) where
 
 -- ---- what the code writes for a line of the letter k
 
-module _ (s : List ℕ) (k : ℕ) (p : 0 < k) (h : k < 11) where
+module _ (s : List ℕ) (k : ℕ) (p : 0 < k) (h : k < letterCount) where
   pub row-written : fieldNumbers (columnsBy (getD widths k 0) 0) (drop 1 s) ≡ lineRow (letterAt k) s
   row-written = ap (λ (w : ℕ). fieldNumbers (columnsBy w 0) (drop 1 s)) (width-at k h ∙ column-count k p h) ∙ columns-numbers (columns (letterAt k)) 0 (drop 1 s)
 

@@ -7,7 +7,7 @@ use Prim.Native.Nat.{ℕ, suc, _*_, _≤_}
 use lib.Dec.{eqb, leb, ltb}
 use lib.ListN.{length, getD, drop}
 use Rattle.as5506.specs.Answers.{unlessFaults}
-use Rattle.as5506.specs.Columns.{order, rank}
+use Rattle.as5506.specs.Columns.{order, rank, letterCount}
 use Rattle.as5506.specs.Lists.{zeros}
 use Rattle.as5506.specs.Sheet.{Line, ended, unended, textOf, letterOf, linesOf, linesWith, keepsRules, Lent, isEarlier, nameBytes, faultsFrom, tablesRead}
 use Rattle.as5506.specs.Tables.{Tables, Letter, letterN, table, width}
@@ -21,9 +21,9 @@ use Rattle.sheet.specs.declared.SheetRead.{SheetRead}
 abbrev pub letterAt : ℕ → Letter
 letterAt k = getD order k letterN
 
--- 11 where there is none
+-- letterCount where there is none
 abbrev pub rankOf : Option Letter → ℕ
-rankOf none = 11
+rankOf none = letterCount
 rankOf (some l) = rank l
 
 -- the index of the first b, the length where there is none

@@ -4,6 +4,7 @@
 // pass for their bytes and one for their rows. bench/sheet says how long that takes.)
 // Definitions: as5506, Sheet and Fields; specs/Read.antt says what a call gives, specs/Steps.antt what the private functions say beside that.
 // Laws for callers: proofs/Model.antt.
+use as5506::LETTER_COUNT;
 ghost use mathlib.Core.Path.{_≡_};
 ghost use mathlib.Core.Bool.{true, false};
 ghost use mathlib.Core.List.{List, [], _∷_, map, reverse};
@@ -12,6 +13,7 @@ ghost use lib.Dec.{leb};
 ghost use lib.ListN.{length, drop, getD};
 ghost use lib.Seq.{sets};
 ghost use Rattle.as5506.specs.Lists.{each};
+ghost use Rattle.as5506.specs.Columns.{letterCount};
 ghost use Rattle.as5506.specs.Tables.{letterN};
 ghost use Rattle.as5506.specs.Answers.{refusal, line, told};
 ghost use Rattle.as5506.specs.Sheet.{ended, letterOf, linesOf, linesWith, lineName, keepsRules, hasPlace, lineFaults, nameBytes, placed, rowsRead, tablesRead, readSheet};
@@ -42,7 +44,7 @@ pub enum SheetRead {
 }
 
 // For each letter a bit for each field that may be missing, the first field lowest.
-const OPTIONAL: [usize; 11] = [
+const OPTIONAL: [usize; LETTER_COUNT] = [
     0,
     0b100110,
     0,
@@ -59,14 +61,14 @@ const OPTIONAL: [usize; 11] = [
 // What the caller lends: the bytes of the byte table and the numbers of each letter's table.
 pub struct Room {
     pub bytes: usize,
-    pub numbers: [usize; 11],
+    pub numbers: [usize; LETTER_COUNT],
 }
 
 // What the lines seen so far take of it, and the last one's letter.
 pub struct Seen {
     pub last: usize,
     pub bytes: usize,
-    pub numbers: [usize; 11],
+    pub numbers: [usize; LETTER_COUNT],
 }
 
 // ---- lines
@@ -86,7 +88,7 @@ fn index_from(s: &[u8], at: usize, b: u8) -> usize
     i
 }
 
-// A line's letter, 11 where it is unknown. (An empty line's first byte is 0, which is no letter.)
+// A line's letter, LETTER_COUNT where it is unknown. (An empty line's first byte is 0, which is no letter.)
 fn letter(line: &[u8]) -> usize
     ensures { λ r. ⌜ r ≡ rankOf (letterOf (now (line .entry))) ⌝ }
 {
@@ -124,7 +126,7 @@ fn name_ok(line: &[u8]) -> bool
 
 // Whether a line of any other letter k does: its length, then its fields.
 fn row_ok(line: &[u8], k: usize) -> bool
-    requires { ⌜ (0 < k) × (k < 11) ⌝ }
+    requires { ⌜ (0 < k) × (k < letterCount) ⌝ }
     ensures { λ r. ⌜ r ≡ keepsRules (letterAt k) (now (line .entry)) ⌝ }
 {
     let w = as5506::WIDTHS[k];
@@ -137,7 +139,7 @@ fn row_ok(line: &[u8], k: usize) -> bool
 
 // "length, field or name against the sheet's rules": whether a line of the letter k keeps them.
 fn line_ok(line: &[u8], k: usize) -> bool
-    requires { ⌜ k < 11 ⌝ }
+    requires { ⌜ k < letterCount ⌝ }
     ensures { λ r. ⌜ r ≡ keepsRules (letterAt k) (now (line .entry)) ⌝ }
 {
     if k == 0 {
@@ -158,7 +160,7 @@ fn has_room(at: usize, more: usize, of: usize) -> bool
 
 // Whether a line of the letter k has a place: its row in the letter's table, and at N its name in the byte table.
 fn has_place(line: &[u8], k: usize, seen: Seen, room: Room) -> bool
-    requires { ⌜ k < 11 ⌝ }
+    requires { ⌜ k < letterCount ⌝ }
     ensures { λ r. ⌜ ((before : List (List ℕ)) → Counted seen before → r ≡ hasPlace (lentBy room) before (letterAt k) (now (line .entry))) ⌝ }
 {
     let numbers = seen.numbers;
@@ -179,7 +181,7 @@ fn check_line(line: &[u8], seen: Seen, room: Room) -> u32
     ensures { λ r. ⌜ ((before : List (List ℕ)) → Counted seen before → r ≡ firstFault (lineFaults (lentBy room) before (ended (now (line .entry))))) ⌝ }
 {
     let k = letter(line);
-    if 11 <= k {
+    if LETTER_COUNT <= k {
         return 2;
     }
     if k < seen.last {
@@ -198,7 +200,7 @@ fn check_line(line: &[u8], seen: Seen, room: Room) -> u32
 
 // What has been seen after one more line, of the letter k.
 fn count_line(line: &[u8], k: usize, seen: Seen) -> Seen
-    requires { ⌜ (k < 11) × (k ≡ rankOf (letterOf (now line))) × (length (now line) ≤ 16384) × (seen .bytes ≤ 16384) × (getD (seen .numbers) k 0 ≤ 16384) ⌝ }
+    requires { ⌜ (k < letterCount) × (k ≡ rankOf (letterOf (now line))) × (length (now line) ≤ 16384) × (seen .bytes ≤ 16384) × (getD (seen .numbers) k 0 ≤ 16384) ⌝ }
     ensures { λ r. ⌜ ((before : List (List ℕ)) → Counted seen before → Counted r (now (line .entry) ∷ before)) ⌝ }
 {
     let more = name_length(line);
@@ -218,17 +220,17 @@ fn counted(seen: Seen) -> Counts
     let numbers = seen.numbers;
     Counts {
         bytes: seen.bytes,
-        n: numbers[0] / 2,
-        c: numbers[1] / 6,
-        f: numbers[2] / 3,
-        x: numbers[3] / 7,
-        p: numbers[4],
-        i: numbers[5] / 2,
-        t: numbers[6] / 3,
-        q: numbers[7] / 4,
-        u: numbers[8] / 9,
-        e: numbers[9] / 8,
-        r: numbers[10] / 5,
+        n: numbers[0] / as5506::N_NUMBERS,
+        c: numbers[1] / as5506::C_NUMBERS,
+        f: numbers[2] / as5506::F_NUMBERS,
+        x: numbers[3] / as5506::X_NUMBERS,
+        p: numbers[4] / as5506::P_NUMBERS,
+        i: numbers[5] / as5506::I_NUMBERS,
+        t: numbers[6] / as5506::T_NUMBERS,
+        q: numbers[7] / as5506::Q_NUMBERS,
+        u: numbers[8] / as5506::U_NUMBERS,
+        e: numbers[9] / as5506::E_NUMBERS,
+        r: numbers[10] / as5506::R_NUMBERS,
     }
 }
 
@@ -251,7 +253,7 @@ fn check_lines(sheet: &[u8], room: Room) -> SheetRead
     let mut seen = Seen {
         last: 0,
         bytes: 0,
-        numbers: [0; 11],
+        numbers: [0; LETTER_COUNT],
     };
     let mut from = 0;
     let mut place: u32 = 1;
@@ -324,7 +326,7 @@ fn put_name_rows(sheet: &[u8], n: &mut [u32]) -> usize
 // Writes the rows of a letter k other than N, whose lines begin at byte `start`, to its table, and gives where the first line behind them begins.
 // A line of the letter has a field of six bytes for each number, so its LF need not be looked for.
 fn put_rows(sheet: &[u8], start: usize, k: usize, table: &mut [u32]) -> usize
-    requires { ⌜ (0 < k) × (k < 11) × LeftFrom (now sheet) k start × (length (rowsRead (letterAt k) (texts (now sheet))) ≤ length (now table)) ⌝ }
+    requires { ⌜ (0 < k) × (k < letterCount) × LeftFrom (now sheet) k start × (length (rowsRead (letterAt k) (texts (now sheet))) ≤ length (now table)) ⌝ }
     ensures { λ r. ⌜ LeftFrom (now (sheet .entry)) (k + 1) r
         × (now (table .exit) ≡ sets (now (table .entry)) 0 (rowsRead (letterAt k) (texts (now (sheet .entry))))) ⌝ }
 {

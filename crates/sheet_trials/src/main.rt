@@ -3,13 +3,20 @@
 // lent), then the sheet's bytes. The lent slices are parts of larger ones, so that the checksums also show what stands behind them.
 ghost use mathlib.Core.Path.{_≡_};
 ghost use Prim.Native.Nat.{_≤_};
-ghost use lib.ListN.{length, take};
+ghost use lib.ListN.{length};
+ghost use Rattle.sheet_trials.specs.Ends.{Ends};
 use libc::STDIN_FILENO;
 use libc::STDOUT_FILENO;
 use sheet::Counts;
 use sheet::SheetRead;
 
 const CASES: usize = 100000;
+// How long the slices are of which parts are lent.
+const BYTES: usize = 16400;
+
+const NAMES: usize = 8200;
+
+const OTHERS: usize = 2700;
 
 fn print(text: &[u8]) {
     io::write_all(STDOUT_FILENO, text);
@@ -107,59 +114,63 @@ fn print_slices(
 }
 
 // A length from the file, if the slice is that long.
-fn bytes_end(n: u32, t: &[u8]) -> usize
-    ensures { λ r. ⌜ (r ≤ length (now (t .entry))) × (r ≡ length (take r (now (t .entry)))) ⌝ }
+fn end_of(n: u32, most: usize) -> usize
+    ensures { λ r. ⌜ r ≤ most ⌝ }
 {
     let k = n as usize;
-    if k < t.len() { k } else { t.len() }
+    if k < most { k } else { most }
 }
 
-fn numbers_end(n: u32, t: &[u32]) -> usize
-    ensures { λ r. ⌜ (r ≤ length (now (t .entry))) × (r ≡ length (take r (now (t .entry)))) ⌝ }
+fn sevens_of_bytes() -> [u8; BYTES]
+    ensures { λ r. ⌜ 16400 ≡ length r ⌝ }
 {
-    let k = n as usize;
-    if k < t.len() { k } else { t.len() }
+    [7; BYTES]
 }
 
-// Reads a sheet of n bytes.
-fn read_bytes(sheet: &mut [u8], n: u32) {
-    let end = bytes_end(n, sheet);
-    io::read_full(STDIN_FILENO, &mut sheet[..end]);
+fn sevens_of_names() -> [u32; NAMES]
+    ensures { λ r. ⌜ 8200 ≡ length r ⌝ }
+{
+    [7; NAMES]
 }
 
-// Reads a case's sheet, lends as much of each slice as the case says, and prints the answer and every slice.
+fn sevens() -> [u32; OTHERS]
+    ensures { λ r. ⌜ 2700 ≡ length r ⌝ }
+{
+    [7; OTHERS]
+}
+
+// Lends as much of each slice, which is full of sevens, as a case says, and prints the answer and every slice.
 fn replay(
-    sheet: &mut [u8],
-    lent: [u32; 13],
-    bytes: &mut [u8],
-    n: &mut [u32],
-    c: &mut [u32],
-    f: &mut [u32],
-    x: &mut [u32],
-    p: &mut [u32],
-    i: &mut [u32],
-    t: &mut [u32],
-    q: &mut [u32],
-    u: &mut [u32],
-    e: &mut [u32],
-    r: &mut [u32],
-) {
-    read_bytes(sheet, lent[0]);
-    let end = bytes_end(lent[0], sheet);
-    let b_end = bytes_end(lent[1], bytes);
-    let n_end = numbers_end(lent[2], n);
-    let c_end = numbers_end(lent[3], c);
-    let f_end = numbers_end(lent[4], f);
-    let x_end = numbers_end(lent[5], x);
-    let p_end = numbers_end(lent[6], p);
-    let i_end = numbers_end(lent[7], i);
-    let t_end = numbers_end(lent[8], t);
-    let q_end = numbers_end(lent[9], q);
-    let u_end = numbers_end(lent[10], u);
-    let e_end = numbers_end(lent[11], e);
-    let r_end = numbers_end(lent[12], r);
+    sheet: &[u8],
+    b_end: usize,
+    n_end: usize,
+    c_end: usize,
+    f_end: usize,
+    x_end: usize,
+    p_end: usize,
+    i_end: usize,
+    t_end: usize,
+    q_end: usize,
+    u_end: usize,
+    e_end: usize,
+    r_end: usize,
+)
+    requires { ⌜ Ends «b_end» «n_end» «c_end» «f_end» «x_end» «p_end» «i_end» «t_end» «q_end» «u_end» «e_end» «r_end» ⌝ }
+{
+    let mut bytes = sevens_of_bytes();
+    let mut n = sevens_of_names();
+    let mut c = sevens();
+    let mut f = sevens();
+    let mut x = sevens();
+    let mut p = sevens();
+    let mut i = sevens();
+    let mut t = sevens();
+    let mut q = sevens();
+    let mut u = sevens();
+    let mut e = sevens();
+    let mut r = sevens();
     let z = sheet::read_sheet(
-        &sheet[..end],
+        sheet,
         &mut bytes[..b_end],
         &mut n[..n_end],
         &mut c[..c_end],
@@ -174,28 +185,29 @@ fn replay(
         &mut r[..r_end],
     );
     print_answer(z);
-    print_slices(bytes, n, c, f, x, p, i, t, q, u, e, r);
+    print_slices(&bytes, &n, &c, &f, &x, &p, &i, &t, &q, &u, &e, &r);
 }
 
-fn sevens_of_bytes() -> [u8; 16400]
-    ensures { λ r. ⌜ 16400 ≡ length r ⌝ }
-{
-    [7; 16400]
+// A case's sheet, with what the case lends.
+fn replay_sheet(sheet: &[u8], lent: [u32; 13]) {
+    replay(
+        sheet,
+        end_of(lent[1], BYTES),
+        end_of(lent[2], NAMES),
+        end_of(lent[3], OTHERS),
+        end_of(lent[4], OTHERS),
+        end_of(lent[5], OTHERS),
+        end_of(lent[6], OTHERS),
+        end_of(lent[7], OTHERS),
+        end_of(lent[8], OTHERS),
+        end_of(lent[9], OTHERS),
+        end_of(lent[10], OTHERS),
+        end_of(lent[11], OTHERS),
+        end_of(lent[12], OTHERS),
+    );
 }
 
-fn sevens_of_names() -> [u32; 8200]
-    ensures { λ r. ⌜ 8200 ≡ length r ⌝ }
-{
-    [7; 8200]
-}
-
-fn sevens() -> [u32; 2700]
-    ensures { λ r. ⌜ 2700 ≡ length r ⌝ }
-{
-    [7; 2700]
-}
-
-// A case, with slices full of sevens; false where there is none.
+// Reads a case and replays it; false where there is none.
 fn next_case() -> bool {
     let mut header = [0u8; 79];
     let mut line_feed = [0u8; 1];
@@ -206,34 +218,9 @@ fn next_case() -> bool {
     let mut lent = [0u32; 13];
     fields::put_fields(&header, 13, &mut lent, 0);
     let mut sheet = sevens_of_bytes();
-    let mut bytes = sevens_of_bytes();
-    let mut n = sevens_of_names();
-    let mut c = sevens();
-    let mut f = sevens();
-    let mut x = sevens();
-    let mut p = sevens();
-    let mut i = sevens();
-    let mut t = sevens();
-    let mut q = sevens();
-    let mut u = sevens();
-    let mut e = sevens();
-    let mut r = sevens();
-    replay(
-        &mut sheet,
-        lent,
-        &mut bytes,
-        &mut n,
-        &mut c,
-        &mut f,
-        &mut x,
-        &mut p,
-        &mut i,
-        &mut t,
-        &mut q,
-        &mut u,
-        &mut e,
-        &mut r,
-    );
+    let end = end_of(lent[0], BYTES);
+    io::read_full(STDIN_FILENO, &mut sheet[..end]);
+    replay_sheet(&sheet[..end], lent);
     true
 }
 

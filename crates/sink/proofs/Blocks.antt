@@ -9,13 +9,13 @@ use lib.Seq.{sets, length-take-le, getD-take}
 use Rattle.as5506.specs.Lists.{each, zeros, padded}
 use Rattle.as5506.specs.Groups.{depthLimit}
 use Rattle.as5506.specs.Groups.{Feature as TheFeature}
-use Rattle.as5506.specs.Layout.{featureNumbers, featureBlock}
+use Rattle.as5506.specs.Layout.{rowNumbers, featureNumbers, featureBlock}
 use Rattle.as5506.proofs.Laws.{All, all-map, even-length, padded-length}
 use Rattle.lent.specs.Append.{Filled, append}
 use Rattle.lent.proofs.Sets.{sets-append, sets-step, sets-past-head}
 use Rattle.lent.proofs.Padded.{padded-is}
 use Rattle.sink.specs.declared.Feature.{Feature}
-use Rattle.sink.specs.Take.{featureOf, matchBlock}
+use Rattle.sink.specs.Take.{featureOf, spareNumbers, matchBlock}
 
 -- ---- a feature's block
 
@@ -67,33 +67,33 @@ module _ (f : Feature) (few : f .len ≤ 10) (whole : length (f .prefix) ≡ 11)
       ∙ ap (λ (l : List ℕ). f .name ∷ f .kind ∷ f .direction ∷ l) (sets-past-head names (zeros 10) (f .len) 0)
       ∙ ap₂ (λ (n : ℕ) (l : List ℕ). f .name ∷ f .kind ∷ f .direction ∷ n ∷ l) (sym prefix-length) (padded-is 10 names (omega (arith, prefix-length, few)))
 
-  pub written-length : length (featureBlock (featureOf f)) ≡ 14
+  pub written-length : length (featureBlock (featureOf f)) ≡ featureNumbers
   written-length = block-length (featureOf f) (omega (arith, prefix-length, few))
 
 -- ---- a match's block
 
-module _ (conn src dst : ℕ) (s d : List ℕ) (p : length s ≡ 14) (q : length d ≡ 14) where
-  match-is : sets (sets (conn ∷ src ∷ dst ∷ zeros 46) 3 s) 17 d ≡ matchBlock conn src dst s d
+module _ (conn src dst : ℕ) (s d : List ℕ) (p : length s ≡ featureNumbers) (q : length d ≡ featureNumbers) where
+  match-is : sets (sets (conn ∷ src ∷ dst ∷ zeros (rowNumbers - 3)) 3 s) 17 d ≡ matchBlock conn src dst s d
   unfolding matchBlock padded
   match-is =
       let n : 17 ≡ 3 + length s = omega (arith, p) in
       let size : length (s ++ d) ≡ 28 = length-append s d ∙ omega (arith, p, q) in
-      let room : 46 - length (s ++ d) ≡ 18 = omega (arith, size) in
-      ap (λ (k : ℕ). sets (sets (conn ∷ src ∷ dst ∷ zeros 46) 3 s) k d) n
-      ∙ sym (sets-append s d (conn ∷ src ∷ dst ∷ zeros 46) 3)
-      ∙ sets-past-head (s ++ d) (src ∷ dst ∷ zeros 46) conn 2
-      ∙ ap (λ (l : List ℕ). conn ∷ l) (sets-past-head (s ++ d) (dst ∷ zeros 46) src 1)
-      ∙ ap (λ (l : List ℕ). conn ∷ src ∷ l) (sets-past-head (s ++ d) (zeros 46) dst 0)
+      let room : rowNumbers - 3 - length (s ++ d) ≡ spareNumbers = omega (arith, size) in
+      ap (λ (k : ℕ). sets (sets (conn ∷ src ∷ dst ∷ zeros (rowNumbers - 3)) 3 s) k d) n
+      ∙ sym (sets-append s d (conn ∷ src ∷ dst ∷ zeros (rowNumbers - 3)) 3)
+      ∙ sets-past-head (s ++ d) (src ∷ dst ∷ zeros (rowNumbers - 3)) conn 2
+      ∙ ap (λ (l : List ℕ). conn ∷ l) (sets-past-head (s ++ d) (dst ∷ zeros (rowNumbers - 3)) src 1)
+      ∙ ap (λ (l : List ℕ). conn ∷ src ∷ l) (sets-past-head (s ++ d) (zeros (rowNumbers - 3)) dst 0)
       ∙ ap (λ (l : List ℕ). conn ∷ src ∷ dst ∷ l)
       (padded-is 46 (s ++ d) (omega (arith, size)) ∙ ap (λ (k : ℕ). s ++ d ++ zeros k) room)
 
   -- the row as the code writes it
   pub match-put :
-      (block r₁ r₂ : List ℕ) (a b : Filled) → block ≡ s → r₁ ≡ sets (conn ∷ src ∷ dst ∷ zeros 46) 3 block → r₂ ≡ sets r₁ 17 d → a ≡ append r₂ b
+      (block r₁ r₂ : List ℕ) (a b : Filled) → block ≡ s → r₁ ≡ sets (conn ∷ src ∷ dst ∷ zeros (rowNumbers - 3)) 3 block → r₂ ≡ sets r₁ 17 d → a ≡ append r₂ b
       → a ≡ append (matchBlock conn src dst s d) b
   match-put block r₁ r₂ a b k e f g =
-      g ∙ ap (λ (r : List ℕ). append r b) (f ∙ ap (λ (r : List ℕ). sets r 17 d) (e ∙ ap (sets (conn ∷ src ∷ dst ∷ zeros 46) 3) k) ∙ match-is)
+      g ∙ ap (λ (r : List ℕ). append r b) (f ∙ ap (λ (r : List ℕ). sets r 17 d) (e ∙ ap (sets (conn ∷ src ∷ dst ∷ zeros (rowNumbers - 3)) 3) k) ∙ match-is)
 
 -- a kept feature's block is whole
-pub kept-length : (kept : List ℕ) (i : ℕ) → i * 14 + 14 ≤ length kept → length (take 14 (drop (i * 14) kept)) ≡ 14
-kept-length kept i h = length-take-le 14 (drop (i * 14) kept) (omega (arith, h, length-drop (i * 14) kept))
+pub kept-length : (kept : List ℕ) (i : ℕ) → i * featureNumbers + featureNumbers ≤ length kept → length (take featureNumbers (drop (i * featureNumbers) kept)) ≡ featureNumbers
+kept-length kept i h = length-take-le featureNumbers (drop (i * featureNumbers) kept) (omega (arith, h, length-drop (i * featureNumbers) kept))

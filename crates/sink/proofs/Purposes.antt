@@ -6,7 +6,7 @@ use Prim.Native.Nat.{ℕ, _*_, _≤_, _<_}
 use borrow.Author.Tests.{eq-eqb, ne-eqb}
 use lib.ListN.{length, getD, take, drop, set}
 use Rattle.as5506.specs.Groups.{Feature as Meant}
-use Rattle.as5506.specs.Layout.{featureBlock, diagBlock}
+use Rattle.as5506.specs.Layout.{featureNumbers, featureBlock, diagBlock}
 use Rattle.lent.specs.Append.{Filled, append}
 use Rattle.sink.specs.declared.Place.{Place}
 use Rattle.sink.specs.declared.Place.the-variants.{At, Nowhere}
@@ -58,7 +58,7 @@ module _ (p : Purpose) (bytes n kept : List ℕ) (f : Meant) (memo : List ℕ) (
     taken-unmatched t o h = let d = by-answer none (ap placeOf t) in sym (d .1 ∙ rw (d .0, h))
 
     pub taken-matched :
-        (i : ℕ) → z ≡ At i → (o : Filled) → o ≡ append (matchBlock conn src dst (featureBlock f) (take 14 (drop (i * 14) kept))) out
+        (i : ℕ) → z ≡ At i → (o : Filled) → o ≡ append (matchBlock conn src dst (featureBlock f) (take featureNumbers (drop (i * featureNumbers) kept))) out
         → holding m o notes ≡ taken p bytes n kept f (holding memo out notes)
     unfolding matchBy
     taken-matched i t o h = let d = by-answer (some i) (ap placeOf t) in sym (d .1 ∙ rw (d .0, h))
@@ -68,7 +68,7 @@ module _ (p : Purpose) (bytes n kept : List ℕ) (f : Meant) (memo : List ℕ) (
 module _ (bytes n kept : List ℕ) (count : ℕ) where
   pub match-ready :
       (p : Purpose) (memo : List ℕ) (conn src dst : ℕ) → p ≡ Match conn src dst count → Ready p bytes n kept memo
-      → (count ≤ 4096) × (count * 14 ≤ length kept) × Memory bytes n kept count memo
+      → (count ≤ 4096) × (count * featureNumbers ≤ length kept) × Memory bytes n kept count memo
   unfolding Ready
   match-ready p memo conn src dst e r = subst (λ (q : Purpose). Ready q bytes n kept memo) e r
 

@@ -3,14 +3,14 @@ use mathlib.Core.Bool.{Bool, true, false}
 use mathlib.Core.Option.{Option, none, some}
 use mathlib.Core.Path.{_≡_}
 use mathlib.Core.List.{List, _∷_, _++_}
-use Prim.Native.Nat.{ℕ, zero, suc, _+_, _*_, _≤_}
+use Prim.Native.Nat.{ℕ, zero, suc, _+_, _-_, _*_, _≤_}
 use lib.Dec.{eqb}
 use lib.ListN.{length, getD, take, drop, set}
 use Rattle.as5506.specs.Lists.{keep, firstOf, upTo, zeros, sameBytes}
 use Rattle.as5506.specs.Names.{key}
 use Rattle.as5506.specs.Groups.{Feature as Meant}
 use Rattle.as5506.specs.Rows.{diag}
-use Rattle.as5506.specs.Layout.{featureNumbers, featureBlock, diagBlock}
+use Rattle.as5506.specs.Layout.{rowNumbers, featureNumbers, featureBlock, diagBlock}
 use Rattle.lent.specs.Append.{Filled, filled, append}
 use Rattle.lent.specs.Lent.{namesIn}
 use Rattle.sink.specs.declared.Feature.{Feature}
@@ -48,10 +48,14 @@ unfoldable pub partnerOf : List ℕ → List ℕ → List ℕ → ℕ → ℕ �
 partnerOf bytes n kept count name =
     firstOf (keep (λ i. sameBytes (key (namesIn bytes n) name) (key (namesIn bytes n) (keptName kept i))) (upTo count))
 
+-- the numbers of a row that a match leaves unused
+abbrev pub spareNumbers : ℕ
+spareNumbers = rowNumbers - (3 + featureNumbers + featureNumbers)
+
 -- a match, until its names are composed: connection, both components, the blocks of the source and of the destination feature, in the places
 -- of a row
 unfoldable pub matchBlock : ℕ → ℕ → ℕ → List ℕ → List ℕ → List ℕ
-matchBlock conn src dst s d = conn ∷ src ∷ dst ∷ (s ++ d ++ zeros 18)
+matchBlock conn src dst s d = conn ∷ src ∷ dst ∷ (s ++ d ++ zeros spareNumbers)
 
 -- how the memory keeps an answer: 0 is kept of no answer
 abbrev pub codeOf : Option ℕ → ℕ

@@ -1,12 +1,13 @@
 // What is done with each feature of an expansion, by the purpose of the walk that comes to it. The outputs hold blocks from the front; where one
 // finds no room, its output counts as full from then on, and the walk goes on: whether 13 strikes is known at its end only.
 use as5506::FEATURE_NUMBERS;
+use as5506::ROW_NUMBERS;
 use lent::number_at;
 use name::same_folded_names;
 ghost use mathlib.Core.Path.{_≡_};
 ghost use Prim.Native.Nat.{_+_, _*_, _≤_};
 ghost use lib.ListN.{length, take, drop, set};
-ghost use Rattle.as5506.specs.Layout.{featureBlock};
+ghost use Rattle.as5506.specs.Layout.{featureNumbers, featureBlock};
 ghost use Rattle.lent.specs.Append.{filled, append};
 ghost use Rattle.sink.specs.Take.{featureOf, held, partnerOf, matchBlock, codeOf, Memory, taken, Ready};
 ghost use Rattle.sink.specs.Place.{placeOf};
@@ -50,13 +51,13 @@ pub enum Place {
 const NO_PARTNER: u32 = 1;
 
 // The block of a feature: name, kind, direction, length of the prefix, its names.
-fn block_of(feature: Feature) -> [u32; 14]
+fn block_of(feature: Feature) -> [u32; FEATURE_NUMBERS]
     requires { ⌜ (feature .len ≤ 10) × (length (feature .prefix) ≡ 11) ⌝ }
     ensures { λ z. ⌜ z ≡ featureBlock (featureOf feature) ⌝ }
 {
     let prefix = feature.prefix;
     let len = feature.len;
-    let mut block = [0u32; 14];
+    let mut block = [0u32; FEATURE_NUMBERS];
     block[0] = feature.name;
     block[1] = feature.kind;
     block[2] = feature.direction;
@@ -130,13 +131,13 @@ fn put_match(
     feature: Feature,
     i: usize,
 ) -> usize
-    requires { ⌜ (feature .len ≤ 10) × (length (feature .prefix) ≡ 11) × (i * 14 + 14 ≤ length (now kept)) ⌝ }
-    ensures { λ z. ⌜ filled (now (out .exit)) z ≡ append (matchBlock connection source destination (featureBlock (featureOf feature)) (take 14 (drop (i * 14) (now (kept .entry))))) (filled (now (out .entry)) used) ⌝ }
+    requires { ⌜ (feature .len ≤ 10) × (length (feature .prefix) ≡ 11) × (i * featureNumbers + featureNumbers ≤ length (now kept)) ⌝ }
+    ensures { λ z. ⌜ filled (now (out .exit)) z ≡ append (matchBlock connection source destination (featureBlock (featureOf feature)) (take featureNumbers (drop (i * featureNumbers) (now (kept .entry))))) (filled (now (out .entry)) used) ⌝ }
 {
     if out.len() < used {
         return out.len() + 1;
     }
-    let mut row = [0u32; 49];
+    let mut row = [0u32; ROW_NUMBERS];
     row[0] = connection;
     row[1] = source;
     row[2] = destination;

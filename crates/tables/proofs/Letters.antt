@@ -7,7 +7,7 @@ use lib.ListN.{length, getD}
 use borrow.Author.Tests.{le-ltb}
 use Rattle.as5506.specs.Lists.{upTo, putIf, keep, when, each}
 use Rattle.as5506.specs.Tables.{Tables, Letter, letterN, letterC, letterF, letterX, letterP, letterI, letterT, letterQ, letterU, letterE, letterR, table, width, count}
-use Rattle.as5506.specs.Columns.{order, rank, letterByte}
+use Rattle.as5506.specs.Columns.{order, rank, letterByte, letterCount}
 use Rattle.as5506.specs.Answers.{row, Refusal, refusal}
 use Rattle.as5506.specs.Refusals.{rowFaults}
 use Rattle.as5506.proofs.Laws.{All}
@@ -40,7 +40,7 @@ module _ (f : ℕ → Checked) (g : Letter → List Refusal) (h : (l : Letter) �
   from-letter [] = refl
   from-letter (l ∷ ls) = rw (h l, from-letter ls) (sym (head-append (g l) (each g ls)))
 
-  pub each-letter : over f (upTo 11) ≡ checked (each g order)
+  pub each-letter : over f (upTo letterCount) ≡ checked (each g order)
   each-letter = from-letter order
 
 -- what holds of all letters holds of each

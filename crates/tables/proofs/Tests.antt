@@ -8,6 +8,7 @@ use native.Mathlib.Nat.{add-zero, not-suc-le-zero, mul-le-mul-left, mul-le-mul-r
 use lib.ListN.{length, getD}
 use lib.Dec.{T, eqb, leb, ltb, leb→le}
 use borrow.Author.Tests.{eq-eqb, ne-eqb, lt-leb, le-leb, lt-ltb, le-ltb, ltb-true, ltb-false}
+use Rattle.as5506.specs.Columns.{letterCount}
 use Rattle.as5506.specs.Tables.{missing, nameIn}
 use Rattle.as5506.specs.Names.{goodName, sameFolded}
 use Rattle.as5506.proofs.Laws.{and-left, and-right}
@@ -27,14 +28,14 @@ getD-within low high (x ∷ xs) e zero h =
     (leb→le low x (and-left (leb low x) (leb x high) t), leb→le x high (and-right (leb low x) (leb x high) t))
 getD-within low high (x ∷ xs) e (suc k) h = getD-within low high xs (and-right (leb low x && leb x high) (within low high xs) e) k (omega arith)
 
-pub width-floor : (k : ℕ) → k < 11 → 0 < getD widths k 0
+pub width-floor : (k : ℕ) → k < letterCount → 0 < getD widths k 0
 width-floor k h = getD-within 1 9 widths tt k h .0
 
-pub width-cap : (k : ℕ) → k < 11 → getD widths k 0 ≤ 9
+pub width-cap : (k : ℕ) → k < letterCount → getD widths k 0 ≤ 9
 width-cap k h = getD-within 1 9 widths tt k h .1
 
 -- where row i starts
-pub row-start : (k i : ℕ) → k < 11 → i ≤ 4096 → i * getD widths k 0 ≤ farthest
+pub row-start : (k i : ℕ) → k < letterCount → i ≤ 4096 → i * getD widths k 0 ≤ farthest
 row-start k i h l = le-trans (mul-le-mul-left i (width-cap k h)) (mul-le-mul-right 9 l)
 
 -- ---- tests

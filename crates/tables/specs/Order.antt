@@ -4,6 +4,7 @@ use mathlib.Core.List.{List, [], _∷_}
 use Prim.Native.Nat.{ℕ, _+_, _*_}
 use lib.ListN.{length, getD}
 use lib.Dec.{eqb, leb, ltb}
+use Rattle.as5506.specs.Columns.{letterCount}
 use Rattle.as5506.specs.Lists.{upTo, keep, bytesOf}
 use Rattle.as5506.specs.Tables.{Tables}
 use Rattle.tables.specs.declared.Rule.{Rule}
@@ -92,7 +93,7 @@ abbrev pub tableChecked : Tables → Rule → ℕ → Checked
 tableChecked m rule k = checkTable (m .bytes) (m .n) (getD (tables m) k []) (lengths (tables m)) rule k
 
 unfoldable pub checkRule : Tables → Rule → Checked
-checkRule m rule = over (tableChecked m rule) (upTo 11)
+checkRule m rule = over (tableChecked m rule) (upTo letterCount)
 
 -- "The table is the order of checks"
 abbrev pub rules : List Rule

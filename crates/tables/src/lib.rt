@@ -1,9 +1,11 @@
 // Refusals 10, 6, 7, 8 and 9 of document 01: what tables that a caller hands over are refused for, if anything.
 // Each rule goes over all tables in letter order and over the rows of each; the lowest bad row of the first bad table is the refusal's place.
 // A letter goes by its place `k` in the order N C F X P I T Q U E R, 0 to 10; `lens` has the length of each letter's table.
+use as5506::LETTER_COUNT;
 ghost use mathlib.Core.Path.{_≡_};
 ghost use Prim.Native.Nat.{_≤_, _<_, _+_};
 ghost use Rattle.lent.specs.Lent.{tablesAt};
+ghost use Rattle.as5506.specs.Columns.{letterCount};
 ghost use Rattle.as5506.specs.Refusals.{faults};
 ghost use Rattle.tables.specs.Answer.{checked};
 ghost use Rattle.tables.specs.Tests.{farthest, rowsOf, broken, limitOf, mayMiss, fieldFits, fieldsFit, nameBad, parentBad, endBad, referenceBad, renameBad, endsBad, samePart, sameKey, keyTaken};
@@ -71,16 +73,16 @@ pub enum Checked {
 }
 
 // The rows of letter k.
-fn rows_of(lens: [usize; 11], k: usize) -> usize
-    requires { ⌜ k < 11 ⌝ }
+fn rows_of(lens: [usize; LETTER_COUNT], k: usize) -> usize
+    requires { ⌜ k < letterCount ⌝ }
     ensures { λ r. ⌜ r ≡ rowsOf lens k ⌝ }
 {
     lens[k] / as5506::WIDTHS[k]
 }
 
 // 10: whether the table of letter k has no whole number of rows.
-fn is_broken(lens: [usize; 11], k: usize) -> bool
-    requires { ⌜ k < 11 ⌝ }
+fn is_broken(lens: [usize; LETTER_COUNT], k: usize) -> bool
+    requires { ⌜ k < letterCount ⌝ }
     ensures { λ r. ⌜ r ≡ broken lens k ⌝ }
 {
     lens[k] % as5506::WIDTHS[k] != 0
@@ -91,8 +93,8 @@ fn bad_name(bytes: &[u8], n: &[u32], i: usize) -> bool
     requires { ⌜ i ≤ 4096 ⌝ }
     ensures { λ r. ⌜ r ≡ nameBad (now (bytes .entry)) (now (n .entry)) i ⌝ }
 {
-    let start = lent::number_at(n, i * 2) as usize;
-    let length = lent::number_at(n, i * 2 + 1) as usize;
+    let start = lent::number_at(n, i * as5506::N_NUMBERS) as usize;
+    let length = lent::number_at(n, i * as5506::N_NUMBERS + 1) as usize;
     if bytes.len() < start + length {
         return true;
     }
@@ -100,7 +102,7 @@ fn bad_name(bytes: &[u8], n: &[u32], i: usize) -> bool
 }
 
 // 6: the number that a field is below, by its character of FIELDS; `kind` is the row's holder kind.
-fn limit_of(lens: [usize; 11], kind: u32, what: u8) -> usize
+fn limit_of(lens: [usize; LETTER_COUNT], kind: u32, what: u8) -> usize
     ensures { λ r. ⌜ r ≡ limitOf lens kind what ⌝ }
 {
     if what == b'n' {
@@ -136,8 +138,8 @@ fn may_miss(mark: u8, v: u32) -> bool
 }
 
 // 6: whether field j of the row at `at` is in its range.
-fn field_fits(lens: [usize; 11], t: &[u32], k: usize, at: usize, j: usize) -> bool
-    requires { ⌜ (k < 11) × (j < 9) × (at ≤ farthest) ⌝ }
+fn field_fits(lens: [usize; LETTER_COUNT], t: &[u32], k: usize, at: usize, j: usize) -> bool
+    requires { ⌜ (k < letterCount) × (j < 9) × (at ≤ farthest) ⌝ }
     ensures { λ r. ⌜ r ≡ fieldFits lens (now (t .entry)) k at j ⌝ }
 {
     let v = lent::number_at(t, at + j);
@@ -153,8 +155,8 @@ fn field_fits(lens: [usize; 11], t: &[u32], k: usize, at: usize, j: usize) -> bo
 }
 
 // 6: whether all fields of the row at `at` are in their ranges.
-fn fields_fit(lens: [usize; 11], t: &[u32], k: usize, at: usize) -> bool
-    requires { ⌜ (k < 11) × (at ≤ farthest) ⌝ }
+fn fields_fit(lens: [usize; LETTER_COUNT], t: &[u32], k: usize, at: usize) -> bool
+    requires { ⌜ (k < letterCount) × (at ≤ farthest) ⌝ }
     ensures { λ r. ⌜ r ≡ fieldsFit lens (now (t .entry)) k at ⌝ }
 {
     let width = as5506::WIDTHS[k];
@@ -252,7 +254,7 @@ fn same_part(bytes: &[u8], n: &[u32], how: u8, x: u32, y: u32) -> bool
 
 // 9: whether the rows at x and y have the same key.
 fn same_key(bytes: &[u8], n: &[u32], t: &[u32], k: usize, x: usize, y: usize) -> bool
-    requires { ⌜ (k < 11) × (x ≤ farthest) × (y ≤ farthest) ⌝ }
+    requires { ⌜ (k < letterCount) × (x ≤ farthest) × (y ≤ farthest) ⌝ }
     ensures { λ r. ⌜ r ≡ sameKey (now (bytes .entry)) (now (n .entry)) (now (t .entry)) k x y ⌝ }
 {
     let mut j: usize = 0;
@@ -270,7 +272,7 @@ fn same_key(bytes: &[u8], n: &[u32], t: &[u32], k: usize, x: usize, y: usize) ->
 
 // 9: whether a row before row i has its key. A scan of all pairs of rows: seconds at 4,096 rows of each letter.
 fn key_taken(bytes: &[u8], n: &[u32], t: &[u32], k: usize, i: usize) -> bool
-    requires { ⌜ (k < 11) × (i ≤ 4096) ⌝ }
+    requires { ⌜ (k < letterCount) × (i ≤ 4096) ⌝ }
     ensures { λ r. ⌜ r ≡ keyTaken (now (bytes .entry)) (now (n .entry)) (now (t .entry)) k i ⌝ }
 {
     let width = as5506::WIDTHS[k];
@@ -286,7 +288,7 @@ fn key_taken(bytes: &[u8], n: &[u32], t: &[u32], k: usize, i: usize) -> bool
 }
 
 // Which tables a rule asks, a character for each letter in the order NCFXPITQUER: 1 the table as a whole, * each row.
-fn asks(rule: Rule) -> [u8; 11]
+fn asks(rule: Rule) -> [u8; LETTER_COUNT]
     ensures { λ r. ⌜ r ≡ asked rule ⌝ }
 {
     match rule {
@@ -302,8 +304,8 @@ fn asks(rule: Rule) -> [u8; 11]
 }
 
 // How many rows of letter k a rule is asked for: row 0 where it asks the table; none after row 4,096, at which `Few` refuses the table.
-fn span_of(lens: [usize; 11], rule: Rule, k: usize) -> usize
-    requires { ⌜ k < 11 ⌝ }
+fn span_of(lens: [usize; LETTER_COUNT], rule: Rule, k: usize) -> usize
+    requires { ⌜ k < letterCount ⌝ }
     ensures { λ r. ⌜ (r ≡ spanOf lens rule k) × (r ≤ 4097) ⌝ }
 {
     let asked = asks(rule);
@@ -326,12 +328,12 @@ fn bad_row(
     bytes: &[u8],
     n: &[u32],
     t: &[u32],
-    lens: [usize; 11],
+    lens: [usize; LETTER_COUNT],
     rule: Rule,
     k: usize,
     i: usize,
 ) -> bool
-    requires { ⌜ (k < 11) × (i ≤ 4096) ⌝ }
+    requires { ⌜ (k < letterCount) × (i ≤ 4096) ⌝ }
     ensures { λ r. ⌜ r ≡ badRow (now (bytes .entry)) (now (n .entry)) (now (t .entry)) lens rule k i ⌝ }
 {
     let width = as5506::WIDTHS[k];
@@ -381,10 +383,10 @@ fn check_table(
     bytes: &[u8],
     n: &[u32],
     t: &[u32],
-    lens: [usize; 11],
+    lens: [usize; LETTER_COUNT],
     k: usize,
 ) -> Checked
-    requires { ⌜ k < 11 ⌝ }
+    requires { ⌜ k < letterCount ⌝ }
     ensures { λ r. ⌜ r ≡ orElse before (checkTable (now (bytes .entry)) (now (n .entry)) (now (t .entry)) lens rule k) ⌝ }
 {
     if is_refused(before) {

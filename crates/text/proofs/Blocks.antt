@@ -9,7 +9,7 @@ use lib.Seq.{drop-drop, drop-nil, take-all, length-take-le}
 use Rattle.as5506.specs.Lists.{each, bytesOf}
 use Rattle.as5506.specs.Rows.{Row, Diag}
 use Rattle.as5506.specs.Tables.{Tables, nameIn}
-use Rattle.as5506.specs.Layout.{rowBack, rowsBack, groupBack, groupRowsBack, namesBehind, diagBack, diagsBack}
+use Rattle.as5506.specs.Layout.{pathPlaces, rowNumbers, diagNumbers, rowBack, rowsBack, groupBack, groupRowsBack, namesBehind, diagBack, diagsBack}
 use Rattle.as5506.specs.Text.{column, numberLine, textLine, rowText, diagText}
 use Rattle.text.specs.Added.{rowNamed}
 use Rattle.text.specs.Printing.{listOf, refusalOf}
@@ -34,14 +34,14 @@ part-length l i w h =
 -- ---- traced rows
 
 pub traced-text-next : (bytes n out : List ℕ) (count i : ℕ) → i < count
-    → each rowText (rowsBack (namesIn bytes n) (count - i) (drop (i * 49) out))
-    ≡ rowText (rowBack (namesIn bytes n) (take (i * 49 + 49 - i * 49) (drop (i * 49) out)))
-    ++ each rowText (rowsBack (namesIn bytes n) (count - (i + 1)) (drop ((i + 1) * 49) out))
+    → each rowText (rowsBack (namesIn bytes n) (count - i) (drop (i * rowNumbers) out))
+    ≡ rowText (rowBack (namesIn bytes n) (take (i * rowNumbers + rowNumbers - i * rowNumbers) (drop (i * rowNumbers) out)))
+    ++ each rowText (rowsBack (namesIn bytes n) (count - (i + 1)) (drop ((i + 1) * rowNumbers) out))
 unfolding rowsBack
 traced-text-next bytes n out count i h =
-    let e : i * 49 + 49 ≡ (i + 1) * 49 = omega arith in rw (count-next count i h, drop-drop 49 (i * 49) out, part-is out (i * 49) 49, e)
+    let e : i * rowNumbers + rowNumbers ≡ (i + 1) * rowNumbers = omega arith in rw (count-next count i h, drop-drop rowNumbers (i * rowNumbers) out, part-is out (i * rowNumbers) rowNumbers, e)
 
-pub traced-text-done : (bytes n out : List ℕ) (count i : ℕ) → count ≤ i → each rowText (rowsBack (namesIn bytes n) (count - i) (drop (i * 49) out)) ≡ []
+pub traced-text-done : (bytes n out : List ℕ) (count i : ℕ) → count ≤ i → each rowText (rowsBack (namesIn bytes n) (count - i) (drop (i * rowNumbers) out)) ≡ []
 unfolding rowsBack
 traced-text-done bytes n out count i h = let e : count - i ≡ 0 = omega (arith, h) in rw e
 
@@ -49,43 +49,43 @@ traced-text-done bytes n out count i h = let e : count - i ≡ 0 = omega (arith,
 pub rows-same : (m : Tables) (out : List ℕ) (count : ℕ) → rowsBack m count out ≡ rowsBack (namesIn (m .bytes) (m .n)) count out
 unfolding rowsBack rowBack
 rows-same m out zero = refl
-rows-same m out (suc k) = ap (λ (l : List Row). rowBack m (take 49 out) ∷ l) (rows-same m (drop 49 out) k)
+rows-same m out (suc k) = ap (λ (l : List Row). rowBack m (take rowNumbers out) ∷ l) (rows-same m (drop rowNumbers out) k)
 
 rows-count : (m : Tables) (out : List ℕ) (count : ℕ) → length (rowsBack m count out) ≡ count
 unfolding rowsBack
 rows-count m out zero = refl
-rows-count m out (suc k) = ap suc (rows-count m (drop 49 out) k)
+rows-count m out (suc k) = ap suc (rows-count m (drop rowNumbers out) k)
 
 -- ---- group rows
 
-pub group-text-next : (out names : List ℕ) (count i at : ℕ) (at′ : ℕ) → i < count → drop at′ names ≡ namesBehind (take (i * 49 + 49 - i * 49) (drop (i * 49) out)) (drop at names)
-    → each rowText (groupRowsBack (count - i) (drop (i * 49) out) (drop at names))
-    ≡ rowText (groupBack (take (i * 49 + 49 - i * 49) (drop (i * 49) out)) (drop at names))
-    ++ each rowText (groupRowsBack (count - (i + 1)) (drop ((i + 1) * 49) out) (drop at′ names))
+pub group-text-next : (out names : List ℕ) (count i at : ℕ) (at′ : ℕ) → i < count → drop at′ names ≡ namesBehind (take (i * rowNumbers + rowNumbers - i * rowNumbers) (drop (i * rowNumbers) out)) (drop at names)
+    → each rowText (groupRowsBack (count - i) (drop (i * rowNumbers) out) (drop at names))
+    ≡ rowText (groupBack (take (i * rowNumbers + rowNumbers - i * rowNumbers) (drop (i * rowNumbers) out)) (drop at names))
+    ++ each rowText (groupRowsBack (count - (i + 1)) (drop ((i + 1) * rowNumbers) out) (drop at′ names))
 unfolding groupRowsBack
 group-text-next out names count i at at′ h g =
-    let e : i * 49 + 49 ≡ (i + 1) * 49 = omega arith in rw (g, count-next count i h, drop-drop 49 (i * 49) out, part-is out (i * 49) 49, e)
+    let e : i * rowNumbers + rowNumbers ≡ (i + 1) * rowNumbers = omega arith in rw (g, count-next count i h, drop-drop rowNumbers (i * rowNumbers) out, part-is out (i * rowNumbers) rowNumbers, e)
 
-pub group-text-done : (out names : List ℕ) (count i at : ℕ) → count ≤ i → each rowText (groupRowsBack (count - i) (drop (i * 49) out) (drop at names)) ≡ []
+pub group-text-done : (out names : List ℕ) (count i at : ℕ) → count ≤ i → each rowText (groupRowsBack (count - i) (drop (i * rowNumbers) out) (drop at names)) ≡ []
 unfolding groupRowsBack
 group-text-done out names count i at h = let e : count - i ≡ 0 = omega (arith, h) in rw e
 
 group-count : (out names : List ℕ) (count : ℕ) → length (groupRowsBack count out names) ≡ count
 unfolding groupRowsBack
 group-count out names zero = refl
-group-count out names (suc k) = ap suc (group-count (drop 49 out) (namesBehind (take 49 out) names) k)
+group-count out names (suc k) = ap suc (group-count (drop rowNumbers out) (namesBehind (take rowNumbers out) names) k)
 
 -- ---- diagnostics
 
 pub diag-text-next : (bytes n c x out : List ℕ) (count i : ℕ) → i < count
-    → each (diagText (wiringIn bytes n c x)) (diagsBack (count - i) (drop (i * 4) out))
-    ≡ diagText (wiringIn bytes n c x) (diagBack (take (i * 4 + 4 - i * 4) (drop (i * 4) out)))
-    ++ each (diagText (wiringIn bytes n c x)) (diagsBack (count - (i + 1)) (drop ((i + 1) * 4) out))
+    → each (diagText (wiringIn bytes n c x)) (diagsBack (count - i) (drop (i * diagNumbers) out))
+    ≡ diagText (wiringIn bytes n c x) (diagBack (take (i * diagNumbers + diagNumbers - i * diagNumbers) (drop (i * diagNumbers) out)))
+    ++ each (diagText (wiringIn bytes n c x)) (diagsBack (count - (i + 1)) (drop ((i + 1) * diagNumbers) out))
 unfolding diagsBack
 diag-text-next bytes n c x out count i h =
-    let e : i * 4 + 4 ≡ (i + 1) * 4 = omega arith in rw (count-next count i h, drop-drop 4 (i * 4) out, part-is out (i * 4) 4, e)
+    let e : i * diagNumbers + diagNumbers ≡ (i + 1) * diagNumbers = omega arith in rw (count-next count i h, drop-drop diagNumbers (i * diagNumbers) out, part-is out (i * diagNumbers) diagNumbers, e)
 
-pub diag-text-done : (bytes n c x out : List ℕ) (count i : ℕ) → count ≤ i → each (diagText (wiringIn bytes n c x)) (diagsBack (count - i) (drop (i * 4) out)) ≡ []
+pub diag-text-done : (bytes n c x out : List ℕ) (count i : ℕ) → count ≤ i → each (diagText (wiringIn bytes n c x)) (diagsBack (count - i) (drop (i * diagNumbers) out)) ≡ []
 unfolding diagsBack
 diag-text-done bytes n c x out count i h = let e : count - i ≡ 0 = omega (arith, h) in rw e
 
@@ -124,7 +124,7 @@ traced-named bytes n b name source destination p q r = rw (p, q, r)
 pub path-within : (b : List ℕ) → take (getD b 7 0) (drop 8 b) ≡ take (8 + getD b 7 0 - 8) (drop 8 b)
 path-within b = part-is b 8 (getD b 7 0)
 
-pub path-whole : (b : List ℕ) → length b ≡ 49 → 41 ≤ getD b 7 0 → take (length b - 8) (drop 8 b) ≡ take (getD b 7 0) (drop 8 b)
+pub path-whole : (b : List ℕ) → length b ≡ rowNumbers → pathPlaces ≤ getD b 7 0 → take (length b - 8) (drop 8 b) ≡ take (getD b 7 0) (drop 8 b)
 path-whole b e h =
     let k : length (drop 8 b) ≡ length b - 8 = length-drop 8 b in
     take-all (length b - 8) (drop 8 b) (omega (arith, k)) ∙ sym (take-all (getD b 7 0) (drop 8 b) (omega (arith, k, e, h)))

@@ -2,8 +2,7 @@
 use mathlib.Core.Bool.{Bool}
 use mathlib.Core.Path.{_≡_, refl, sym, ap, ap₂, _∙_}
 use mathlib.Core.List.{List, [], _∷_, _++_, append-assoc, append-nil}
-use Prim.Native.Nat.{ℕ, zero, suc, _+_, _*_, _≤_, _<_}
-use native.Mathlib.Nat.{add-zero}
+use Prim.Native.Nat.{ℕ, zero, suc, _≤_, _<_}
 use native.Mathlib.Omega.{arith}
 use borrow.Author.Tests.{lt-ltb, le-ltb}
 use lib.Dec.{ltb}
@@ -11,9 +10,9 @@ use lib.ListN.{length, getD}
 use lib.Seq.{take-all}
 use Rattle.as5506.specs.Lists.{each, bytesOf}
 use Rattle.as5506.specs.Tables.{Tables, nameIn, nameOf, cName, xName, xOwner}
-use Rattle.as5506.specs.Layout.{diagBack}
+use Rattle.as5506.specs.Layout.{diagNumbers, diagBack}
 use Rattle.as5506.specs.Text.{digits, column, numberLine, textLine, quoted, message, pathNames, diagText}
-use Rattle.lent.specs.Lent.{namesIn, connectionsIn, wiringIn}
+use Rattle.lent.specs.Lent.{namesIn, componentsIn, connectionsIn, wiringIn}
 use Rattle.text.proofs.Blocks.{first-four}
 
 -- ---- the message, by its code
@@ -89,9 +88,9 @@ message-same m conn (suc (suc (suc (suc (suc k))))) a b = refl
 
 -- ---- the path names
 
-pub connection-named : (bytes n x : List ℕ) (i k : ℕ) (r : List ℕ) → k ≡ getD x (i * 7) 0 → r ≡ nameIn bytes n k
+pub connection-named : (bytes n x : List ℕ) (i k : ℕ) (r : List ℕ) → k ≡ xName (connectionsIn [] [] x) i → r ≡ nameIn bytes n k
     → r ≡ nameOf (connectionsIn bytes n x) (xName (connectionsIn bytes n x) i)
-connection-named bytes n x i k r e f = f ∙ ap (nameIn bytes n) (e ∙ ap (λ (j : ℕ). getD x j 0) (sym (add-zero (i * 7))))
+connection-named bytes n x i k r e f = f ∙ ap (nameIn bytes n) e
 
 abbrev atLine : List ℕ → List ℕ
 atLine s = bytesOf "@ " ++ s ++ bytesOf "\n"
@@ -105,11 +104,12 @@ module _ (bytes n c x b : List ℕ) (code conn : ℕ) (name : List ℕ) (e : cod
   connection-is : name ≡ nameOf (wiringIn bytes n c x) (xName (wiringIn bytes n c x) (getD b 1 0))
   connection-is = g ∙ ap (λ (i : ℕ). nameOf (wiringIn bytes n c x) (xName (wiringIn bytes n c x) i)) f
 
-  owner-is : (owner k : ℕ) → owner ≡ getD x (conn * 7 + 1) 0 → k ≡ getD c (owner * 6) 0
+  owner-is : (owner k : ℕ) → owner ≡ xOwner (connectionsIn [] [] x) conn → k ≡ cName (componentsIn [] [] c) owner
       → k ≡ cName (wiringIn bytes n c x) (xOwner (wiringIn bytes n c x) (getD b 1 0))
-  owner-is owner k p q = rw (q, p, f, add-zero (getD x (getD b 1 0 * 7 + 1) 0 * 6))
+  owner-is owner k p q = q ∙ ap (cName (componentsIn [] [] c)) (p ∙ ap (xOwner (connectionsIn [] [] x)) f)
 
-  pub path-owner : (owner k : ℕ) (above : List ℕ) → code < 5 → owner ≡ getD x (conn * 7 + 1) 0 → k ≡ getD c (owner * 6) 0 → above ≡ nameIn bytes n k
+  pub path-owner : (owner k : ℕ) (above : List ℕ) → code < 5 → owner ≡ xOwner (connectionsIn [] [] x) conn → k ≡ cName (componentsIn [] [] c) owner
+      → above ≡ nameIn bytes n k
       → each (textLine (bytesOf "@")) (pathNames (wiringIn bytes n c x) (diagBack b) (ltb (getD b 0 0) 5)) ≡ atLine above ++ atLine name
   unfolding pathNames diagBack
   path-owner owner k above h p q r =
@@ -125,14 +125,14 @@ module _ (bytes n c x b : List ℕ) (code conn : ℕ) (name : List ℕ) (e : cod
 
 -- ---- a diagnostic
 
-whole-block : (b : List ℕ) → length b ≡ 4 → getD b 0 0 ∷ getD b 1 0 ∷ getD b 2 0 ∷ getD b 3 0 ∷ [] ≡ b
-whole-block b h = sym (first-four b (omega (arith, h))) ∙ take-all 4 b (omega (arith, h))
+whole-block : (b : List ℕ) → length b ≡ diagNumbers → getD b 0 0 ∷ getD b 1 0 ∷ getD b 2 0 ∷ getD b 3 0 ∷ [] ≡ b
+whole-block b h = sym (first-four b (omega (arith, h))) ∙ take-all diagNumbers b (omega (arith, h))
 
 begun-line : (d feed mark s rest : List ℕ) → d ++ feed ++ (mark ++ s ++ feed) ++ rest ≡ d ++ (feed ++ mark) ++ s ++ feed ++ rest
 begun-line d feed mark s rest = simp append-assoc
 
 -- the pieces that it is printed in
-pub diag-pieces : (bytes n c x b name : List ℕ) → length b ≡ 4
+pub diag-pieces : (bytes n c x b name : List ℕ) → length b ≡ diagNumbers
     → name ≡ nameOf (connectionsIn bytes n x) (xName (connectionsIn bytes n x) (getD b 1 0))
     → diagText (wiringIn bytes n c x) (diagBack b)
     ≡ bytesOf "D" ++ each column b ++ bytesOf "\n! " ++ message (namesIn bytes n) name (getD b 0 0) (getD b 2 0) (getD b 3 0) ++ bytesOf "\n"

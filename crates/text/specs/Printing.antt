@@ -1,7 +1,7 @@
 -- The list as it is printed from what the listings' outputs hold. Assumes nothing.
 use mathlib.Core.Path.{_≡_}
 use mathlib.Core.List.{List, [], _∷_, _++_}
-use Prim.Native.Nat.{ℕ, _+_, _≤_, _<_}
+use Prim.Native.Nat.{ℕ, _+_, _*_, _≤_, _<_}
 use lib.ListN.{length}
 use lib.Seq.{sets}
 use Rattle.as5506.specs.Lists.{each, bytesOf}
@@ -9,8 +9,16 @@ use Rattle.as5506.specs.Tables.{Tables}
 use Rattle.as5506.specs.Fields.{space}
 use Rattle.as5506.specs.Sheet.{lineFeed}
 use Rattle.as5506.specs.Rows.{Row, Diag}
+use Rattle.as5506.specs.Layout.{rowNumbers, diagNumbers}
 use Rattle.as5506.specs.Text.{column, numberLine, rowText, diagText}
 use Rattle.as5506.specs.declared.Refusal.{Refusal}
+
+-- the listings' outputs have the rows and diagnostics that are counted
+pub record Counted (rows : List ℕ) (k : ℕ) (groupRows : List ℕ) (l : ℕ) (diags : List ℕ) (d : ℕ) (groupDiags : List ℕ) (g : ℕ) : Type 0 where
+  pub traced : k * rowNumbers ≤ length rows
+  pub group : l * rowNumbers ≤ length groupRows
+  pub diagnostics : d * diagNumbers ≤ length diags
+  pub group-diagnostics : g * diagNumbers ≤ length groupDiags
 
 -- the list of the rows and diagnostics of both listings
 unfoldable pub listOf : Tables → List Row → List Row → List Diag → List Diag → List ℕ

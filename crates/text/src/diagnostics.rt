@@ -4,13 +4,15 @@ ghost use mathlib.Core.List.{_++_};
 ghost use lib.Dec.{ltb};
 ghost use lib.ListN.{length, getD};
 ghost use Rattle.as5506.specs.Lists.{each, bytesOf};
-ghost use Rattle.as5506.specs.Layout.{diagBack};
+ghost use Rattle.as5506.specs.Layout.{diagNumbers, diagBack};
 ghost use Rattle.as5506.specs.Tables.{nameOf, xName};
 ghost use Rattle.as5506.specs.Text.{digits, textLine, message, pathNames, diagText};
-ghost use Rattle.lent.specs.Lent.{namesIn, connectionsIn, wiringAt};
+ghost use Rattle.lent.specs.Lent.{namesIn, connectionsAt, wiringAt};
 ghost use Rattle.text.specs.Added.{Added};
 use super::lines;
 use super::numbers;
+use columns::component;
+use columns::connection;
 
 // Prints that two array sizes differ.
 fn put_sizes(a: u32, b: u32, text: &mut [u8], used: usize) -> usize
@@ -82,10 +84,9 @@ fn put_message(
 
 // The name of connection i.
 fn connection_name<'a>(bytes: &'a [u8], n: &[u32], x: &[u32], i: u32) -> &'a [u8]
-    ensures { λ r. ⌜ now r ≡ nameOf (connectionsIn (now (bytes .entry)) (now (n .entry)) (now (x .entry))) (xName (connectionsIn (now (bytes .entry)) (now (n .entry)) (now (x .entry))) i) ⌝ }
+    ensures { λ r. ⌜ now r ≡ nameOf (connectionsAt bytes n x) (xName (connectionsAt bytes n x) i) ⌝ }
 {
-    let row = (i as usize) * 7;
-    name::name_of(bytes, n, lent::number_at(x, row))
+    name::name_of(bytes, n, connection::name_of(x, i as usize))
 }
 
 // Prints the path names of a diagnostic: of code 5 the connection's and the feature's, else the owner's and the connection's.
@@ -104,9 +105,8 @@ fn put_path_names(
     let conn = lent::number_at(block, 1);
     let name = connection_name(bytes, n, x, conn);
     if lent::number_at(block, 0) < 5 {
-        let row = (conn as usize) * 7;
-        let owner = lent::number_at(x, row + 1) as usize;
-        let above = name::name_of(bytes, n, lent::number_at(c, owner * 6));
+        let owner = connection::owner_of(x, conn as usize);
+        let above = name::name_of(bytes, n, component::name_of(c, owner as usize));
         let first = lines::put_between(b"@ ", above, b"\n", text, used);
         return lines::put_between(b"@ ", name, b"\n", text, first);
     }
@@ -125,7 +125,7 @@ pub fn put_diagnostic(
     text: &mut [u8],
     used: usize,
 ) -> usize
-    requires { ⌜ length (now block) ≡ 4 ⌝ }
+    requires { ⌜ length (now block) ≡ diagNumbers ⌝ }
     ensures { λ z. ⌜ Added (diagText (wiringAt bytes n c x) (diagBack (now (block .entry)))) (now (text .entry)) used (now (text .exit)) z ⌝ }
 {
     let name = connection_name(bytes, n, x, block[1]);

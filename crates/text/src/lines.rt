@@ -3,6 +3,7 @@ ghost use mathlib.Core.Path.{_≡_};
 ghost use mathlib.Core.List.{_++_, [], _∷_};
 ghost use lib.ListN.{length, getD, take, drop};
 ghost use Rattle.as5506.specs.Lists.{bytesOf};
+ghost use Rattle.as5506.specs.Layout.{rowNumbers};
 ghost use Rattle.as5506.specs.Text.{numberLine, rowText};
 ghost use Rattle.text.specs.Added.{Added, rowNamed};
 use super::numbers;
@@ -18,7 +19,7 @@ pub fn put_between(before: &[u8], s: &[u8], behind: &[u8], text: &mut [u8], used
 
 // The path in a row's block, as much of it as there are places for.
 fn path_of(block: &[u32]) -> &[u32]
-    requires { ⌜ length (now block) ≡ 49 ⌝ }
+    requires { ⌜ length (now block) ≡ rowNumbers ⌝ }
     ensures { λ r. ⌜ now r ≡ take (getD (now (block .entry)) 7 0) (drop 8 (now (block .entry))) ⌝ }
 {
     let len = block[7] as usize;
@@ -38,7 +39,7 @@ pub fn put_row(
     text: &mut [u8],
     used: usize,
 ) -> usize
-    requires { ⌜ length (now block) ≡ 49 ⌝ }
+    requires { ⌜ length (now block) ≡ rowNumbers ⌝ }
     ensures { λ z. ⌜ Added (rowText (rowNamed (now (block .entry)) (now (name .entry)) (now (source .entry)) (now (destination .entry)))) (now (text .entry)) used (now (text .exit)) z ⌝ }
 {
     let path = path_of(block);

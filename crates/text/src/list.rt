@@ -3,11 +3,11 @@ ghost use mathlib.Core.Path.{_≡_};
 ghost use Prim.Native.Nat.{_*_, _≤_};
 ghost use lib.ListN.{length, drop};
 ghost use Rattle.as5506.specs.Lists.{each};
-ghost use Rattle.as5506.specs.Layout.{rowBack, rowsBack, groupBack, groupRowsBack, namesBehind, diagsBack};
+ghost use Rattle.as5506.specs.Layout.{rowNumbers, diagNumbers, rowBack, rowsBack, groupBack, groupRowsBack, namesBehind, diagsBack};
 ghost use Rattle.as5506.specs.Text.{rowText, diagText};
 ghost use Rattle.lent.specs.Lent.{namesIn, wiringAt};
 ghost use Rattle.text.specs.Added.{Added};
-ghost use Rattle.text.specs.Printing.{listOf, refusalOf, Printed};
+ghost use Rattle.text.specs.Printing.{Counted, listOf, refusalOf, Printed};
 use super::diagnostics;
 use super::lines;
 use super::numbers;
@@ -17,7 +17,7 @@ use as5506::Refusal;
 
 // Prints a traced row from its block, whose names stand in the tables.
 fn put_traced_row(bytes: &[u8], n: &[u32], block: &[u32], text: &mut [u8], used: usize) -> usize
-    requires { ⌜ length (now block) ≡ 49 ⌝ }
+    requires { ⌜ length (now block) ≡ rowNumbers ⌝ }
     ensures { λ z. ⌜ Added (rowText (rowBack (namesIn (now (bytes .entry)) (now (n .entry))) (now (block .entry)))) (now (text .entry)) used (now (text .exit)) z ⌝ }
 {
     let name = name::name_of(bytes, n, block[4]);
@@ -35,7 +35,7 @@ fn put_traced(
     text: &mut [u8],
     used: usize,
 ) -> usize
-    requires { ⌜ count * 49 ≤ length (now rows) ⌝ }
+    requires { ⌜ count * rowNumbers ≤ length (now rows) ⌝ }
     ensures { λ z. ⌜ Added (each rowText (rowsBack (namesIn (now (bytes .entry)) (now (n .entry))) count (now (rows .entry)))) (now (text .entry)) used (now (text .exit)) z ⌝ }
 {
     let mut z = used;
@@ -65,7 +65,7 @@ fn behind(names: &[u8], at: usize, len: u32) -> usize
 
 // The place behind the three names of a group row, which begin at place `at`.
 fn names_behind(block: &[u32], names: &[u8], at: usize) -> usize
-    requires { ⌜ length (now block) ≡ 49 ⌝ }
+    requires { ⌜ length (now block) ≡ rowNumbers ⌝ }
     ensures { λ r. ⌜ drop r (now (names .entry)) ≡ namesBehind (now (block .entry)) (drop at (now (names .entry))) ⌝ }
 {
     let second = behind(names, at, block[4]);
@@ -75,7 +75,7 @@ fn names_behind(block: &[u32], names: &[u8], at: usize) -> usize
 
 // Prints a group row from its block, whose names begin at place `at` of the composed names.
 fn put_group_row(block: &[u32], names: &[u8], at: usize, text: &mut [u8], used: usize) -> usize
-    requires { ⌜ length (now block) ≡ 49 ⌝ }
+    requires { ⌜ length (now block) ≡ rowNumbers ⌝ }
     ensures { λ z. ⌜ Added (rowText (groupBack (now (block .entry)) (drop at (now (names .entry))))) (now (text .entry)) used (now (text .exit)) z ⌝ }
 {
     let second = behind(names, at, block[4]);
@@ -88,7 +88,7 @@ fn put_group_row(block: &[u32], names: &[u8], at: usize, text: &mut [u8], used: 
 
 // Prints the group rows.
 fn put_group(rows: &[u32], count: usize, names: &[u8], text: &mut [u8], used: usize) -> usize
-    requires { ⌜ count * 49 ≤ length (now rows) ⌝ }
+    requires { ⌜ count * rowNumbers ≤ length (now rows) ⌝ }
     ensures { λ z. ⌜ Added (each rowText (groupRowsBack count (now (rows .entry)) (now (names .entry)))) (now (text .entry)) used (now (text .exit)) z ⌝ }
 {
     let mut z = used;
@@ -116,7 +116,7 @@ fn put_diagnostics(
     text: &mut [u8],
     used: usize,
 ) -> usize
-    requires { ⌜ count * 4 ≤ length (now list) ⌝ }
+    requires { ⌜ count * diagNumbers ≤ length (now list) ⌝ }
     ensures { λ z. ⌜ Added (each (diagText (wiringAt bytes n c x)) (diagsBack count (now (list .entry)))) (now (text .entry)) used (now (text .exit)) z ⌝ }
 {
     let mut z = used;
@@ -148,7 +148,7 @@ pub fn print_list(
     group_diagnostic_count: usize,
     text: &mut [u8],
 ) -> usize
-    requires { ⌜ («traced_count» * 49 ≤ length (now traced)) × («group_count» * 49 ≤ length (now group)) × («diagnostic_count» * 4 ≤ length (now diagnostics)) × («group_diagnostic_count» * 4 ≤ length (now «group_diagnostics»)) ⌝ }
+    requires { ⌜ Counted (now traced) «traced_count» (now group) «group_count» (now diagnostics) «diagnostic_count» (now «group_diagnostics») «group_diagnostic_count» ⌝ }
     ensures { λ z. ⌜ Printed
         (listOf (wiringAt bytes n c x)
         (rowsBack (wiringAt bytes n c x) «traced_count» (now (traced .entry)))

@@ -10,8 +10,10 @@ use lib.Seq.{drop-cons, length-take-le, getD-take, take-suc, take-suc-set}
 use borrow.Author.Tests.{eq-eqb, ne-eqb}
 use Rattle.as5506.specs.Lists.{has, padded}
 use Rattle.as5506.specs.Tracing.{appendNew}
+use Rattle.as5506.specs.Layout.{pathPlaces}
 use Rattle.as5506.proofs.Laws.{padded-length}
 use Rattle.lent.proofs.Padded.{padded-put, padded-front}
+use Rattle.trace.specs.Ends.{chainPlaces}
 
 -- ---- the first len entries of p, one by one
 
@@ -49,38 +51,38 @@ module _ (p : List ℕ) (len i : ℕ) (h : len ≤ i) (g : len ≤ length p) whe
 padded-more : (n : ℕ) (q : List ℕ) (v : ℕ) → length q < n → set (padded n q) (length q) v ≡ padded n (q ++ (v ∷ []))
 padded-more n q v h = padded-put n q (v ∷ []) (omega (arith, length-append q (v ∷ [])))
 
-pub places-turn : (rows s : List ℕ) (i : ℕ) → i < 41 → i < length s → rows ≡ padded 41 (take i s) → set rows i (getD s i 0) ≡ padded 41 (take (i + 1) s)
+pub places-turn : (rows s : List ℕ) (i : ℕ) → i < pathPlaces → i < length s → rows ≡ padded pathPlaces (take i s) → set rows i (getD s i 0) ≡ padded pathPlaces (take (i + 1) s)
 places-turn rows s i h g e =
     let k : length (take i s) ≡ i = length-take-le i s (omega arith) in
     ap (λ (r : List ℕ). set r i (getD s i 0)) e
-    ∙ ap (λ (j : ℕ). set (padded 41 (take i s)) j (getD s i 0)) (sym k)
-    ∙ padded-more 41 (take i s) (getD s i 0) (omega (arith, k))
+    ∙ ap (λ (j : ℕ). set (padded pathPlaces (take i s)) j (getD s i 0)) (sym k)
+    ∙ padded-more pathPlaces (take i s) (getD s i 0) (omega (arith, k))
     ∙ rw (add-one i, take-suc s i 0 g)
 
-pub padded-size : (rows q : List ℕ) → rows ≡ padded 41 q → length q ≤ 41 → length rows ≡ 41
-padded-size rows q e h = ap length e ∙ padded-length 41 q h
+pub padded-size : (rows q : List ℕ) → rows ≡ padded pathPlaces q → length q ≤ pathPlaces → length rows ≡ pathPlaces
+padded-size rows q e h = ap length e ∙ padded-length pathPlaces q h
 
 -- ---- join: `all` is the whole path, `rows` the places so far with `len` entries, and the entries of d from k on are still to come
 
 pub record Joins (all rows : List ℕ) (len : ℕ) (d : List ℕ) (dlen k : ℕ) (slen : ℕ) : Type 0 where
   pub within : k ≤ dlen
   pub room : len ≤ slen + k
-  pub size : length rows ≡ 41
-  pub zeros : rows ≡ padded 41 (take len rows)
+  pub size : length rows ≡ pathPlaces
+  pub zeros : rows ≡ padded pathPlaces (take len rows)
   pub left : all ≡ appendNew (take len rows) (drop k (take dlen d))
 
 -- the source's connections stand in front
-pub places-front : (s rows : List ℕ) (slen : ℕ) → slen ≤ length s → rows ≡ padded 41 (take slen s) → take slen rows ≡ take slen s
-places-front s rows slen h e = ap (take slen) e ∙ ap (λ (n : ℕ). take n (padded 41 (take slen s))) (sym (length-take-le slen s h)) ∙ padded-front 41 (take slen s)
+pub places-front : (s rows : List ℕ) (slen : ℕ) → slen ≤ length s → rows ≡ padded pathPlaces (take slen s) → take slen rows ≡ take slen s
+places-front s rows slen h e = ap (take slen) e ∙ ap (λ (n : ℕ). take n (padded pathPlaces (take slen s))) (sym (length-take-le slen s h)) ∙ padded-front pathPlaces (take slen s)
 
-pub joins-start : (s d rows : List ℕ) (slen dlen : ℕ) → slen ≤ 21 → length s ≡ 21 → rows ≡ padded 41 (take slen s) → Joins (appendNew (take slen rows) (take dlen d)) rows slen d dlen 0 slen
+pub joins-start : (s d rows : List ℕ) (slen dlen : ℕ) → slen ≤ chainPlaces → length s ≡ chainPlaces → rows ≡ padded pathPlaces (take slen s) → Joins (appendNew (take slen rows) (take dlen d)) rows slen d dlen 0 slen
 joins-start s d rows slen dlen h g e =
     let k : length (take slen s) ≡ slen = length-take-le slen s (omega arith) in
     record {
       within = omega arith;
       room = omega arith;
       size = padded-size rows (take slen s) e (omega (arith, k));
-      zeros = e ∙ ap (padded 41) (sym (places-front s rows slen (omega arith) e));
+      zeros = e ∙ ap (padded pathPlaces) (sym (places-front s rows slen (omega arith) e));
       left = refl;
     }
 
@@ -97,7 +99,7 @@ module _ (all rows : List ℕ) (len : ℕ) (d : List ℕ) (dlen k slen : ℕ) (j
           left = j .left ∙ append-next d dlen k h g (take len rows) ∙ rw e refl;
         })
 
-    pub joins-new : len < 41 → has (getD d k 0) (take len rows) ≡ false → rows′ ≡ set rows len (getD d k 0) → len′ ≡ len + 1 → Joins all rows′ len′ d dlen (k + 1) slen
+    pub joins-new : len < pathPlaces → has (getD d k 0) (take len rows) ≡ false → rows′ ≡ set rows len (getD d k 0) → len′ ≡ len + 1 → Joins all rows′ len′ d dlen (k + 1) slen
     joins-new b e f l =
         let v = getD d k 0 in
         let n : length (take len rows) ≡ len = length-take-le len rows (omega (arith, j .size)) in
@@ -108,12 +110,12 @@ module _ (all rows : List ℕ) (len : ℕ) (d : List ℕ) (dlen k slen : ℕ) (j
           room = omega (arith, j .room);
           size = length-set rows len v ∙ j .size;
           zeros =
-              ap (λ (r : List ℕ). set r len v) (j .zeros) ∙ ap (λ (i : ℕ). set (padded 41 (take len rows)) i v) (sym n)
-              ∙ padded-more 41 (take len rows) v (omega (arith, n)) ∙ ap (padded 41) (sym t);
+              ap (λ (r : List ℕ). set r len v) (j .zeros) ∙ ap (λ (i : ℕ). set (padded pathPlaces (take len rows)) i v) (sym n)
+              ∙ padded-more pathPlaces (take len rows) v (omega (arith, n)) ∙ ap (padded pathPlaces) (sym t);
           left = j .left ∙ append-next d dlen k h g (take len rows) ∙ rw e (ap (λ (q : List ℕ). appendNew q (drop (k + 1) (take dlen d))) (sym t));
         })
 
-  pub joins-end : dlen ≤ k → len ≤ 41 → (rows ≡ padded 41 all) × (len ≡ length all)
+  pub joins-end : dlen ≤ k → len ≤ pathPlaces → (rows ≡ padded pathPlaces all) × (len ≡ length all)
   joins-end h b =
       let e : all ≡ take len rows = j .left ∙ append-done d dlen k h g (take len rows) in
-      (j .zeros ∙ ap (padded 41) (sym e), sym (length-take-le len rows (omega (arith, j .size))) ∙ ap length (sym e))
+      (j .zeros ∙ ap (padded pathPlaces) (sym e), sym (length-take-le len rows (omega (arith, j .size))) ∙ ap length (sym e))

@@ -9,15 +9,16 @@ use lib.Seq.{sets, take-suc-set}
 use Rattle.as5506.specs.Lists.{each, padded}
 use Rattle.as5506.specs.Tables.{Tables, source, destination, xName, xKind}
 use Rattle.as5506.specs.Tables.{Side as TheSide}
-use Rattle.as5506.specs.Tracing.{Step as TheStep, Chain, Traced, stop, push, chains, appendNew}
-use Rattle.as5506.specs.Layout.{tracedBlock}
+use Rattle.as5506.specs.Tracing.{Step as TheStep, Chain, Traced, stop, push, chains, appendNew, stepLimit}
+use Rattle.as5506.specs.Layout.{tracedBlock, pathPlaces, rowNumbers}
 use Rattle.lent.proofs.Sets.{sets-append}
-use Rattle.trace.specs.declared.Side.{Side}
-use Rattle.trace.specs.declared.Side.the-variants.{Source, Destination}
+use Rattle.columns.specs.declared.Side.{Side}
+use Rattle.columns.specs.declared.Side.the-variants.{Source, Destination}
 use Rattle.trace.specs.declared.Wrote.{Wrote}
 use Rattle.trace.specs.declared.Wrote.the-variants.{Count, Full}
-use Rattle.trace.specs.Steps.{sideOf, stepsFrom, step}
-use Rattle.trace.specs.Ends.{theEnd, behind, rowAlong, rowsAtEnd, rowsBehind, Fit}
+use Rattle.columns.specs.Side.{sideOf}
+use Rattle.trace.specs.Steps.{stepsFrom, step}
+use Rattle.trace.specs.Ends.{chainPlaces, theEnd, behind, rowAlong, rowsAtEnd, rowsBehind, Fit}
 use Rattle.trace.specs.Writing.{Written}
 use Rattle.as5506.proofs.Laws.{each-append, padded-length, each-one}
 use Rattle.lent.specs.Lent.{connectionsIn, wiringIn}
@@ -31,28 +32,28 @@ abbrev pub head : ℕ → ℕ → ℕ → ℕ → ℕ → ℕ → ℕ → ℕ �
 head conn kind src dst name a b len = conn ∷ kind ∷ src ∷ dst ∷ name ∷ a ∷ b ∷ len ∷ []
 
 module _ (m : Tables) (x : ℕ) (s d : Chain) (kind name len : ℕ) (places : List ℕ)
-    (k : kind ≡ xKind m x) (n : name ≡ xName m x) (l : len ≡ length (appendNew (s .path) (d .path))) (p : places ≡ padded 41 (appendNew (s .path) (d .path))) where
+    (k : kind ≡ xKind m x) (n : name ≡ xName m x) (l : len ≡ length (appendNew (s .path) (d .path))) (p : places ≡ padded pathPlaces (appendNew (s .path) (d .path))) where
   block-is : head x kind (s .comp) (d .comp) name (s .feat) (d .feat) len ++ places ≡ tracedBlock m (rowAlong m x s d)
   unfolding tracedBlock rowAlong
   block-is = rw (k, n, l, p)
 
-  pub row-written : (out : List ℕ) (count : ℕ) (out₁ out₂ : List ℕ) → len ≤ 41 → count < length out / 49
-      → out₁ ≡ sets out (count * 49) (head x kind (s .comp) (d .comp) name (s .feat) (d .feat) len) → out₂ ≡ sets out₁ (count * 49 + 8) places
-      → Written 49 (tracedBlock m) (rowAlong m x s d ∷ []) out count (Count (count + 1)) out₂
+  pub row-written : (out : List ℕ) (count : ℕ) (out₁ out₂ : List ℕ) → len ≤ pathPlaces → count < length out / rowNumbers
+      → out₁ ≡ sets out (count * rowNumbers) (head x kind (s .comp) (d .comp) name (s .feat) (d .feat) len) → out₂ ≡ sets out₁ (count * rowNumbers + 8) places
+      → Written rowNumbers (tracedBlock m) (rowAlong m x s d ∷ []) out count (Count (count + 1)) out₂
   unfolding Written
   row-written out count out₁ out₂ h g e f =
       let b : each (tracedBlock m) (rowAlong m x s d ∷ []) ≡ head x kind (s .comp) (d .comp) name (s .feat) (d .feat) len ++ places = append-nil (tracedBlock m (rowAlong m x s d)) ∙ sym block-is in
-      let z : length places ≡ 41 = ap length p ∙ padded-length 41 (appendNew (s .path) (d .path)) (omega (arith, l)) in (
+      let z : length places ≡ pathPlaces = ap length p ∙ padded-length pathPlaces (appendNew (s .path) (d .path)) (omega (arith, l)) in (
         refl,
         omega arith,
         ap length b ∙ omega (arith, z),
-        f ∙ ap (λ (o : List ℕ). sets o (count * 49 + 8) places) e
-            ∙ sym (sets-append (head x kind (s .comp) (d .comp) name (s .feat) (d .feat) len) places out (count * 49)) ∙ ap (sets out (count * 49)) (sym b),
+        f ∙ ap (λ (o : List ℕ). sets o (count * rowNumbers + 8) places) e
+            ∙ sym (sets-append (head x kind (s .comp) (d .comp) name (s .feat) (d .feat) len) places out (count * rowNumbers)) ∙ ap (sets out (count * rowNumbers)) (sym b),
       )
 
 pub row-same : (bytes n c x : List ℕ) (v : ℕ) (s d : Chain) (out : List ℕ) (count : ℕ) (q : Wrote) (out′ : List ℕ)
-    → Written 49 (tracedBlock (connectionsIn [] [] x)) (rowAlong (connectionsIn [] [] x) v s d ∷ []) out count q out′
-    → Written 49 (tracedBlock (wiringIn bytes n c x)) (rowAlong (wiringIn bytes n c x) v s d ∷ []) out count q out′
+    → Written rowNumbers (tracedBlock (connectionsIn [] [] x)) (rowAlong (connectionsIn [] [] x) v s d ∷ []) out count q out′
+    → Written rowNumbers (tracedBlock (wiringIn bytes n c x)) (rowAlong (wiringIn bytes n c x) v s d ∷ []) out count q out′
 unfolding tracedBlock rowAlong
 row-same bytes n c x v s d out count q out′ w = w
 
@@ -87,13 +88,13 @@ rows-over m x k o p c f =
 
 module _ (m : Tables) (x k : ℕ) (o : Chain) (p : List ℕ) (c f left : ℕ) (out : List ℕ) (count : ℕ) (q : Wrote) (out′ : List ℕ) where
   pub ends-destination : (side : Side) → side ≡ Destination → chains m (sideOf side) left c f ≡ stop c f ∷ []
-      → Written 49 (tracedBlock m) (rowAlong m x o (theEnd c f p) ∷ []) out count q out′
-      → Written 49 (tracedBlock m) (rowsBehind m (sideOf side) x k o p (chains m (sideOf side) left c f)) out count q out′
+      → Written rowNumbers (tracedBlock m) (rowAlong m x o (theEnd c f p) ∷ []) out count q out′
+      → Written rowNumbers (tracedBlock m) (rowsBehind m (sideOf side) x k o p (chains m (sideOf side) left c f)) out count q out′
   ends-destination side e h w = rw (h, e, rows-last m x k o p c f) w
 
   pub ends-source : (side : Side) → side ≡ Source → chains m (sideOf side) left c f ≡ stop c f ∷ []
-      → Written 49 (tracedBlock m) (rowsBehind m destination x k (theEnd c f p) (o .path) (chains m destination k (o .comp) (o .feat))) out count q out′
-      → Written 49 (tracedBlock m) (rowsBehind m (sideOf side) x k o p (chains m (sideOf side) left c f)) out count q out′
+      → Written rowNumbers (tracedBlock m) (rowsBehind m destination x k (theEnd c f p) (o .path) (chains m destination k (o .comp) (o .feat))) out count q out′
+      → Written rowNumbers (tracedBlock m) (rowsBehind m (sideOf side) x k o p (chains m (sideOf side) left c f)) out count q out′
   ends-source side e h w = rw (h, e, rows-over m x k o p c f) w
 
 -- ---- the tracer's loop: `todo` are the steps that are left
@@ -103,21 +104,21 @@ leftRows m s x k o p left todo = rowsBehind m s x k o p (each (via m s (left - 1
 
 module _ (m : Tables) (s : TheSide) (x k : ℕ) (o : Chain) (c f left : ℕ) where
   module _ (p out₀ : List ℕ) (count : ℕ) where
-    pub trace-start : (i j g : ℕ) → count ≤ length out₀ / 49
+    pub trace-start : (i j g : ℕ) → count ≤ length out₀ / rowNumbers
         → (left ≡ 0 → ⊥) × (stepsFrom m s c f 0 0 ≡ step i j g ∷ stepsFrom m s c f i (j + 1))
-        → Remains 49 (tracedBlock m) (rowsBehind m s x k o p (chains m s left c f)) out₀ count out₀ count (leftRows m s x k o p left (stepsFrom m s c f 0 0))
-    trace-start i j g h b = rw (chains-on m s left c f (b .0) _ _ (b .1)) (remains-start 49 (tracedBlock m) _ out₀ count h)
+        → Remains rowNumbers (tracedBlock m) (rowsBehind m s x k o p (chains m s left c f)) out₀ count out₀ count (leftRows m s x k o p left (stepsFrom m s c f 0 0))
+    trace-start i j g h b = rw (chains-on m s left c f (b .0) _ _ (b .1)) (remains-start rowNumbers (tracedBlock m) _ out₀ count h)
 
-    pub trace-end : (out : List ℕ) (done : ℕ) (todo : List TheStep) → Remains 49 (tracedBlock m) (rowsBehind m s x k o p (chains m s left c f)) out₀ count out done (leftRows m s x k o p left todo)
-        → todo ≡ [] → Written 49 (tracedBlock m) (rowsBehind m s x k o p (chains m s left c f)) out₀ count (Count done) out
+    pub trace-end : (out : List ℕ) (done : ℕ) (todo : List TheStep) → Remains rowNumbers (tracedBlock m) (rowsBehind m s x k o p (chains m s left c f)) out₀ count out done (leftRows m s x k o p left todo)
+        → todo ≡ [] → Written rowNumbers (tracedBlock m) (rowsBehind m s x k o p (chains m s left c f)) out₀ count (Count done) out
     unfolding rowsBehind
-    trace-end out done todo r e = remains-end 49 (tracedBlock m) _ out₀ count out done _ r (ap (leftRows m s x k o p left) e)
+    trace-end out done todo r e = remains-end rowNumbers (tracedBlock m) _ out₀ count out done _ r (ap (leftRows m s x k o p left) e)
 
   module _ (path : List ℕ) (len : ℕ) (out₀ : List ℕ) (count : ℕ) (out : List ℕ) (done : ℕ) (todo l : List TheStep) (st : TheStep)
-      (r : Remains 49 (tracedBlock m) (rowsBehind m s x k o (take len path) (chains m s left c f)) out₀ count out done (leftRows m s x k o (take len path) left todo))
+      (r : Remains rowNumbers (tracedBlock m) (rowsBehind m s x k o (take len path) (chains m s left c f)) out₀ count out done (leftRows m s x k o (take len path) left todo))
       (e : todo ≡ st ∷ l) (h : len < length path)
       (q : Wrote) (out′ : List ℕ)
-      (w : Written 49 (tracedBlock m) (rowsBehind m s x k o (take (len + 1) (set path len (st .conn))) (chains m s (left - 1) (st .child) (st .feat))) out done q out′) where
+      (w : Written rowNumbers (tracedBlock m) (rowsBehind m s x k o (take (len + 1) (set path len (st .conn))) (chains m s (left - 1) (st .child) (st .feat))) out done q out′) where
     split : leftRows m s x k o (take len path) left todo
         ≡ rowsBehind m s x k o (take (len + 1) (set path len (st .conn))) (chains m s (left - 1) (st .child) (st .feat)) ++ leftRows m s x k o (take len path) left l
     unfolding via
@@ -128,11 +129,11 @@ module _ (m : Tables) (s : TheSide) (x k : ℕ) (o : Chain) (c f left : ℕ) whe
         (rows-along m s x k o (take len path) (st .conn) (chains m s (left - 1) (st .child) (st .feat))
         ∙ ap (λ (p : List ℕ). rowsBehind m s x k o p (chains m s (left - 1) (st .child) (st .feat))) (sym (ap (λ (n : ℕ). take n (set path len (st .conn))) (add-one len) ∙ take-suc-set path len (st .conn) h)))
 
-    pub trace-turn : (n : ℕ) → q ≡ Count n → Remains 49 (tracedBlock m) (rowsBehind m s x k o (take len path) (chains m s left c f)) out₀ count out′ n (leftRows m s x k o (take len path) left l)
-    trace-turn = remains-turn 49 (tracedBlock m) _ out₀ count out done _ r _ _ split q out′ w
+    pub trace-turn : (n : ℕ) → q ≡ Count n → Remains rowNumbers (tracedBlock m) (rowsBehind m s x k o (take len path) (chains m s left c f)) out₀ count out′ n (leftRows m s x k o (take len path) left l)
+    trace-turn = remains-turn rowNumbers (tracedBlock m) _ out₀ count out done _ r _ _ split q out′ w
 
-    pub trace-full : q ≡ Full → (o′ : List ℕ) → Written 49 (tracedBlock m) (rowsBehind m s x k o (take len path) (chains m s left c f)) out₀ count Full o′
-    trace-full = remains-full 49 (tracedBlock m) _ out₀ count out done _ r _ _ split q out′ w
+    pub trace-full : q ≡ Full → (o′ : List ℕ) → Written rowNumbers (tracedBlock m) (rowsBehind m s x k o (take len path) (chains m s left c f)) out₀ count Full o′
+    trace-full = remains-full rowNumbers (tracedBlock m) _ out₀ count out done _ r _ _ split q out′ w
 
 -- ---- the tracer ends: the source's steps, then the destination's
 
@@ -147,16 +148,16 @@ unfolding Fit
 fit-less Source len left len′ left′ o k f h = (omega (arith, f .0, h), f .1)
 fit-less Destination len left len′ left′ o k f h = (omega (arith, f .0, h), f .1)
 
-pub fit-room : (side : Side) (len left o k : ℕ) → Fit side len left o k → (left ≡ 0 → ⊥) → len < 21
+pub fit-room : (side : Side) (len left o k : ℕ) → Fit side len left o k → (left ≡ 0 → ⊥) → len < chainPlaces
 unfolding Fit
 fit-room Source len left o k f h = omega (arith, f .0, h)
 fit-room Destination len left o k f h = omega (arith, f .0, h)
 
 -- from a source chain's end to the destination's start
-pub fit-over : (side : Side) (len left o k : ℕ) → side ≡ Source → Fit side len left o k → Fit Destination o k len k × (k ≤ 20)
+pub fit-over : (side : Side) (len left o k : ℕ) → side ≡ Source → Fit side len left o k → Fit Destination o k len k × (k ≤ stepLimit)
 unfolding Fit
 fit-over side len left o k e f = let g : Fit Source len left o k = subst (λ (t : Side). Fit t len left o k) e f in ((g .1, omega (arith, g .0)), omega (arith, g .1))
 
-pub fit-row : (side : Side) (len left o k : ℕ) → side ≡ Destination → Fit side len left o k → (o ≤ 21) × (len ≤ 20)
+pub fit-row : (side : Side) (len left o k : ℕ) → side ≡ Destination → Fit side len left o k → (o ≤ chainPlaces) × (len ≤ stepLimit)
 unfolding Fit
 fit-row side len left o k e f = let g : Fit Destination len left o k = subst (λ (t : Side). Fit t len left o k) e f in (g .1, omega (arith, g .0))

@@ -5,23 +5,15 @@ use mathlib.Core.List.{List, [], _∷_, _++_, map}
 use Prim.Native.Nat.{ℕ, _+_, _-_, _<_}
 use lib.Dec.{eqb, ltb}
 use Rattle.as5506.specs.Lists.{span, each}
-use Rattle.as5506.specs.Tables.{Tables, nameOf, cCount, xCount, xOwner, xSub, source, destination}
-use Rattle.as5506.specs.Tables.{Side as TheSide}
+use Rattle.as5506.specs.Tables.{Tables, nameOf, cCount, xCount, xOwner, xSub, Side}
 use Rattle.as5506.specs.Tracing.{Step as TheStep, stepTo, leads, chains, stop}
 use Rattle.lent.specs.Lent.{componentsIn, connectionsIn}
 use Rattle.children.specs.Found.{foundFrom}
-use Rattle.trace.specs.declared.Side.{Side}
-use Rattle.trace.specs.declared.Side.the-variants.{Source, Destination}
 use Rattle.trace.specs.declared.Step.{Step}
 use Rattle.trace.specs.declared.Step.the-variants.{At, Done}
 
--- the side that a value of the code stands for
-abbrev pub sideOf : Side → TheSide
-sideOf Source = source
-sideOf Destination = destination
-
 -- connection i is one of component p and leads from its feature f towards side s
-unfoldable pub isStep : Tables → TheSide → ℕ → ℕ → ℕ → Bool
+unfoldable pub isStep : Tables → Side → ℕ → ℕ → ℕ → Bool
 isStep m s p f i = eqb (xOwner m i) p && leads m s (nameOf m f) i
 
 -- the list, where the test holds
@@ -30,15 +22,15 @@ listIf true l = l
 listIf false l = []
 
 -- the children to which connection i leads from (p, f), from row j on
-unfoldable pub leadsTo : Tables → TheSide → ℕ → ℕ → ℕ → ℕ → List ℕ
+unfoldable pub leadsTo : Tables → Side → ℕ → ℕ → ℕ → ℕ → List ℕ
 leadsTo m s p f i j = listIf (isStep m s p f i) (foundFrom m p (nameOf m (xSub m s i)) j)
 
 -- the steps over connection i from (p, f), to children from row j on
-unfoldable pub stepsAt : Tables → TheSide → ℕ → ℕ → ℕ → ℕ → List TheStep
+unfoldable pub stepsAt : Tables → Side → ℕ → ℕ → ℕ → ℕ → List TheStep
 stepsAt m s p f i j = map (stepTo m s i) (leadsTo m s p f i j)
 
 -- the steps from (p, f) from connection i on, over that connection only to children from row j on: all of them from 0 and 0 on (proofs: steps-from-start)
-unfoldable pub stepsFrom : Tables → TheSide → ℕ → ℕ → ℕ → ℕ → List TheStep
+unfoldable pub stepsFrom : Tables → Side → ℕ → ℕ → ℕ → ℕ → List TheStep
 stepsFrom m s p f i j =
     cond (ltb i (xCount m)) (stepsAt m s p f i j ++ each (λ k. stepsAt m s p f k 0) (span (i + 1) (xCount m - (i + 1)))) []
 
@@ -47,7 +39,7 @@ abbrev pub step : ℕ → ℕ → ℕ → TheStep
 step x i f = record { conn = x; child = i; feat = f }
 
 -- the steps that an answer stands for: none, or its own and those behind it
-abbrev pub afterStep : Tables → TheSide → ℕ → ℕ → Step → List TheStep
+abbrev pub afterStep : Tables → Side → ℕ → ℕ → Step → List TheStep
 afterStep m s p f Done = []
 afterStep m s p f (At i j g) = step i j g ∷ stepsFrom m s p f i (j + 1)
 
@@ -57,6 +49,6 @@ Within c x Done = Unit {0}
 Within c x (At i j g) = (i < xCount (connectionsIn [] [] x)) × (j < cCount (componentsIn [] [] c))
 
 -- how the chains of at most k steps from (p, f) begin: there is no step to make, or a first one
-unfoldable pub Begins : Tables → TheSide → ℕ → ℕ → ℕ → Step → Type 0
+unfoldable pub Begins : Tables → Side → ℕ → ℕ → ℕ → Step → Type 0
 Begins m s k p f Done = chains m s k p f ≡ stop p f ∷ []
 Begins m s k p f (At i j g) = (k ≡ 0 → ⊥) × (stepsFrom m s p f 0 0 ≡ step i j g ∷ stepsFrom m s p f i (j + 1))

@@ -1,27 +1,27 @@
-// Tracing connections through the components (instance.rs, `trace_sources` and `trace_destinations`): one tracer for both sides. A row of X has its
-// name, owner and kind, then the subcomponent and the feature of its source, then those of its destination.
+// Tracing connections through the components (instance.rs, `trace_sources` and `trace_destinations`): one tracer for both sides.
 ghost use mathlib.Core.Path.{_≡_};
 ghost use mathlib.Core.List.{[], _∷_};
-ghost use Prim.Native.Nat.{_+_, _*_, _/_, _<_, _≤_};
+ghost use Prim.Native.Nat.{_≤_};
 ghost use lib.ListN.{length, take};
 ghost use Rattle.as5506.specs.Lists.{has, padded, sameBytes};
-ghost use Rattle.as5506.specs.Tables.{nameIn, other, xSub, xFeat};
-ghost use Rattle.as5506.specs.Tracing.{appendNew, chains};
-ghost use Rattle.as5506.specs.Layout.{tracedBlock};
-ghost use Rattle.lent.specs.Lent.{connectionsIn, wiringAt};
+ghost use Rattle.as5506.specs.Tables.{nameIn, other};
+ghost use Rattle.as5506.specs.Tracing.{appendNew, chains, stepLimit};
+ghost use Rattle.as5506.specs.Layout.{tracedBlock, pathPlaces, rowNumbers};
+ghost use Rattle.lent.specs.Lent.{connectionsIn, connectionsAt, wiringAt};
+ghost use Rattle.columns.specs.Side.{sideOf};
 ghost use Rattle.children.specs.Found.{afterChild, Inside};
-ghost use Rattle.trace.specs.Steps.{sideOf, isStep, leadsTo, stepsFrom, afterStep, Within, Begins};
-ghost use Rattle.trace.specs.Ends.{endOf, rowAlong, rowsBehind, Fit};
+ghost use Rattle.trace.specs.Steps.{isStep, leadsTo, stepsFrom, afterStep, Within, Begins};
+ghost use Rattle.trace.specs.Ends.{chainPlaces, endOf, rowAlong, rowsBehind, Held, Fits};
 ghost use Rattle.trace.specs.Writing.{Written};
+ghost use Rattle.trace.specs.Ready.{Ready};
+use as5506::CHAIN_PLACES;
 use as5506::MISSING;
+use as5506::PATH_PLACES;
 use as5506::ROW_NUMBERS;
+use as5506::X_NUMBERS;
 use children::Child;
-
-// The side of a connection towards which a chain of steps runs.
-pub enum Side {
-    Source,
-    Destination,
-}
+use columns::Side;
+use columns::connection;
 
 // The next step of a chain: the X row that it goes over, and the C row and the feature's name that it leads to; or there is none.
 pub enum Step {
@@ -39,13 +39,13 @@ pub enum Wrote {
 pub struct End {
     pub component: u32,
     pub feature: u32,
-    pub path: [u32; 21],
+    pub path: [u32; CHAIN_PLACES],
     pub len: usize,
 }
 
 // A row's path: the first `len` of `rows`.
 pub struct Trail {
-    pub rows: [u32; 41],
+    pub rows: [u32; PATH_PLACES],
     pub len: usize,
 }
 
@@ -56,28 +56,6 @@ fn opposite(side: Side) -> Side
     match side {
         Side::Source => Side::Destination,
         Side::Destination => Side::Source,
-    }
-}
-
-// The subcomponent that X row i names on a side.
-pub fn subcomponent_of(x: &[u32], side: Side, i: usize) -> u32
-    requires { ⌜ i < length (now x) / 7 ⌝ }
-    ensures { λ r. ⌜ r ≡ xSub (connectionsIn [] [] (now (x .entry))) (sideOf side) i ⌝ }
-{
-    match side {
-        Side::Source => lent::number_at(x, i * 7 + 3),
-        Side::Destination => lent::number_at(x, i * 7 + 5),
-    }
-}
-
-// The feature that X row i names on a side.
-pub fn feature_of(x: &[u32], side: Side, i: usize) -> u32
-    requires { ⌜ i < length (now x) / 7 ⌝ }
-    ensures { λ r. ⌜ r ≡ xFeat (connectionsIn [] [] (now (x .entry))) (sideOf side) i ⌝ }
-{
-    match side {
-        Side::Source => lent::number_at(x, i * 7 + 4),
-        Side::Destination => lent::number_at(x, i * 7 + 6),
     }
 }
 
@@ -98,20 +76,19 @@ fn is_step(
     feature: u32,
     i: usize,
 ) -> bool
-    requires { ⌜ i < length (now x) / 7 ⌝ }
-    ensures { λ r. ⌜ r ≡ isStep (connectionsIn (now (bytes .entry)) (now (n .entry)) (now (x .entry))) (sideOf side) component feature i ⌝ }
+    ensures { λ r. ⌜ r ≡ isStep (connectionsAt bytes n x) (sideOf side) component feature i ⌝ }
 {
-    if lent::number_at(x, i * 7 + 1) != component {
+    if connection::owner_of(x, i) != component {
         return false;
     }
-    if subcomponent_of(x, side, i) == MISSING {
+    if connection::subcomponent_of(x, side, i) == MISSING {
         return false;
     }
     let near = opposite(side);
-    if subcomponent_of(x, near, i) != MISSING {
+    if connection::subcomponent_of(x, near, i) != MISSING {
         return false;
     }
-    let own = feature_of(x, near, i);
+    let own = connection::feature_of(x, near, i);
     if own == MISSING {
         return false;
     }
@@ -130,7 +107,6 @@ fn next_child(
     i: usize,
     from: usize,
 ) -> Child
-    requires { ⌜ i < length (now x) / 7 ⌝ }
     ensures { λ r. ⌜ leadsTo (wiringAt bytes n c x) (sideOf side) component feature i from
         ≡ afterChild (leadsTo (wiringAt bytes n c x) (sideOf side) component feature i) r ⌝ }
     ensures { λ r. ⌜ Inside (now (c .entry)) r ⌝ }
@@ -141,7 +117,7 @@ fn next_child(
             n,
             c,
             component,
-            subcomponent_of(x, side, i),
+            connection::subcomponent_of(x, side, i),
             from,
         );
     }
@@ -164,12 +140,12 @@ pub fn next_step(
         ≡ afterStep (wiringAt bytes n c x) (sideOf side) component feature r ⌝ }
     ensures { λ r. ⌜ Within (now (c .entry)) (now (x .entry)) r ⌝ }
 {
-    let count = x.len() / 7;
+    let count = x.len() / X_NUMBERS;
     let mut i = row;
     let mut from = child;
     while i < count {
         if let Child::At(j) = next_child(bytes, n, c, x, side, component, feature, i, from) {
-            return Step::At(i, j, feature_of(x, side, i));
+            return Step::At(i, j, connection::feature_of(x, side, i));
         }
         i += 1;
         from = 0;
@@ -197,8 +173,8 @@ fn first_step(
 }
 
 // Whether connection v is among the first `len` of a path.
-fn contains(p: [u32; 41], len: usize, v: u32) -> bool
-    requires { ⌜ len ≤ 41 ⌝ }
+fn contains(p: [u32; PATH_PLACES], len: usize, v: u32) -> bool
+    requires { ⌜ len ≤ pathPlaces ⌝ }
     ensures { λ r. ⌜ r ≡ has v (take len p) ⌝ }
 {
     let mut i = 0;
@@ -211,12 +187,12 @@ fn contains(p: [u32; 41], len: usize, v: u32) -> bool
     false
 }
 
-// The 41 places of a row's path: the first `len` connections of a source path, and zeros behind.
-fn places(s: [u32; 21], len: usize) -> [u32; 41]
-    requires { ⌜ len ≤ 21 ⌝ }
-    ensures { λ r. ⌜ r ≡ padded 41 (take len s) ⌝ }
+// The places of a row's path: the first `len` connections of a source path, and zeros behind.
+fn places(s: [u32; CHAIN_PLACES], len: usize) -> [u32; PATH_PLACES]
+    requires { ⌜ len ≤ chainPlaces ⌝ }
+    ensures { λ r. ⌜ r ≡ padded pathPlaces (take len s) ⌝ }
 {
-    let mut rows = [0u32; 41];
+    let mut rows = [0u32; PATH_PLACES];
     let mut i = 0;
     while i < len {
         rows[i] = s[i];
@@ -226,11 +202,11 @@ fn places(s: [u32; 21], len: usize) -> [u32; 41]
 }
 
 // A row's path: the source's connections, then those of the destination that are not yet in it.
-fn join(s: [u32; 21], slen: usize, d: [u32; 21], dlen: usize) -> Trail
-    requires { ⌜ (slen ≤ 21) × (dlen ≤ 20) ⌝ }
-    ensures { λ r. ⌜ r .rows ≡ padded 41 (appendNew (take slen s) (take dlen d)) ⌝ }
+fn join(s: [u32; CHAIN_PLACES], slen: usize, d: [u32; CHAIN_PLACES], dlen: usize) -> Trail
+    requires { ⌜ (slen ≤ chainPlaces) × (dlen ≤ stepLimit) ⌝ }
+    ensures { λ r. ⌜ r .rows ≡ padded pathPlaces (appendNew (take slen s) (take dlen d)) ⌝ }
     ensures { λ r. ⌜ r .len ≡ length (appendNew (take slen s) (take dlen d)) ⌝ }
-    ensures { λ r. ⌜ r .len ≤ 41 ⌝ }
+    ensures { λ r. ⌜ r .len ≤ pathPlaces ⌝ }
 {
     let mut rows = places(s, slen);
     let mut len = slen;
@@ -251,8 +227,8 @@ fn join(s: [u32; 21], slen: usize, d: [u32; 21], dlen: usize) -> Trail
 
 // Writes the row of a connection from a source end to a destination end, behind the first `count` rows of the output.
 fn put_row(out: &mut [u32], x: &[u32], conn: u32, s: End, d: End, count: usize) -> Wrote
-    requires { ⌜ (s .len ≤ 21) × (d .len ≤ 20) × (length (s .path) ≡ 21) × (length (d .path) ≡ 21) ⌝ }
-    ensures { λ r. ⌜ Written 49 (tracedBlock (connectionsIn [] [] (now (x .entry)))) (rowAlong (connectionsIn [] [] (now (x .entry))) conn (endOf s) (endOf d) ∷ []) (now (out .entry)) count r (now (out .exit)) ⌝ }
+    requires { ⌜ Held s chainPlaces × Held d stepLimit ⌝ }
+    ensures { λ r. ⌜ Written rowNumbers (tracedBlock (connectionsIn [] [] (now (x .entry)))) (rowAlong (connectionsIn [] [] (now (x .entry))) conn (endOf s) (endOf d) ∷ []) (now (out .entry)) count r (now (out .exit)) ⌝ }
 {
     if out.len() / ROW_NUMBERS <= count {
         return Wrote::Full;
@@ -261,9 +237,9 @@ fn put_row(out: &mut [u32], x: &[u32], conn: u32, s: End, d: End, count: usize) 
     let q = d.path;
     let trail = join(p, s.len, q, d.len);
     let rows = trail.rows;
-    let row = (conn as usize) * 7;
-    let kind = lent::number_at(x, row + 2);
-    let name = lent::number_at(x, row);
+    let row = conn as usize;
+    let kind = connection::kind_of(x, row);
+    let name = connection::name_of(x, row);
     let head = [
         conn,
         kind,
@@ -297,9 +273,9 @@ pub fn trace(
     limit: usize,
     count: usize,
 ) -> Wrote
-    requires { ⌜ (length (now c) / 6 ≤ 4096) × (length (now x) / 7 ≤ 4096) × (count ≤ length (now out) / 49) ⌝ }
-    requires { ⌜ (length (here .path) ≡ 21) × (length (other .path) ≡ 21) × Fit side (here .len) left (other .len) limit ⌝ }
-    ensures { λ r. ⌜ Written 49 (tracedBlock (wiringAt bytes n c x))
+    requires { ⌜ Ready rowNumbers (now c) (now x) (now out) count ⌝ }
+    requires { ⌜ Fits side here left other limit ⌝ }
+    ensures { λ r. ⌜ Written rowNumbers (tracedBlock (wiringAt bytes n c x))
         (rowsBehind (wiringAt bytes n c x) (sideOf side) conn limit (endOf other) (take (here .len) (here .path))
         (chains (wiringAt bytes n c x) (sideOf side) left (here .component) (here .feature)))
         (now (out .entry)) count r (now (out .exit)) ⌝ }

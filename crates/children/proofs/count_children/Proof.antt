@@ -27,7 +27,7 @@ loop-holds : tie.Need-loop-holds Inv-loop μ-loop
 loop-holds c = (omega arith, omega arith, zero-add _)
 
 is-found-requires : tie.Need-is-found-requires Inv-loop μ-loop
-is-found-requires c κs = omega arith
+is-found-requires c κs = tt
 
 add-found : tie.Need-add-found Inv-loop μ-loop
 add-found c = omega arith

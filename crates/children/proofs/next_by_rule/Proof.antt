@@ -20,7 +20,7 @@ loop-holds : tie.Need-loop-holds Inv-loop μ-loop
 loop-holds c = refl
 
 is-found-requires : tie.Need-is-found-requires Inv-loop μ-loop
-is-found-requires c κs = omega arith
+is-found-requires c κs = tt
 
 returns : tie.Need-returns Inv-loop μ-loop
 returns c =

@@ -3,8 +3,9 @@ use mathlib.Core.Path.{_≡_, sym, ap, _∙_}
 use Prim.Native.Nat.{_-_, _/_}
 use native.Mathlib.Omega.{arith}
 use lib.ListN.{length}
+use borrow.Author.Needs.{needs}
 use Rattle.as5506.specs.Lists.{span, keep, firstOf}
-use Rattle.as5506.specs.Tables.{Tables}
+use Rattle.as5506.specs.Tables.{Tables, width, letterE}
 use Rattle.as5506.specs.Names.{key}
 use Rattle.as5506.specs.GroupList.{declaredGroup}
 use Rattle.as5506.proofs.Scans.{keep-hit, keep-miss, keep-done}
@@ -25,7 +26,7 @@ loop-holds : tie.Need-loop-holds Inv-loop μ-loop
 loop-holds c = declared-scan _ _ _
 
 is-declared-group-requires : tie.Need-is-declared-group-requires Inv-loop μ-loop
-is-declared-group-requires c κs = omega arith
+is-declared-group-requires c κs = search needs
 
 returns : tie.Need-returns Inv-loop μ-loop
 returns c = sym (c .before .before .before .loop .inv ∙ ap firstOf (keep-hit _ _ _ (c .before .before .loop-test .taken) (sym (c .before .is-declared-group .ensures) ∙ c .if1 .taken)))
@@ -40,7 +41,7 @@ loop-again : tie.Need-loop-again Inv-loop μ-loop
 loop-again c = c .before .before .before .loop .inv ∙ ap firstOf (keep-miss _ _ _ (c .before .before .loop-test .taken) (sym (c .before .is-declared-group .ensures) ∙ c .if1 .left))
 
 returns-2 : tie.Need-returns-2 Inv-loop μ-loop
-returns-2 c = sym (c .before .loop .inv ∙ ap firstOf (keep-done _ (c .before .loop .i) (length (c .before .before .before .before .before .args .e .now) / 8) (omega arith)))
+returns-2 c = sym (c .before .loop .inv ∙ ap firstOf (keep-done _ (c .before .loop .i) (length (c .before .before .before .before .before .args .e .now) / width letterE) (omega arith)))
 
 pub declared-group-spec : {M : Type 1} → statement M
 declared-group-spec =

@@ -55,7 +55,10 @@ link-groups-requires c κs =
     let m = tablesOf (a .bytes .now) (a .n .now) (a .c .now) (a .f .now) (a .x .now) (a .p .now) (a .i .now) (a .t .now) (a .q .now) (a .u .now) (a .e .now) (a .r .now) in
     let ok = accepted-is m _ (c .before .before .before .before .before .check-tables .ensures) (c .before .before .before .enum-told .given .1) in
     let few = facts m ok .few in
-    (few letterU, few letterE, few letterU, few letterU)
+    record {
+      fits-types = record { few-types = few letterU; fits-extends = few letterU; fits-inverse = few letterU };
+      fits-features = record { few-types = few letterU; fits-nested = few letterE };
+    }
 
 link-requires : tie.Need-link-requires
 link-requires c κs =
@@ -84,7 +87,7 @@ returns-2 c =
     let a = Start·returns-2 c .args in
     let m = tablesOf (a .bytes .now) (a .n .now) (a .c .now) (a .f .now) (a .x .now) (a .p .now) (a .i .now) (a .t .now) (a .q .now) (a .u .now) (a .e .now) (a .r .now) in
     let ok = accepted-is m _ (check-tables·returns-2 c .check-tables .ensures) (c .before .before .before .before .before .before .before .before .before .before .before .before .before .before .before .enum-told .given .1) in
-    expands m (a .from) (a .type-name) (a .inverse) (a .out .now) ok _ _ _ (c .before .before .before .before .before .before .before .before .before .before .before .link-groups .ensures (a .c .now) (a .f .now) (a .x .now)) _ (c .before .before .before .before .before .before .before .link .ensures (a .c .now) (a .f .now) (a .x .now) (a .e .now)) _ _ (c .before .before .write-features .ensures)
+    expands m (a .from) (a .type-name) (a .inverse) (a .out .now) ok _ _ _ (c .before .before .before .before .before .before .before .before .before .before .before .link-groups .ensures m) _ (c .before .before .before .before .before .before .before .link .ensures m) _ _ (c .before .before .write-features .ensures)
 
 pub expand-spec : {M : Type 1} → statement M
 expand-spec =

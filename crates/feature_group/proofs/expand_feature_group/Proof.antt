@@ -23,9 +23,21 @@ clear-numbers-requires-2 c κs = search needs
 same-length : tie.Need-same-length
 same-length c = search needs
 
+-- places: the way back from where an answer stands to what it uses
+abbrev Start·returns : tie.After-enum-told → tie.Start
+Start·returns c = c .before .before .before .before .before .before .before .before .before .before .before .before .before .before .before .before .before .before .before .before .before .before .before
+
+abbrev clear-numbers·returns-2 : tie.After-slice-known4 → tie.After-clear-numbers
+clear-numbers·returns-2 c = c .before .before .before .before .before .before .before .before .before .before .before .before
+
+abbrev Start·returns-2 : tie.After-slice-known4 → tie.Start
+Start·returns-2 c = clear-numbers·returns-2 c .before .before .before .before .before .before .before .before .before .before .before .before .before .before .before
+
+-- end of places
+
 returns : tie.Need-returns
 returns c =
-    let a = c .before .before .before .before .before .before .before .before .before .before .before .before .before .before .before .before .before .before .before .before .before .before .before .args in
+    let a = Start·returns c .args in
     let m = tablesOf (a .bytes .now) (a .n .now) (a .c .now) (a .f .now) (a .x .now) (a .p .now) (a .i .now) (a .t .now) (a .q .now) (a .u .now) (a .e .now) (a .r .now) in
     given-call m (a .out .now) (a .from) (a .type-name) (a .inverse) _ _ _ (c .before .before .before .before .before .before .before .before .clear-numbers .ensures) (c .before .before .before .before .expand .ensures) _ _ (c .enum-told .given .1)
 
@@ -34,10 +46,10 @@ same-length-2 c = search needs
 
 returns-2 : tie.Need-returns-2
 returns-2 c =
-    let a = c .before .before .before .before .before .before .before .before .before .before .before .before .before .before .before .before .before .before .before .before .before .before .before .before .before .before .before .args in
+    let a = Start·returns-2 c .args in
     let m = tablesOf (a .bytes .now) (a .n .now) (a .c .now) (a .f .now) (a .x .now) (a .p .now) (a .i .now) (a .t .now) (a .q .now) (a .u .now) (a .e .now) (a .r .now) in
     let x = c .before .before .before .before .before .before .before .before .expand in
-    refused-call m (a .out .now) (a .from) (a .type-name) (a .inverse) _ (x .last .1 .1 .1 .1 .1 .1 .1 .1 .1 .1 .1 .1 .0) _ (c .before .before .before .before .before .before .before .before .before .before .before .before .clear-numbers .ensures) (x .ensures) _ (c .before .before .before .before .enum-told2 .given .1) (x .kept .1 .1 .1 .1 .1 .1 .1 .1 .1 .1 .1 .1 .0) _ (c .before .before .clear-numbers2 .ensures)
+    refused-call m (a .out .now) (a .from) (a .type-name) (a .inverse) _ (x .last .1 .1 .1 .1 .1 .1 .1 .1 .1 .1 .1 .1 .0) _ (clear-numbers·returns-2 c .clear-numbers .ensures) (x .ensures) _ (c .before .before .before .before .enum-told2 .given .1) (x .kept .1 .1 .1 .1 .1 .1 .1 .1 .1 .1 .1 .1 .0) _ (c .before .before .clear-numbers2 .ensures)
 
 pub expand-feature-group-spec : {M : Type 1} → statement M
 expand-feature-group-spec =

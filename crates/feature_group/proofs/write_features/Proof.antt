@@ -21,7 +21,7 @@ slice-aggregate-visit-4 : tie.Need-slice-aggregate-visit-4
 slice-aggregate-visit-4 c = search needs
 
 visit-requires : tie.Need-visit-requires
-visit-requires c κs = ((ready-all _ _ _ _, refl, omega arith), passable-zeros _ _ _ 45056 (omega arith, omega arith))
+visit-requires c κs = record { ready = ready-all _ _ _ _; places = refl; deep = omega arith; passable = passable-zeros _ _ _ 45056 (omega arith, omega arith) }
 
 enum-told : tie.Need-enum-told
 enum-told c = search needs

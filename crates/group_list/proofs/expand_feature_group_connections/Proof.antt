@@ -77,7 +77,7 @@ list-accepted-requires : tie.Need-list-accepted-requires
 list-accepted-requires c κs =
     let a = Start·list-accepted-requires c .args in
     let m = tablesOf (a .bytes .now) (a .n .now) (a .c .now) (a .f .now) (a .x .now) (a .p .now) (a .i .now) (a .t .now) (a .q .now) (a .u .now) (a .e .now) (a .r .now) in
-    (accepted-is m _ (c .before .before .before .before .before .check-tables .ensures) (c .before .before .before .enum-told .given .1))
+    record { ok = accepted-is m _ (c .before .before .before .before .before .check-tables .ensures) (c .before .before .before .enum-told .given .1) }
 
 enum-told-2 : tie.Need-enum-told-2
 enum-told-2 c = search needs

@@ -3,13 +3,14 @@ use Prim.Native.Nat.{_/_}
 use lib.ListN.{length}
 use borrow.Author.Tests.{leb-true}
 use borrow.Author.Needs.{needs}
+use Rattle.as5506.specs.Tables.{width, letterU, letterE}
 use Rattle.group_list.proofs.match_all.Statement.{statement}
 use Rattle.group_list.proofs.match_all.Tie as tie
 
 match-small-requires : tie.Need-match-small-requires
 match-small-requires c κs =
     let s = c .before .before .before .before .before .before .before .before .before .before .before .before .before .before .before .before .before .before .before in
-    (s .pre, (c .before .before .before .before .if1 .taken, leb-true (length (s .args .u .now) / 9) 96 (c .before .before .before .if2 .taken), leb-true (length (s .args .e .now) / 8) 96 (c .before .before .if3 .taken)))
+    (s .pre, (c .before .before .before .before .if1 .taken, leb-true (length (s .args .u .now) / width letterU) 96 (c .before .before .before .if2 .taken), leb-true (length (s .args .e .now) / width letterE) 96 (c .before .before .if3 .taken)))
 
 same-length : tie.Need-same-length
 same-length c = search needs

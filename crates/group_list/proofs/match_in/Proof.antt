@@ -1,10 +1,8 @@
 -- `group_list::match_in` meets its contract: accepted tables have few rows, and a part of a memory is as long as was asked for. Assumes nothing.
 use mathlib.Core.Path.{sym}
-use Prim.Native.Nat.{_/_}
 use native.Mathlib.Omega.{arith}
-use lib.ListN.{length}
 use lib.Seq.{length-take-le}
-use Rattle.as5506.specs.Tables.{Tables, tablesOf, letterN, letterU}
+use Rattle.as5506.specs.Tables.{Tables, tablesOf, letterN, letterU, count}
 use Rattle.tables.proofs.Facts.{facts}
 use borrow.Author.Needs.{needs}
 use Rattle.group_list.proofs.match_in.Statement.{statement}
@@ -47,30 +45,40 @@ Start·match-connections-requires c = Start·slice-aggregate-match-connections-2
 link-groups-requires : tie.Need-link-groups-requires
 link-groups-requires c κs =
     let s = Start·link-groups-requires c in
-    let room = s .pre .1 .0 in
-    (facts (model s) (s .pre .0) .few letterU, room .0, room .1, room .2)
+    let k = s .pre in
+    let few = facts (model s) (k .ok) .few letterU in
+    record {
+      fits-types = record { few-types = few; fits-extends = k .fits-extends; fits-inverse = k .fits-inverse };
+      fits-features = record { few-types = few; fits-nested = k .fits-nested };
+    }
 
 mul-places : tie.Need-mul-places
-mul-places c = let s = Start·mul-places c in omega (arith, facts (model s) (s .pre .0) .few letterU)
+mul-places c = let s = Start·mul-places c in omega (arith, facts (model s) (s .pre .ok) .few letterU)
 
 slice-relend-prefix-match-connections : tie.Need-slice-relend-prefix-match-connections
-slice-relend-prefix-match-connections c = Start·slice-relend-prefix-match-connections c .pre .1 .1 .0
+slice-relend-prefix-match-connections c = Start·slice-relend-prefix-match-connections c .pre .names
 
 slice-aggregate-match-connections : tie.Need-slice-aggregate-match-connections
-slice-aggregate-match-connections c = let s = Start·slice-relend-prefix-match-connections-2 c in sym (length-take-le _ (s .args .memo .now) (s .pre .1 .1 .0))
+slice-aggregate-match-connections c = let s = Start·slice-relend-prefix-match-connections-2 c in sym (length-take-le _ (s .args .memo .now) (s .pre .names))
 
 slice-relend-prefix-match-connections-2 : tie.Need-slice-relend-prefix-match-connections-2
-slice-relend-prefix-match-connections-2 c = Start·slice-relend-prefix-match-connections-2 c .pre .1 .1 .2
+slice-relend-prefix-match-connections-2 c = Start·slice-relend-prefix-match-connections-2 c .pre .levels
 
 slice-aggregate-match-connections-2 : tie.Need-slice-aggregate-match-connections-2
-slice-aggregate-match-connections-2 c = let s = Start·slice-aggregate-match-connections-2 c in sym (length-take-le _ (s .args .calm .now) (s .pre .1 .1 .2))
+slice-aggregate-match-connections-2 c = let s = Start·slice-aggregate-match-connections-2 c in sym (length-take-le _ (s .args .calm .now) (s .pre .levels))
 
 match-connections-requires : tie.Need-match-connections-requires
 match-connections-requires c κs =
     let s = Start·match-connections-requires c in
-    let room = s .pre .1 .1 in
-    let names = length-take-le (length (s .args .n .now) / 2) (s .args .memo .now) (room .0) in
-    (s .pre .0, (c .before .before .before .before .before .before .before .before .before .before .before .before .before .before .link-groups .ensures (s .args .c .now) (s .args .f .now) (s .args .x .now), (omega (arith, names), omega (arith, names, facts (model s) (s .pre .0) .few letterN), omega (arith, names, room .0, room .1))))
+    let k = s .pre in
+    let names = length-take-le (count (model s) letterN) (s .args .memo .now) (k .names) in
+    record {
+      ok = k .ok;
+      linked = c .before .before .before .before .before .before .before .before .before .before .before .before .before .before .link-groups .ensures (model s);
+      names = omega (arith, names);
+      few = omega (arith, names, facts (model s) (k .ok) .few letterN);
+      room = omega (arith, names, k .names, k .room);
+    }
 
 same-length : tie.Need-same-length
 same-length c = search needs

@@ -40,7 +40,15 @@ match-in-requires : tie.Need-match-in-requires
 match-in-requires c κs =
     let s = c .before .before .before .before .before .before .before .before .before .before .before .before .before .before .before .before .before .before .before .before .before .before in
     let few = facts (model s) (s .pre) .few in
-    (s .pre, ((few letterE, few letterU, few letterU), (few letterN, omega arith, omega (arith, few letterU))))
+    record {
+      ok = s .pre;
+      fits-nested = few letterE;
+      fits-extends = few letterU;
+      fits-inverse = few letterU;
+      names = few letterN;
+      room = omega arith;
+      levels = omega (arith, few letterU);
+    }
 
 same-length : tie.Need-same-length
 same-length c = search needs

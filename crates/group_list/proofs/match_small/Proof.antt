@@ -26,7 +26,7 @@ match-in-requires : tie.Need-match-in-requires
 match-in-requires c κs =
     let s = c .before .before .before .before .before .before .before .before .before .before .before .before .before .before .before .before .before .before .before .before .before .before in
     let few = s .pre .1 in
-    (s .pre .0, ((few .2, few .1, few .1), (few .0, omega arith, omega (arith, few .1))))
+    record { ok = s .pre .0; fits-nested = few .2; fits-extends = few .1; fits-inverse = few .1; names = few .0; room = omega arith; levels = omega (arith, few .1) }
 
 same-length : tie.Need-same-length
 same-length c = search needs

@@ -5,7 +5,7 @@ use native.Mathlib.Omega.{arith}
 use lib.ListN.{length}
 use Rattle.as5506.specs.Tables.{tablesOf}
 use Rattle.group_match.specs.Matching.{listsOf}
-use Rattle.group_match.proofs.Loop.{Goes, goes-start, goes-end, goes-over, goes-turn, workplace}
+use Rattle.group_match.proofs.Loop.{Goes, goes-start, goes-end, goes-over, goes-turn, row-ready}
 use borrow.Author.Needs.{needs}
 use Rattle.group_match.proofs.match_connections.Statement.{statement}
 use Rattle.group_match.proofs.match_connections.Tie as tie
@@ -48,13 +48,7 @@ match-connection-requires : tie.Need-match-connection-requires Inv-loop μ-loop
 match-connection-requires c κs =
     let s = Start·match-connection-requires c in
     let g = c .before .before .before .before .before .before .loop in
-    let sizes = s .pre .1 .1 in (
-      s .pre .0,
-      (
-        s .pre .1 .0,
-        (workplace _ (s .pre .0) (s .args .memo .now) (s .args .kept .now) _ _ (sizes .0) (sizes .1) (sizes .2) (g .inv .1) (g .inv .0), c .before .before .before .before .before .loop-test .taken, g .inv .3 .rows-bound, g .inv .3 .notes-bound),
-      ),
-    )
+    row-ready _ _ _ _ (s .args .memo .now) (s .args .kept .now) (g .memo) (g .kept) _ _ _ _ _ _ (s .pre) (g .inv .1) (g .inv .0) (c .before .before .before .before .before .loop-test .taken) (g .inv .3)
 
 enum-told : tie.Need-enum-told Inv-loop μ-loop
 enum-told c = search needs
@@ -78,7 +72,7 @@ returns : tie.Need-returns Inv-loop μ-loop
 unfolding listsOf
 returns c =
     let r = match-connection·returns c .match-connection in
-    goes-over _ _ _ _ _ _ _ (At-loop·returns c .loop .inv .3) (In-loop·returns c .loop-test .taken) (r .result) _ _ (r .ensures) (c .enum-told .given .1)
+    goes-over _ _ _ _ _ _ _ (At-loop·returns c .loop .inv .3) (In-loop·returns c .loop-test .taken) (r .result) (r .last .1 .1 .1 .1 .1 .1 .1 .1 .1 .1 .1 .1 .1 .1 .1 .1 .1 .1 .0) (r .last .1 .1 .1 .1 .1 .1 .1 .1 .1 .1 .1 .1 .1 .1 .1 .1 .1 .1 .1 .0) (r .ensures) (c .enum-told .given .1)
 
 enum-known-then : tie.Need-enum-known-then Inv-loop μ-loop
 enum-known-then c = search needs
@@ -94,10 +88,10 @@ loop-again c =
     let g = At-loop·loop-again c .loop in
     let r = c .before .before .before .before .before .before .before .before .before .before .before .before .before .match-connection in
     let t = c .before .then .given in (
-      r .kept .1 .1 .1 .1 .1 .1 .1 .1 .1 .1 .1 .1 .1 .1 .1 .0 ∙ g .inv .0,
-      r .kept .1 .1 .1 .1 .1 .1 .1 .1 .1 .1 .1 .1 .1 .1 .1 .1 .0 ∙ g .inv .1,
-      r .kept .1 .1 .1 .1 .1 .1 .1 .1 .1 .1 .1 .1 .1 .1 .1 .1 .1 .0 ∙ g .inv .2,
-      goes-turn _ _ _ _ _ _ _ (g .inv .3) (In-loop·loop-again c .loop-test .taken) (r .result) _ _ (r .ensures) (t .0 .0) (t .1) (r .kept .1 .1 .1 .1 .1 .1 .1 .1 .1 .1 .1 .1 .1 .1 .1 .1 .1 .1 .0) (r .kept .1 .1 .1 .1 .1 .1 .1 .1 .1 .1 .1 .1 .1 .1 .1 .1 .1 .1 .1 .0),
+      _∙_ {b = length (g .kept)} (r .kept .1 .1 .1 .1 .1 .1 .1 .1 .1 .1 .1 .1 .1 .1 .1 .0) (g .inv .0),
+      _∙_ {b = length (g .memo)} (r .kept .1 .1 .1 .1 .1 .1 .1 .1 .1 .1 .1 .1 .1 .1 .1 .1 .0) (g .inv .1),
+      _∙_ {b = length (g .calm)} (r .kept .1 .1 .1 .1 .1 .1 .1 .1 .1 .1 .1 .1 .1 .1 .1 .1 .1 .0) (g .inv .2),
+      goes-turn _ _ _ _ _ _ _ (g .inv .3) (In-loop·loop-again c .loop-test .taken) (r .result) (r .last .1 .1 .1 .1 .1 .1 .1 .1 .1 .1 .1 .1 .1 .1 .1 .1 .1 .1 .0) (r .last .1 .1 .1 .1 .1 .1 .1 .1 .1 .1 .1 .1 .1 .1 .1 .1 .1 .1 .1 .0) (r .ensures) (t .0 .0) (t .1) (r .kept .1 .1 .1 .1 .1 .1 .1 .1 .1 .1 .1 .1 .1 .1 .1 .1 .1 .1 .0) (r .kept .1 .1 .1 .1 .1 .1 .1 .1 .1 .1 .1 .1 .1 .1 .1 .1 .1 .1 .1 .0),
     )
 
 same-length-6 : tie.Need-same-length-6 Inv-loop μ-loop

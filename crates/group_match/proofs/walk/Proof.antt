@@ -3,9 +3,19 @@ use mathlib.Core.Path.{refl, _∙_}
 use native.Mathlib.Omega.{arith}
 use lib.ListN.{length}
 use Rattle.group_walk.proofs.Calm.{passable-zeros}
+use Rattle.links.specs.Walk.{Groups, groupsIn}
+use Rattle.sink.specs.Dull.{Dull}
+use Rattle.group_walk.specs.Calm.{Dullness}
 use Rattle.group_match.proofs.Groups.{cleared-ready, cleared-passable, cleared-run}
 use Rattle.group_match.proofs.walk.Statement.{statement}
 use Rattle.group_match.proofs.walk.Tie as tie
+
+-- the tables of links, and what makes a feature dull
+abbrev groups : tie.Start → Groups
+groups s = groupsIn (s .args .e .now) (s .args .nested .now) (s .args .extends .now) (s .args .inverses .now)
+
+abbrev dulls : tie.Start → Dullness
+dulls s = Dull (s .args .purpose) (s .args .bytes .now) (s .args .n .now) (s .args .kept .now)
 
 clear-numbers-requires : tie.Need-clear-numbers-requires
 clear-numbers-requires c κs = tt
@@ -27,10 +37,13 @@ clear-numbers·returns c = visit·returns c .before .before .before .before .bef
 
 visit-requires : tie.Need-visit-requires
 visit-requires c κs =
-    let s = Start·visit-requires c in (
-      (cleared-ready _ _ _ _ _ _ (c .before .before .before .before .before .before .before .before .before .before .clear-numbers .ensures) (s .pre .0), refl, omega arith),
-      cleared-passable _ _ _ _ _ (c .before .before .before .before .before .before .clear-numbers2 .ensures) (passable-zeros _ _ _ (length (s .args .calm .now)) (s .pre .1, s .pre .2)),
-    )
+    let s = Start·visit-requires c in
+    record {
+      ready = cleared-ready _ _ _ _ _ _ (c .before .before .before .before .before .before .before .before .before .before .clear-numbers .ensures) (s .pre .0);
+      places = refl {a = 11};
+      deep = omega arith;
+      passable = cleared-passable (groups s) (dulls s) _ _ _ (c .before .before .before .before .before .before .clear-numbers2 .ensures) (passable-zeros (groups s) (dulls s) _ (length (s .args .calm .now)) (s .pre .1, s .pre .2));
+    }
 
 same-length : tie.Need-same-length
 same-length c = visit·returns c .visit .kept .1 .1 .1 .1 .1 .1 .1 .0 ∙ clear-numbers·returns c .clear-numbers .kept .0

@@ -44,19 +44,19 @@ module _ (c : tie.After-slice-known6) where
   own-put : filled (at-own c .put-dotted .last .1 .1 .0) (at-own c .put-dotted .result) ≡ appendAll (ownPieces tables pair) (filled (entry c .args .names .now) (entry c .args .used))
   own-put =
       own-is (entry c .args .bytes .now) (entry c .args .n .now) (entry c .args .x .now) (entry c .args .rows .now) (entry c .args .place) _ (at-connection c .number-at .ensures) _ _ _ _ _
-      (at-name c .before .number-at2 .ensures) (at-own c .before .number-at3 .ensures) (at-name c .put-name .ensures) (at-own c .put-dotted .ensures)
+      (at-name c .before .name-of .ensures) (at-own c .before .number-at2 .ensures) (at-name c .put-name .ensures) (at-own c .put-dotted .ensures)
 
   source-put : filled (at-source c .put-full-name .last .1 .1 .1 .1 .0) (at-source c .put-full-name .result)
       ≡ appendAll (sourcePieces tables pair) (filled (at-own c .put-dotted .last .1 .1 .0) (at-own c .put-dotted .result))
   source-put =
       source-is (entry c .args .bytes .now) (entry c .args .n .now) (entry c .args .x .now) (entry c .args .rows .now) (entry c .args .place) _ (at-connection c .number-at .ensures) _ _ _
-      (at-source c .before .number-at4 .ensures) (at-source c .put-full-name .ensures)
+      (at-source c .before .feature-of .ensures) (at-source c .put-full-name .ensures)
 
   partner-put : filled (at-partner c .put-full-name2 .last .1 .1 .1 .1 .0) (at-partner c .put-full-name2 .result)
       ≡ appendAll (partnerPieces tables pair) (filled (at-source c .put-full-name .last .1 .1 .1 .1 .0) (at-source c .put-full-name .result))
   partner-put =
       partner-is (entry c .args .bytes .now) (entry c .args .n .now) (entry c .args .x .now) (entry c .args .rows .now) (entry c .args .place) _ (at-connection c .number-at .ensures) _ _ _
-      (at-partner c .before .number-at5 .ensures) (at-partner c .put-full-name2 .ensures)
+      (at-partner c .before .feature-of2 .ensures) (at-partner c .put-full-name2 .ensures)
 
   names-put : filled (at-partner c .put-full-name2 .last .1 .1 .1 .1 .0) (at-partner c .put-full-name2 .result)
       ≡ appendAll (pairPieces tables pair) (filled (entry c .args .names .now) (entry c .args .used))
@@ -70,14 +70,11 @@ module _ (c : tie.After-slice-known6) where
 number-at-requires : tie.Need-number-at-requires
 number-at-requires c κs = search needs
 
-cast-at : tie.Need-cast-at
-cast-at c = search needs
+cast-i : tie.Need-cast-i
+cast-i c = search needs
 
-mul-at : tie.Need-mul-at
-mul-at c = search needs
-
-number-at-requires-2 : tie.Need-number-at-requires-2
-number-at-requires-2 c κs = search needs
+name-of-requires : tie.Need-name-of-requires
+name-of-requires c κs = search needs
 
 put-name-requires : tie.Need-put-name-requires
 put-name-requires c κs = search needs
@@ -85,8 +82,8 @@ put-name-requires c κs = search needs
 add-number-at : tie.Need-add-number-at
 add-number-at c = search needs
 
-number-at-requires-3 : tie.Need-number-at-requires-3
-number-at-requires-3 c κs = search needs
+number-at-requires-2 : tie.Need-number-at-requires-2
+number-at-requires-2 c κs = search needs
 
 put-dotted-requires : tie.Need-put-dotted-requires
 put-dotted-requires c κs = search needs
@@ -94,11 +91,8 @@ put-dotted-requires c κs = search needs
 add-put-full-name : tie.Need-add-put-full-name
 add-put-full-name c = search needs
 
-add-number-at-2 : tie.Need-add-number-at-2
-add-number-at-2 c = search needs
-
-number-at-requires-4 : tie.Need-number-at-requires-4
-number-at-requires-4 c κs = search needs
+feature-of-requires : tie.Need-feature-of-requires
+feature-of-requires c κs = search needs
 
 put-full-name-requires : tie.Need-put-full-name-requires
 put-full-name-requires c κs = search needs
@@ -107,7 +101,7 @@ put-full-name-requires c κs = search needs
 abbrev Start·add-put-full-name-2 : tie.After-put-full-name-arg3 → tie.Start
 Start·add-put-full-name-2 c = c .before .before .before .before .before .before .before .before .before .before .before .before .before .before .before .before .before .before .before .before .before .before .before .before .before
 
-abbrev Start·put-full-name-requires-2 : tie.After-number-at5 → tie.Start
+abbrev Start·put-full-name-requires-2 : tie.After-feature-of2 → tie.Start
 Start·put-full-name-requires-2 c = Start·add-put-full-name-2 (c .before .before)
 
 -- end of places
@@ -117,11 +111,8 @@ add-put-full-name-2 c =
     let s = Start·add-put-full-name-2 c in
     omega (arith, s .pre .1, s .good)
 
-add-number-at-3 : tie.Need-add-number-at-3
-add-number-at-3 c = search needs
-
-number-at-requires-5 : tie.Need-number-at-requires-5
-number-at-requires-5 c κs = search needs
+feature-of-requires-2 : tie.Need-feature-of-requires-2
+feature-of-requires-2 c κs = search needs
 
 put-full-name-requires-2 : tie.Need-put-full-name-requires-2
 put-full-name-requires-2 c κs =
@@ -189,20 +180,17 @@ compose-row-spec =
     tie.close
     (tie.spec
     number-at-requires
-    cast-at
-    mul-at
-    number-at-requires-2
+    cast-i
+    name-of-requires
     put-name-requires
     add-number-at
-    number-at-requires-3
+    number-at-requires-2
     put-dotted-requires
     add-put-full-name
-    add-number-at-2
-    number-at-requires-4
+    feature-of-requires
     put-full-name-requires
     add-put-full-name-2
-    add-number-at-3
-    number-at-requires-5
+    feature-of-requires-2
     put-full-name-requires-2
     same-length
     same-length-2

@@ -9,7 +9,7 @@ use native.Mathlib.Omega.{arith}
 use borrow.Author.Needs.{needs}
 use lib.ListN.{length, length-set, take, set, getD}
 use Rattle.as5506.specs.Groups.{Feature, Expansion}
-use Rattle.as5506.specs.Tables.{missing, eName}
+use Rattle.as5506.specs.Tables.{missing, width, letterE, eName}
 use Rattle.links.specs.Links.{unfound}
 use Rattle.links.specs.Walk.{Groups, groupsIn, Visit, featureAt, walk, rowsIn, visitLink}
 use Rattle.sink.specs.declared.Tally.{Tally}
@@ -35,6 +35,9 @@ use Rattle.group_walk.proofs.walk_features.Kinds as walk-features-kinds
 use Rattle.group_walk.proofs.+expand_type+visit+walk_features.Lts-walk_features as walk-features-lts
 use Rattle.group_walk.proofs.belongs.Reads as belongs-reads
 use Rattle.group_walk.proofs.turn.Reads as turn-reads
+use Rattle.columns.proofs.declared.direction_of.Reads as direction-of-reads
+use Rattle.columns.proofs.declared.kind_of.Reads as kind-of-reads
+use Rattle.columns.proofs.declared.name_of.Reads as name-of-reads
 use Rattle.lent.proofs.number_at.Reads as number-at-reads
 use Rattle.lent.proofs.put_number.Reads as put-number-reads
 use Rattle.lent.specs.Lent.{declaredIn}
@@ -88,7 +91,7 @@ abbrev visit-claims : ℕ → visit-lts.Claims
 visit-claims t = (number-at-reads.Asked, number-at-reads.Learnt, expand-type-below t, expand-type.Post, put-number-reads.Asked, put-number-reads.Learnt)
 
 abbrev walk-claims : ℕ → walk-features-lts.Claims
-walk-claims t = (belongs-reads.Asked, belongs-reads.Learnt, number-at-reads.Asked, number-at-reads.Learnt, turn-reads.Asked, turn-reads.Learnt, take-feature-reads.Asked, take-feature-reads.Learnt, visit-below t, visit.Post)
+walk-claims t = (belongs-reads.Asked, belongs-reads.Learnt, name-of-reads.Asked, name-of-reads.Learnt, number-at-reads.Asked, number-at-reads.Learnt, kind-of-reads.Asked, kind-of-reads.Learnt, direction-of-reads.Asked, direction-of-reads.Learnt, turn-reads.Asked, turn-reads.Learnt, take-feature-reads.Asked, take-feature-reads.Learnt, visit-below t, visit.Post)
 
 -- ---- `expand_type`: what it is given
 
@@ -123,7 +126,7 @@ module _ (t : ℕ) (s : expand-type-lts.Start (type-claims t) (expand-type-at t)
 
     module _ (i : back ≡ missing) (up : ℕ) (e : up ≡ getD (s .args .extends .now) (s .args .row) 0) where
       by-own : up ≡ missing → type-whole ≡ run type-doing type-entry type-own-features
-      by-own = type-own type-doing type-groups type-below (s .args .inverse) type-names (s .args .row) type-given (s .args .visits) back b i up e (s .pre .1 .0 .3)
+      by-own = type-own type-doing type-groups type-below (s .args .inverse) type-names (s .args .row) type-given (s .args .visits) back b i up e (s .pre .1 .few)
 
       by-both : (up ≡ missing → ⊥) → type-whole ≡ run type-doing (run type-doing type-entry (type-below up (s .args .inverse) type-names)) type-own-features
       by-both = type-both type-doing type-groups type-below (s .args .inverse) type-names (s .args .row) type-given (s .args .visits) back b i up e
@@ -144,7 +147,7 @@ module _ (t : ℕ) (s : expand-type-lts.Start (type-claims t) (expand-type-at t)
       up-good =
           done-good type-doing (Ready (s .args .purpose) (s .args .bytes .now) (s .args .n .now) (s .args .kept .now))
           (taken-ready (s .args .purpose) (s .args .bytes .now) (s .args .n .now) (s .args .kept .now)) r memo out notes type-given (s .args .visits)
-          (type-below up (s .args .inverse) type-names) tally visits (e .0) q (s .pre .1 .0 .0)
+          (type-below up (s .args .inverse) type-names) tally visits (e .0) q (s .pre .1 .ready)
 
       up-passable : Passable type-groups (Dull (s .args .purpose) (s .args .bytes .now) (s .args .n .now) (s .args .kept .now)) (held tally memo out notes) calm
       up-passable = after-done type-groups (Dull (s .args .purpose) (s .args .bytes .now) (s .args .n .now) (s .args .kept .now)) r memo out notes calm tally visits q (e .1)
@@ -237,7 +240,7 @@ Start·expand-type-returns-4 t c = Start·expand-type-walk-features-requires-2 t
 -- end of places
 
 expand-type-visit-requires : (t : ℕ) → expand-type-lts.Need-visit-requires (type-claims t) (expand-type-at t) expand-type.Post
-expand-type-visit-requires t c κs = let s = Start·expand-type-visit-requires t c in (omega (arith, s .pre .0), ((s .pre .1 .0 .0, s .pre .1 .0 .1, omega (arith, s .pre .1 .0 .2)), s .pre .1 .1))
+expand-type-visit-requires t c κs = let s = Start·expand-type-visit-requires t c in (omega (arith, s .pre .0), record { ready = s .pre .1 .ready; places = s .pre .1 .places; deep = omega (arith, s .pre .1 .deep); passable = s .pre .1 .passable })
 
 expand-type-same-length : (t : ℕ) → expand-type-lts.Need-same-length (type-claims t) (expand-type-at t) expand-type.Post
 expand-type-same-length t c = visit·expand-type-returns t c .visit .kept .1 .1 .1 .1 .1 .1 .1 .0
@@ -258,7 +261,7 @@ expand-type-number-at-requires-2 : (t : ℕ) → expand-type-lts.Need-number-at-
 expand-type-number-at-requires-2 t c κs = tt
 
 expand-type-walk-features-requires : (t : ℕ) → expand-type-lts.Need-walk-features-requires (type-claims t) (expand-type-at t) expand-type.Post
-expand-type-walk-features-requires t c κs = let s = Start·expand-type-walk-features-requires t c in (omega (arith, s .pre .0), (s .pre .1 .0, s .pre .1 .1))
+expand-type-walk-features-requires t c κs = let s = Start·expand-type-walk-features-requires t c in (omega (arith, s .pre .0), s .pre .1)
 
 expand-type-same-length-5 : (t : ℕ) → expand-type-lts.Need-same-length-5 (type-claims t) (expand-type-at t) expand-type.Post
 expand-type-same-length-5 t c = walk-features·expand-type-returns-2 t c .walk-features .kept .1 .1 .1 .1 .1 .1 .1 .0
@@ -276,7 +279,7 @@ expand-type-returns-2 : (t : ℕ) → expand-type-lts.Need-returns-2 (type-claim
 expand-type-returns-2 t c = (walk-features·expand-type-returns-2 t c .walk-features .ensures .0 ∙ sym (by-own t (Start·expand-type-returns-2 t c) (number-at·expand-type-returns-2 t c .number-at .result) (number-at·expand-type-returns-2 t c .number-at .ensures) (omega (arith, c .before .before .before .before .before .before .before .before .before .before .before .before .before .before .before .if1 .left)) (number-at2·expand-type-returns-2 t c .number-at2 .result) (number-at2·expand-type-returns-2 t c .number-at2 .ensures) (c .before .before .before .before .before .before .before .before .before .before .before .before .before .if2 .taken)), walk-features·expand-type-returns-2 t c .walk-features .ensures .1)
 
 expand-type-visit-requires-2 : (t : ℕ) → expand-type-lts.Need-visit-requires-2 (type-claims t) (expand-type-at t) expand-type.Post
-expand-type-visit-requires-2 t c κs = let s = Start·expand-type-visit-requires-2 t c in (omega (arith, s .pre .0), ((s .pre .1 .0 .0, s .pre .1 .0 .1, omega (arith, s .pre .1 .0 .2)), s .pre .1 .1))
+expand-type-visit-requires-2 t c κs = let s = Start·expand-type-visit-requires-2 t c in (omega (arith, s .pre .0), record { ready = s .pre .1 .ready; places = s .pre .1 .places; deep = omega (arith, s .pre .1 .deep); passable = s .pre .1 .passable })
 
 expand-type-enum-told : (t : ℕ) → expand-type-lts.Need-enum-told (type-claims t) (expand-type-at t) expand-type.Post
 expand-type-enum-told t c = search needs
@@ -288,7 +291,7 @@ expand-type-walk-features-requires-2 : (t : ℕ) → expand-type-lts.Need-walk-f
 expand-type-walk-features-requires-2 t c κs =
     let s = Start·expand-type-walk-features-requires-2 t c in
     let h = up-good t s (number-at2·expand-type-walk-features-requires-2 t c .number-at2 .result) (visit2·expand-type-walk-features-requires-2 t c .visit2 .result) (visit2·expand-type-walk-features-requires-2 t c .visit2 .last .1 .1 .1 .1 .1 .1 .1 .0) (visit2·expand-type-walk-features-requires-2 t c .visit2 .last .1 .1 .1 .1 .1 .1 .1 .1 .0) (visit2·expand-type-walk-features-requires-2 t c .visit2 .last .1 .1 .1 .1 .1 .1 .1 .1 .1 .0) (visit2·expand-type-walk-features-requires-2 t c .visit2 .last .1 .1 .1 .1 .1 .1 .1 .1 .1 .1 .0) (visit2·expand-type-walk-features-requires-2 t c .visit2 .ensures) (so-far·expand-type-walk-features-requires-2 t c .so-far .given .0 .0) (so-far·expand-type-walk-features-requires-2 t c .so-far .given .0 .1 .0) (so-far·expand-type-walk-features-requires-2 t c .so-far .given .1) in
-    (omega (arith, s .pre .0), ((h .0, s .pre .1 .0 .1, s .pre .1 .0 .2, h .1), up-passable t s (number-at2·expand-type-walk-features-requires-2 t c .number-at2 .result) (visit2·expand-type-walk-features-requires-2 t c .visit2 .result) (visit2·expand-type-walk-features-requires-2 t c .visit2 .last .1 .1 .1 .1 .1 .1 .1 .0) (visit2·expand-type-walk-features-requires-2 t c .visit2 .last .1 .1 .1 .1 .1 .1 .1 .1 .0) (visit2·expand-type-walk-features-requires-2 t c .visit2 .last .1 .1 .1 .1 .1 .1 .1 .1 .1 .0) (visit2·expand-type-walk-features-requires-2 t c .visit2 .last .1 .1 .1 .1 .1 .1 .1 .1 .1 .1 .0) (visit2·expand-type-walk-features-requires-2 t c .visit2 .ensures) (so-far·expand-type-walk-features-requires-2 t c .so-far .given .0 .0) (so-far·expand-type-walk-features-requires-2 t c .so-far .given .0 .1 .0) (so-far·expand-type-walk-features-requires-2 t c .so-far .given .1)))
+    (omega (arith, s .pre .0), record { ready = h .0; places = s .pre .1 .places; deep = s .pre .1 .deep; few = h .1; passable = up-passable t s (number-at2·expand-type-walk-features-requires-2 t c .number-at2 .result) (visit2·expand-type-walk-features-requires-2 t c .visit2 .result) (visit2·expand-type-walk-features-requires-2 t c .visit2 .last .1 .1 .1 .1 .1 .1 .1 .0) (visit2·expand-type-walk-features-requires-2 t c .visit2 .last .1 .1 .1 .1 .1 .1 .1 .1 .0) (visit2·expand-type-walk-features-requires-2 t c .visit2 .last .1 .1 .1 .1 .1 .1 .1 .1 .1 .0) (visit2·expand-type-walk-features-requires-2 t c .visit2 .last .1 .1 .1 .1 .1 .1 .1 .1 .1 .1 .0) (visit2·expand-type-walk-features-requires-2 t c .visit2 .ensures) (so-far·expand-type-walk-features-requires-2 t c .so-far .given .0 .0) (so-far·expand-type-walk-features-requires-2 t c .so-far .given .0 .1 .0) (so-far·expand-type-walk-features-requires-2 t c .so-far .given .1) })
 
 expand-type-same-length-9 : (t : ℕ) → expand-type-lts.Need-same-length-9 (type-claims t) (expand-type-at t) expand-type.Post
 expand-type-same-length-9 t c = visit2·expand-type-returns-3 t c .visit2 .kept .1 .1 .1 .1 .1 .1 .1 .0
@@ -360,12 +363,12 @@ module _ (t : ℕ) (s : visit-lts.Start (visit-claims t) (visit-at t) visit.Post
     module _ (known : ℕ) (e : known ≡ getD (s .args .calm .now) (s .args .to * levels + (s .args .left - 1)) 0) (q : known ≡ 0 → ⊥) where
       passed-over : visitLimit < s .args .visits + known → over ≡ whole
       passed-over =
-          known-over doing dulls law groups given (s .args .calm .now) (s .pre .1 .1) (s .args .to) known q (s .args .left) some-left (omega (arith, s .pre .1 .0 .2)) e
+          known-over doing dulls law groups given (s .args .calm .now) (s .pre .1 .passable) (s .args .to) known q (s .args .left) some-left (omega (arith, s .pre .1 .deep)) e
           (s .args .inverse) names (s .args .visits)
 
       passed-done : s .args .visits + known ≤ visitLimit → going given (s .args .visits + known) ≡ whole
       passed-done =
-          known-done doing dulls law groups given (s .args .calm .now) (s .pre .1 .1) (s .args .to) known q (s .args .left) some-left (omega (arith, s .pre .1 .0 .2)) e
+          known-done doing dulls law groups given (s .args .calm .now) (s .pre .1 .passable) (s .args .to) known q (s .args .left) some-left (omega (arith, s .pre .1 .deep)) e
           (s .args .inverse) names (s .args .visits)
 
     -- where what it means is expanded
@@ -394,8 +397,8 @@ module _ (t : ℕ) (s : visit-lts.Start (visit-claims t) (visit-at t) visit.Post
           expanded-calm : Passable groups dulls (held tally memo out notes) (set calm (s .args .to * levels + (s .args .left - 1)) (visits - s .args .visits))
           unfolding Passable
           expanded-calm =
-              passable-put doing dulls law groups tally visits memo out notes given (s .args .visits) (s .args .to) (s .args .left) some-left (omega (arith, s .pre .1 .0 .2)) (s .args .inverse) names
-              expanded-done calm (s .pre .1 .1 .0) u v expanded-passable
+              passable-put doing dulls law groups tally visits memo out notes given (s .args .visits) (s .args .to) (s .args .left) some-left (omega (arith, s .pre .1 .deep)) (s .args .inverse) names
+              expanded-done calm (s .pre .1 .passable .0) u v expanded-passable
 
 visit-returns : (t : ℕ) → visit-lts.Need-returns (visit-claims t) (visit-at t) visit.Post
 unfolding stateOf CalmAfter
@@ -406,11 +409,11 @@ visit-add-next t c = omega (arith, c .if1 .left)
 
 visit-returns-2 : (t : ℕ) → visit-lts.Need-returns-2 (visit-claims t) (visit-at t) visit.Post
 unfolding stateOf CalmAfter
-visit-returns-2 t c = let s = c .before .before .before .before .before .before .before .before .before .before .before .before .before in (visit-past (doing t s) (groups t s) (s .args .to) (s .args .inverse) (names t s) (given t s) (s .args .visits) (s .args .left) (c .if2 .taken) (omega (arith, c .before .if1 .left)), s .pre .1 .1)
+visit-returns-2 t c = let s = c .before .before .before .before .before .before .before .before .before .before .before .before .before in (visit-past (doing t s) (groups t s) (s .args .to) (s .args .inverse) (names t s) (given t s) (s .args .visits) (s .args .left) (c .if2 .taken) (omega (arith, c .before .if1 .left)), s .pre .1 .passable)
 
 visit-returns-3 : (t : ℕ) → visit-lts.Need-returns-3 (visit-claims t) (visit-at t) visit.Post
 unfolding stateOf CalmAfter
-visit-returns-3 t c = let s = c .before .before .before .before .before .before .before .before .before .before .before .before .before .before in (visit-nothing (doing t s) (groups t s) (s .args .to) (s .args .inverse) (names t s) (given t s) (s .args .visits) (s .args .left) (c .before .if2 .left) (omega (arith, c .before .before .if1 .left)) (c .if3 .taken), s .pre .1 .1)
+visit-returns-3 t c = let s = c .before .before .before .before .before .before .before .before .before .before .before .before .before .before in (visit-nothing (doing t s) (groups t s) (s .args .to) (s .args .inverse) (names t s) (given t s) (s .args .visits) (s .args .left) (c .before .if2 .left) (omega (arith, c .before .before .if1 .left)) (c .if3 .taken), s .pre .1 .passable)
 
 visit-sub-below : (t : ℕ) → visit-lts.Need-sub-below (visit-claims t) (visit-at t) visit.Post
 visit-sub-below t c = omega (arith, c .before .if2 .left)
@@ -419,7 +422,7 @@ visit-mul-place : (t : ℕ) → visit-lts.Need-mul-place (visit-claims t) (visit
 visit-mul-place t c = omega (arith, c .if3 .left)
 
 visit-add-place : (t : ℕ) → visit-lts.Need-add-place (visit-claims t) (visit-at t) visit.Post
-visit-add-place t c = omega (arith, c .if3 .left, c .before .before .before .before .before .before .before .before .before .before .before .before .before .before .pre .1 .0 .2)
+visit-add-place t c = omega (arith, c .if3 .left, c .before .before .before .before .before .before .before .before .before .before .before .before .before .before .pre .1 .deep)
 
 visit-number-at-requires : (t : ℕ) → visit-lts.Need-number-at-requires (visit-claims t) (visit-at t) visit.Post
 visit-number-at-requires t c κs = tt
@@ -538,13 +541,13 @@ visit-same-length-2 t c = refl
 
 visit-returns-5 : (t : ℕ) → visit-lts.Need-returns-5 (visit-claims t) (visit-at t) visit.Post
 unfolding stateOf CalmAfter
-visit-returns-5 t c = (passed-done t (Start·visit-returns-5 t c) (c .before .before .before .before .before .if2 .left) (omega (arith, c .before .before .before .before .before .before .if1 .left)) (c .before .before .number-at .result) (c .before .before .number-at .ensures) (λ z. omega (arith, z, c .before .if4 .taken)) (omega (arith, c .if5 .left, c .before .before .before .before .before .before .if1 .left)), Start·visit-returns-5 t c .pre .1 .1)
+visit-returns-5 t c = (passed-done t (Start·visit-returns-5 t c) (c .before .before .before .before .before .if2 .left) (omega (arith, c .before .before .before .before .before .before .if1 .left)) (c .before .before .number-at .result) (c .before .before .number-at .ensures) (λ z. omega (arith, z, c .before .if4 .taken)) (omega (arith, c .if5 .left, c .before .before .before .before .before .before .if1 .left)), Start·visit-returns-5 t c .pre .1 .passable)
 
 visit-expand-type-requires : (t : ℕ) → visit-lts.Need-expand-type-requires (visit-claims t) (visit-at t) visit.Post
 visit-expand-type-requires t c κs =
     let s = Start·visit-expand-type-requires t c in (
       omega (arith, s .pre .0, c .before .before .before .before .before .before .before .before .if2 .left),
-      ((s .pre .1 .0 .0, s .pre .1 .0 .1, omega (arith, s .pre .1 .0 .2, c .before .before .before .before .before .before .before .before .if2 .left), omega (arith, c .before .before .before .before .before .before .before .before .before .if1 .left)), s .pre .1 .1),
+      record { ready = s .pre .1 .ready; places = s .pre .1 .places; deep = omega (arith, s .pre .1 .deep, c .before .before .before .before .before .before .before .before .if2 .left); few = omega (arith, c .before .before .before .before .before .before .before .before .before .if1 .left); passable = s .pre .1 .passable },
     )
 
 visit-enum-told : (t : ℕ) → visit-lts.Need-enum-told (visit-claims t) (visit-at t) visit.Post
@@ -629,14 +632,14 @@ visit-returns-9 t c = (expanded-done t (Start·visit-returns-9 t c) (Else2·visi
 
 abbrev walk-features-Inv-loop : walk-features-lts.InvT-loop
 walk-features-Inv-loop e nested extends inverses bytes n kept memo₀ out₀ notes₀ calm₀ purpose row inverse prefix len left visits count so-far₀ seen₀ i₀ memo out notes calm so-far seen i =
-    (i ≤ length e / 8) × (length memo ≡ length memo₀) × (length out ≡ length out₀) × (length notes ≡ length notes₀) × (length calm ≡ length calm₀)
+    (i ≤ length e / width letterE) × (length memo ≡ length memo₀) × (length out ≡ length out₀) × (length notes ≡ length notes₀) × (length calm ≡ length calm₀)
     × Ready purpose bytes n kept memo × (seen ≤ 65536)
     × (onFrom (taken purpose bytes n kept) (groupsIn e nested extends inverses) (visitLink (groupsIn e nested extends inverses) left) inverse (take len prefix) row (going (held so-far memo out notes) seen) i
     ≡ run (taken purpose bytes n kept) (going (held so-far₀ memo₀ out₀ notes₀) visits) (walk (groupsIn e nested extends inverses) (visitLink (groupsIn e nested extends inverses) left) inverse (take len prefix) (rowsIn (groupsIn e nested extends inverses) row)))
     × Passable (groupsIn e nested extends inverses) (Dull purpose bytes n kept) (held so-far memo out notes) calm
 
 abbrev walk-features-μ-loop : walk-features-lts.MeasureT-loop
-walk-features-μ-loop e nested extends inverses bytes n kept memo₀ out₀ notes₀ calm₀ purpose row inverse prefix len left visits count so-far₀ seen₀ i₀ memo out notes calm so-far seen i = length e / 8 - i
+walk-features-μ-loop e nested extends inverses bytes n kept memo₀ out₀ notes₀ calm₀ purpose row inverse prefix len left visits count so-far₀ seen₀ i₀ memo out notes calm so-far seen i = length e / width letterE - i
 
 -- ---- `walk_features`, at a row
 
@@ -682,7 +685,7 @@ module _ (t : ℕ) (c : walk-features-lts.After-belongs (walk-claims t) (walk-fe
   Next memo out notes calm tally seen =
       walk-features-Inv-loop (top .args .e .now) (top .args .nested .now) (top .args .extends .now) (top .args .inverses .now) (top .args .bytes .now) (top .args .n .now) (top .args .kept .now)
       (top .args .memo .now) (top .args .out .now) (top .args .notes .now) (top .args .calm .now) (top .args .purpose) (top .args .row) (top .args .inverse) (top .args .prefix) (top .args .len) (top .args .left) (top .args .visits)
-      (length (top .args .e .now) / 8) (top .args .tally) (top .args .visits) 0 memo out notes calm tally seen (row + 1)
+      (length (top .args .e .now) / width letterE) (top .args .tally) (top .args .visits) 0 memo out notes calm tally seen (row + 1)
 
   -- what is to come from this row on
   abbrev here : State
@@ -712,7 +715,7 @@ module _ (t : ℕ) (c : walk-features-lts.After-belongs (walk-claims t) (walk-fe
         (e : (stateOf r memo out notes ≡ run does (going carried (at-row .loop .seen)) (deeper to (top .args .inverse) (take (top .args .len + 1) (set (top .args .prefix) (top .args .len) name))))
         × CalmAfter r groups-here dulls-here memo out notes calm) where
       longer : take (top .args .len + 1) (set (top .args .prefix) (top .args .len) name) ≡ names-here ++ eName (declaredIn [] [] (top .args .e .now)) row ∷ []
-      longer = prefix-more (top .args .prefix) (top .args .len) name (omega (arith, top .pre .1 .0 .1, top .pre .1 .0 .2)) ∙ ap (λ (x : ℕ). names-here ++ x ∷ []) is
+      longer = prefix-more (top .args .prefix) (top .args .len) name (omega (arith, top .pre .1 .places, top .pre .1 .deep)) ∙ ap (λ (x : ℕ). names-here ++ x ∷ []) is
 
       stopped : r ≡ Over → over ≡ here
       stopped =
@@ -741,48 +744,54 @@ walk-features-loop-holds t c =
       refl,
       refl,
       refl,
-      s .pre .1 .0 .0,
-      s .pre .1 .0 .3,
+      s .pre .1 .ready,
+      s .pre .1 .few,
       rw (rows-start (groupsIn (s .args .e .now) (s .args .nested .now) (s .args .extends .now) (s .args .inverses .now)) (s .args .row)),
-      s .pre .1 .1,
+      s .pre .1 .passable,
     )
 
 walk-features-belongs-requires : (t : ℕ) → walk-features-lts.Need-belongs-requires (walk-claims t) (walk-features-at t) walk-features.Post walk-features-Inv-loop walk-features-μ-loop
-walk-features-belongs-requires t c κs = c .loop-test .taken
+walk-features-belongs-requires t c κs = tt
+
+walk-features-name-of-requires : (t : ℕ) → walk-features-lts.Need-name-of-requires (walk-claims t) (walk-features-at t) walk-features.Post walk-features-Inv-loop walk-features-μ-loop
+walk-features-name-of-requires t c κs = tt
+
+walk-features-number-at-requires : (t : ℕ) → walk-features-lts.Need-number-at-requires (walk-claims t) (walk-features-at t) walk-features.Post walk-features-Inv-loop walk-features-μ-loop
+walk-features-number-at-requires t c κs = tt
+
+walk-features-kind-of-requires : (t : ℕ) → walk-features-lts.Need-kind-of-requires (walk-claims t) (walk-features-at t) walk-features.Post walk-features-Inv-loop walk-features-μ-loop
+walk-features-kind-of-requires t c κs = tt
+
+walk-features-direction-of-requires : (t : ℕ) → walk-features-lts.Need-direction-of-requires (walk-claims t) (walk-features-at t) walk-features.Post walk-features-Inv-loop walk-features-μ-loop
+walk-features-direction-of-requires t c κs = tt
+
+walk-features-turn-requires : (t : ℕ) → walk-features-lts.Need-turn-requires (walk-claims t) (walk-features-at t) walk-features.Post walk-features-Inv-loop walk-features-μ-loop
+walk-features-turn-requires t c κs = tt
 
 -- places: the way back from where an answer stands to what it uses
-abbrev Start·walk-features-number-at-requires : (t : ℕ) → walk-features-lts.Then1 (walk-claims t) (walk-features-at t) walk-features.Post walk-features-Inv-loop walk-features-μ-loop → walk-features-lts.Start (walk-claims t) (walk-features-at t) walk-features.Post walk-features-Inv-loop walk-features-μ-loop
-Start·walk-features-number-at-requires t c = c .before .before .before .before .before .before .before .before .before .before .before .before .before .before .before
-
 abbrev Start·walk-features-loop-again : (t : ℕ) → walk-features-lts.Joined1 (walk-claims t) (walk-features-at t) walk-features.Post walk-features-Inv-loop walk-features-μ-loop → walk-features-lts.Start (walk-claims t) (walk-features-at t) walk-features.Post walk-features-Inv-loop walk-features-μ-loop
 Start·walk-features-loop-again t c = c .before .before .before .before .before .before .before .before .before .before .before .before .before .before .before
 
-abbrev Start·walk-features-number-at-requires-3 : (t : ℕ) → walk-features-lts.Then2 (walk-claims t) (walk-features-at t) walk-features.Post walk-features-Inv-loop walk-features-μ-loop → walk-features-lts.Start (walk-claims t) (walk-features-at t) walk-features.Post walk-features-Inv-loop walk-features-μ-loop
-Start·walk-features-number-at-requires-3 t c = Start·walk-features-number-at-requires t (c .before .before .before)
-
 abbrev Start·walk-features-array-write-longer : (t : ℕ) → walk-features-lts.Else2 (walk-claims t) (walk-features-at t) walk-features.Post walk-features-Inv-loop walk-features-μ-loop → walk-features-lts.Start (walk-claims t) (walk-features-at t) walk-features.Post walk-features-Inv-loop walk-features-μ-loop
-Start·walk-features-array-write-longer t c = Start·walk-features-number-at-requires t (c .before .before .before)
-
-abbrev Start·walk-features-number-at-requires-4 : (t : ℕ) → walk-features-lts.After-number-at3 (walk-claims t) (walk-features-at t) walk-features.Post walk-features-Inv-loop walk-features-μ-loop → walk-features-lts.Start (walk-claims t) (walk-features-at t) walk-features.Post walk-features-Inv-loop walk-features-μ-loop
-Start·walk-features-number-at-requires-4 t c = Start·walk-features-number-at-requires-3 t (c .before)
+Start·walk-features-array-write-longer t c = c .before .before .before .before .before .before .before .before .before .before .before .before .before .before .before .before .before .before
 
 abbrev Start·walk-features-visit-requires : (t : ℕ) → walk-features-lts.After-visit-arg4 (walk-claims t) (walk-features-at t) walk-features.Post walk-features-Inv-loop walk-features-μ-loop → walk-features-lts.Start (walk-claims t) (walk-features-at t) walk-features.Post walk-features-Inv-loop walk-features-μ-loop
 Start·walk-features-visit-requires t c = Start·walk-features-array-write-longer t (c .before .before .before .before)
 
 abbrev Start·walk-features-take-feature-requires : (t : ℕ) → walk-features-lts.After-take-feature-arg3 (walk-claims t) (walk-features-at t) walk-features.Post walk-features-Inv-loop walk-features-μ-loop → walk-features-lts.Start (walk-claims t) (walk-features-at t) walk-features.Post walk-features-Inv-loop walk-features-μ-loop
-Start·walk-features-take-feature-requires t c = Start·walk-features-number-at-requires-4 t (c .before .before .before .before .before)
+Start·walk-features-take-feature-requires t c = c .before .before .before .before .before .before .before .before .before .before .before .before .before .before .before .before .before .before .before .before .before .before .before .before
 
 abbrev visit·walk-features-returns : (t : ℕ) → walk-features-lts.After-enum-told (walk-claims t) (walk-features-at t) walk-features.Post walk-features-Inv-loop walk-features-μ-loop → walk-features-lts.After-visit (walk-claims t) (walk-features-at t) walk-features.Post walk-features-Inv-loop walk-features-μ-loop
 visit·walk-features-returns t c = c .before .before .before .before .before .before .before .before .before .before
 
-abbrev number-at2·walk-features-returns : (t : ℕ) → walk-features-lts.After-enum-told (walk-claims t) (walk-features-at t) walk-features.Post walk-features-Inv-loop walk-features-μ-loop → walk-features-lts.After-number-at2 (walk-claims t) (walk-features-at t) walk-features.Post walk-features-Inv-loop walk-features-μ-loop
-number-at2·walk-features-returns t c = visit·walk-features-returns t c .before .before .before .before .before .before
-
 abbrev number-at·walk-features-returns : (t : ℕ) → walk-features-lts.After-enum-told (walk-claims t) (walk-features-at t) walk-features.Post walk-features-Inv-loop walk-features-μ-loop → walk-features-lts.After-number-at (walk-claims t) (walk-features-at t) walk-features.Post walk-features-Inv-loop walk-features-μ-loop
-number-at·walk-features-returns t c = number-at2·walk-features-returns t c .before
+number-at·walk-features-returns t c = visit·walk-features-returns t c .before .before .before .before .before .before
+
+abbrev name-of·walk-features-returns : (t : ℕ) → walk-features-lts.After-enum-told (walk-claims t) (walk-features-at t) walk-features.Post walk-features-Inv-loop walk-features-μ-loop → walk-features-lts.After-name-of (walk-claims t) (walk-features-at t) walk-features.Post walk-features-Inv-loop walk-features-μ-loop
+name-of·walk-features-returns t c = number-at·walk-features-returns t c .before
 
 abbrev Then1·walk-features-returns : (t : ℕ) → walk-features-lts.After-enum-told (walk-claims t) (walk-features-at t) walk-features.Post walk-features-Inv-loop walk-features-μ-loop → walk-features-lts.Then1 (walk-claims t) (walk-features-at t) walk-features.Post walk-features-Inv-loop walk-features-μ-loop
-Then1·walk-features-returns t c = number-at·walk-features-returns t c .before
+Then1·walk-features-returns t c = name-of·walk-features-returns t c .before
 
 abbrev belongs·walk-features-returns : (t : ℕ) → walk-features-lts.After-enum-told (walk-claims t) (walk-features-at t) walk-features.Post walk-features-Inv-loop walk-features-μ-loop → walk-features-lts.After-belongs (walk-claims t) (walk-features-at t) walk-features.Post walk-features-Inv-loop walk-features-μ-loop
 belongs·walk-features-returns t c = Then1·walk-features-returns t c .before
@@ -792,50 +801,23 @@ At-loop·walk-features-returns t c = belongs·walk-features-returns t c .before 
 
 -- end of places
 
-walk-features-mul-place : (t : ℕ) → walk-features-lts.Need-mul-place (walk-claims t) (walk-features-at t) walk-features.Post walk-features-Inv-loop walk-features-μ-loop
-walk-features-mul-place t c = omega (arith, c .before .before .loop-test .taken, Start·walk-features-number-at-requires t c .good .0)
-
-walk-features-add-number-at : (t : ℕ) → walk-features-lts.Need-add-number-at (walk-claims t) (walk-features-at t) walk-features.Post walk-features-Inv-loop walk-features-μ-loop
-walk-features-add-number-at t c = omega (arith, c .before .before .loop-test .taken, Start·walk-features-number-at-requires t c .good .0)
-
-walk-features-number-at-requires : (t : ℕ) → walk-features-lts.Need-number-at-requires (walk-claims t) (walk-features-at t) walk-features.Post walk-features-Inv-loop walk-features-μ-loop
-walk-features-number-at-requires t c κs = tt
-
-walk-features-number-at-requires-2 : (t : ℕ) → walk-features-lts.Need-number-at-requires-2 (walk-claims t) (walk-features-at t) walk-features.Post walk-features-Inv-loop walk-features-μ-loop
-walk-features-number-at-requires-2 t c κs = tt
-
-walk-features-add-number-at-2 : (t : ℕ) → walk-features-lts.Need-add-number-at-2 (walk-claims t) (walk-features-at t) walk-features.Post walk-features-Inv-loop walk-features-μ-loop
-walk-features-add-number-at-2 t c = omega (arith, c .before .before .before .before .before .loop-test .taken, Start·walk-features-number-at-requires-3 t c .good .0)
-
-walk-features-number-at-requires-3 : (t : ℕ) → walk-features-lts.Need-number-at-requires-3 (walk-claims t) (walk-features-at t) walk-features.Post walk-features-Inv-loop walk-features-μ-loop
-walk-features-number-at-requires-3 t c κs = tt
-
-walk-features-add-number-at-3 : (t : ℕ) → walk-features-lts.Need-add-number-at-3 (walk-claims t) (walk-features-at t) walk-features.Post walk-features-Inv-loop walk-features-μ-loop
-walk-features-add-number-at-3 t c = omega (arith, c .before .before .before .before .before .before .loop-test .taken, Start·walk-features-number-at-requires-4 t c .good .0)
-
-walk-features-number-at-requires-4 : (t : ℕ) → walk-features-lts.Need-number-at-requires-4 (walk-claims t) (walk-features-at t) walk-features.Post walk-features-Inv-loop walk-features-μ-loop
-walk-features-number-at-requires-4 t c κs = tt
-
-walk-features-turn-requires : (t : ℕ) → walk-features-lts.Need-turn-requires (walk-claims t) (walk-features-at t) walk-features.Post walk-features-Inv-loop walk-features-μ-loop
-walk-features-turn-requires t c κs = tt
-
 walk-features-take-feature-requires : (t : ℕ) → walk-features-lts.Need-take-feature-requires (walk-claims t) (walk-features-at t) walk-features.Post walk-features-Inv-loop walk-features-μ-loop
-walk-features-take-feature-requires t c κs = let s = Start·walk-features-take-feature-requires t c in (omega (arith, s .pre .1 .0 .2), s .pre .1 .0 .1, c .before .before .before .before .before .before .before .before .before .before .before .before .loop .inv .5)
+walk-features-take-feature-requires t c κs = let s = Start·walk-features-take-feature-requires t c in (omega (arith, s .pre .1 .deep), s .pre .1 .places, c .before .before .before .before .before .before .before .before .before .before .before .before .loop .inv .5)
 
 walk-features-mul-longer : (t : ℕ) → walk-features-lts.Need-mul-longer (walk-claims t) (walk-features-at t) walk-features.Post walk-features-Inv-loop walk-features-μ-loop
-walk-features-mul-longer t c = omega (arith, Start·walk-features-array-write-longer t c .pre .1 .0 .2)
+walk-features-mul-longer t c = omega (arith, Start·walk-features-array-write-longer t c .pre .1 .deep)
 
 walk-features-array-write-longer : (t : ℕ) → walk-features-lts.Need-array-write-longer (walk-claims t) (walk-features-at t) walk-features.Post walk-features-Inv-loop walk-features-μ-loop
-walk-features-array-write-longer t c = omega (arith, Start·walk-features-array-write-longer t c .pre .1 .0 .1, Start·walk-features-array-write-longer t c .pre .1 .0 .2)
+walk-features-array-write-longer t c = omega (arith, Start·walk-features-array-write-longer t c .pre .1 .places, Start·walk-features-array-write-longer t c .pre .1 .deep)
 
 walk-features-add-visit : (t : ℕ) → walk-features-lts.Need-add-visit (walk-claims t) (walk-features-at t) walk-features.Post walk-features-Inv-loop walk-features-μ-loop
-walk-features-add-visit t c = omega (arith, Start·walk-features-visit-requires t c .pre .1 .0 .2)
+walk-features-add-visit t c = omega (arith, Start·walk-features-visit-requires t c .pre .1 .deep)
 
 walk-features-visit-requires : (t : ℕ) → walk-features-lts.Need-visit-requires (walk-claims t) (walk-features-at t) walk-features.Post walk-features-Inv-loop walk-features-μ-loop
 walk-features-visit-requires t c κs =
     let s = Start·walk-features-visit-requires t c in (
       omega (arith, s .pre .0),
-      ((c .before .before .before .before .before .before .before .before .before .before .loop .inv .5, length-set (s .args .prefix) (s .args .len) (c .before .before .before .before .before .before .number-at .result) ∙ s .pre .1 .0 .1, omega (arith, s .pre .1 .0 .2)), c .before .before .before .before .before .before .before .before .before .before .loop .inv .8),
+      record { ready = c .before .before .before .before .before .before .before .before .before .before .loop .inv .5; places = length-set (s .args .prefix) (s .args .len) (c .before .before .before .before .before .before .name-of .result) ∙ s .pre .1 .places; deep = omega (arith, s .pre .1 .deep); passable = c .before .before .before .before .before .before .before .before .before .before .loop .inv .8 },
     )
 
 walk-features-enum-told : (t : ℕ) → walk-features-lts.Need-enum-told (walk-claims t) (walk-features-at t) walk-features.Post walk-features-Inv-loop walk-features-μ-loop
@@ -856,7 +838,7 @@ walk-features-same-length-4 t c = visit·walk-features-returns t c .visit .kept 
 walk-features-returns : (t : ℕ) → walk-features-lts.Need-returns (walk-claims t) (walk-features-at t) walk-features.Post walk-features-Inv-loop walk-features-μ-loop
 unfolding stateOf CalmAfter
 walk-features-returns t c = (
-  stopped t (belongs·walk-features-returns t c) (Then1·walk-features-returns t c .if1 .taken) (number-at2·walk-features-returns t c .number-at2 .result) (number-at2·walk-features-returns t c .number-at2 .ensures) (c .before .before .before .before .before .before .before .before .before .before .before .before .before .before .before .if2 .left) (number-at·walk-features-returns t c .number-at .result) (number-at·walk-features-returns t c .number-at .ensures)
+  stopped t (belongs·walk-features-returns t c) (Then1·walk-features-returns t c .if1 .taken) (number-at·walk-features-returns t c .number-at .result) (number-at·walk-features-returns t c .number-at .ensures) (c .before .before .before .before .before .before .before .before .before .before .before .before .before .before .before .if2 .left) (name-of·walk-features-returns t c .name-of .result) (name-of·walk-features-returns t c .name-of .ensures)
       (visit·walk-features-returns t c .visit .result) (visit·walk-features-returns t c .visit .last .1 .1 .1 .1 .1 .1 .1 .0) (visit·walk-features-returns t c .visit .last .1 .1 .1 .1 .1 .1 .1 .1 .0) (visit·walk-features-returns t c .visit .last .1 .1 .1 .1 .1 .1 .1 .1 .1 .0) (visit·walk-features-returns t c .visit .last .1 .1 .1 .1 .1 .1 .1 .1 .1 .1 .0) (visit·walk-features-returns t c .visit .ensures) (c .enum-told .given .1)
       ∙ At-loop·walk-features-returns t c .loop .inv .7,
   tt,
@@ -1011,14 +993,10 @@ pub +expand-type+visit+walk-features-spec : {M : Type 1} → statement M
     walk-features-μ-loop
     (walk-features-loop-holds t)
     (walk-features-belongs-requires t)
-    (walk-features-mul-place t)
-    (walk-features-add-number-at t)
+    (walk-features-name-of-requires t)
     (walk-features-number-at-requires t)
-    (walk-features-number-at-requires-2 t)
-    (walk-features-add-number-at-2 t)
-    (walk-features-number-at-requires-3 t)
-    (walk-features-add-number-at-3 t)
-    (walk-features-number-at-requires-4 t)
+    (walk-features-kind-of-requires t)
+    (walk-features-direction-of-requires t)
     (walk-features-turn-requires t)
     (walk-features-take-feature-requires t)
     (walk-features-mul-longer t)

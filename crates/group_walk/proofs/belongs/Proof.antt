@@ -4,29 +4,21 @@ use borrow.Author.Needs.{needs}
 use Rattle.group_walk.proofs.belongs.Statement.{statement}
 use Rattle.group_walk.proofs.belongs.Tie as tie
 
-mul-place : tie.Need-mul-place
-mul-place c = search needs
-
-add-number-at : tie.Need-add-number-at
-add-number-at c = search needs
-
-number-at-requires : tie.Need-number-at-requires
-number-at-requires c κs = tt
+holder-of-requires : tie.Need-holder-of-requires
+holder-of-requires c κs = search needs
 
 returns : tie.Need-returns
 returns c =
     let s = c .before .before .before .args in
-    not-of (s .e .now) (s .row) (s .i) (c .before .number-at .result) (c .before .number-at .ensures) (c .if1 .taken)
+    not-of (s .e .now) (s .row) (s .i) (c .before .holder-of .result) (c .before .holder-of .ensures) (c .if1 .taken)
 
-number-at-requires-2 : tie.Need-number-at-requires-2
-number-at-requires-2 c κs = tt
+holder-kind-of-requires : tie.Need-holder-kind-of-requires
+holder-kind-of-requires c κs = search needs
 
 returns-2 : tie.Need-returns-2
 returns-2 c =
     let s = c .before .before .before .before .args in
-    of-by (s .e .now) (s .row) (s .i) (c .before .before .number-at .result) (c .number-at2 .result) (c .before .before .number-at .ensures) (c .before .if1 .left) (c .number-at2 .ensures)
+    of-by (s .e .now) (s .row) (s .i) (c .before .before .holder-of .result) (c .holder-kind-of .result) (c .before .before .holder-of .ensures) (c .before .if1 .left) (c .holder-kind-of .ensures)
 
 pub belongs-spec : {M : Type 1} → statement M
-belongs-spec =
-    tie.close
-    (tie.spec mul-place add-number-at number-at-requires returns number-at-requires-2 returns-2)
+belongs-spec = tie.close (tie.spec holder-of-requires returns holder-kind-of-requires returns-2)

@@ -1,9 +1,13 @@
 -- `instance::compute_semantic_connections` meets its contract: what it gives stands in outputs that were zeros, and after a refusal they are cleared. Assumes nothing.
 use Rattle.instance.proofs.Answers.{given-call, refused-call}
-use Rattle.as5506.specs.Tables.{tablesOf}
+use Rattle.as5506.specs.Tables.{Tables, tablesOf}
 use borrow.Author.Needs.{needs}
 use Rattle.instance.proofs.compute_semantic_connections.Statement.{statement}
 use Rattle.instance.proofs.compute_semantic_connections.Tie as tie
+
+-- the tables that the call is lent
+abbrev model : tie.Start → Tables
+model s = tablesOf (s .args .bytes .now) (s .args .n .now) (s .args .c .now) (s .args .f .now) (s .args .x .now) (s .args .p .now) (s .args .i .now) (s .args .t .now) (s .args .q .now) (s .args .u .now) (s .args .e .now) (s .args .r .now)
 
 clear-numbers-requires : tie.Need-clear-numbers-requires
 clear-numbers-requires c κs = search needs
@@ -52,8 +56,9 @@ Start·returns-2 c = clear-numbers·returns-2 c .before .before .before .before 
 
 returns : tie.Need-returns
 returns c =
-    let a = Start·returns c .args in
-    let m = tablesOf (a .bytes .now) (a .n .now) (a .c .now) (a .f .now) (a .x .now) (a .p .now) (a .i .now) (a .t .now) (a .q .now) (a .u .now) (a .e .now) (a .r .now) in
+    let s = Start·returns c in
+    let a = s .args in
+    let m = model s in
     given-call m (a .rows .now) (a .diagnostics .now) _ _ (c .before .before .before .before .before .before .before .before .before .before .before .before .before .before .before .clear-numbers .ensures) (c .before .before .before .before .before .before .before .before .before .before .before .clear-numbers2 .ensures) _ (c .before .before .before .before .before .before .list .last .1 .1 .1 .1 .1 .1 .1 .1 .1 .1 .1 .1 .0) (c .before .before .before .before .before .before .list .last .1 .1 .1 .1 .1 .1 .1 .1 .1 .1 .1 .1 .1 .0) (c .before .before .before .before .before .before .list .ensures) _ _ (c .enum-told .given .1)
 
 same-length-3 : tie.Need-same-length-3
@@ -64,8 +69,9 @@ same-length-4 c = search needs
 
 returns-2 : tie.Need-returns-2
 returns-2 c =
-    let a = Start·returns-2 c .args in
-    let m = tablesOf (a .bytes .now) (a .n .now) (a .c .now) (a .f .now) (a .x .now) (a .p .now) (a .i .now) (a .t .now) (a .q .now) (a .u .now) (a .e .now) (a .r .now) in
+    let s = Start·returns-2 c in
+    let a = s .args in
+    let m = model s in
     refused-call m (a .rows .now) (a .diagnostics .now) _ _ (clear-numbers·returns-2 c .clear-numbers .ensures) (clear-numbers2·returns-2 c .clear-numbers2 .ensures) _ (list·returns-2 c .list .last .1 .1 .1 .1 .1 .1 .1 .1 .1 .1 .1 .1 .0) (list·returns-2 c .list .last .1 .1 .1 .1 .1 .1 .1 .1 .1 .1 .1 .1 .1 .0) (list·returns-2 c .list .ensures)
     _ (c .before .before .before .before .before .before .before .before .enum-told2 .given .1) (list·returns-2 c .list .kept .1 .1 .1 .1 .1 .1 .1 .1 .1 .1 .1 .1 .0) (list·returns-2 c .list .kept .1 .1 .1 .1 .1 .1 .1 .1 .1 .1 .1 .1 .1 .0) _ _ (c .before .before .before .before .before .before .clear-numbers3 .ensures) (c .before .before .clear-numbers4 .ensures)
 

@@ -1,11 +1,14 @@
 -- `instance::list` meets its contract. Each way out is a law of proofs/Answers.antt. Assumes nothing.
-use Rattle.instance.proofs.Answers.{tables-refused, lists-11, lists-12, lists-both}
+use Rattle.instance.proofs.Answers.{can-trace, tables-refused, lists-11, lists-12, lists-both}
 use Rattle.tables.proofs.Answers.{accepted-is}
-use Rattle.tables.proofs.Facts.{facts}
-use Rattle.as5506.specs.Tables.{tablesOf, letterC, letterX}
+use Rattle.as5506.specs.Tables.{Tables, tablesOf}
 use borrow.Author.Needs.{needs}
 use Rattle.instance.proofs.list.Statement.{statement}
 use Rattle.instance.proofs.list.Tie as tie
+
+-- the tables that the call is lent
+abbrev model : tie.Start → Tables
+model s = tablesOf (s .args .bytes .now) (s .args .n .now) (s .args .c .now) (s .args .f .now) (s .args .x .now) (s .args .p .now) (s .args .i .now) (s .args .t .now) (s .args .q .now) (s .args .u .now) (s .args .e .now) (s .args .r .now)
 
 check-tables-requires : tie.Need-check-tables-requires
 check-tables-requires c κs = search needs
@@ -42,8 +45,9 @@ Start·returns-4 c = Start·diagnose-connections-requires (c .before .before .be
 
 returns : tie.Need-returns
 returns c =
-    let a = Start·returns c .args in
-    let m = tablesOf (a .bytes .now) (a .n .now) (a .c .now) (a .f .now) (a .x .now) (a .p .now) (a .i .now) (a .t .now) (a .q .now) (a .u .now) (a .e .now) (a .r .now) in
+    let s = Start·returns c in
+    let a = s .args in
+    let m = model s in
     tables-refused m (a .rows .now) (a .diagnostics .now) _ (c .before .before .before .check-tables .ensures) _ (c .before .reason .given .1) _ _
 
 enum-told : tie.Need-enum-told
@@ -51,10 +55,9 @@ enum-told c = search needs
 
 trace-connections-requires : tie.Need-trace-connections-requires
 trace-connections-requires c κs =
-    let a = Start·trace-connections-requires c .args in
-    let m = tablesOf (a .bytes .now) (a .n .now) (a .c .now) (a .f .now) (a .x .now) (a .p .now) (a .i .now) (a .t .now) (a .q .now) (a .u .now) (a .e .now) (a .r .now) in
+    let m = model (Start·trace-connections-requires c) in
     let ok = accepted-is m _ (c .before .before .before .check-tables .ensures) (c .before .enum-told .given .1) in
-    (facts m ok .few letterC, facts m ok .few letterX)
+    can-trace m ok
 
 enum-known-k : tie.Need-enum-known-k
 enum-known-k c = search needs
@@ -70,17 +73,17 @@ same-length c = search needs
 
 returns-2 : tie.Need-returns-2
 returns-2 c =
-    let a = Start·returns-2 c .args in
-    let m = tablesOf (a .bytes .now) (a .n .now) (a .c .now) (a .f .now) (a .x .now) (a .p .now) (a .i .now) (a .t .now) (a .q .now) (a .u .now) (a .e .now) (a .r .now) in
+    let s = Start·returns-2 c in
+    let a = s .args in
+    let m = model s in
     let ok = accepted-is m _ (c .before .before .before .before .before .before .before .before .before .check-tables .ensures) (c .before .before .before .before .before .before .before .enum-told .given .1) in
     lists-11 m (a .rows .now) (a .diagnostics .now) ok _ _ (c .before .before .before .before .before .trace-connections .ensures) (c .before .enum-told2 .given .1) _ (c .unplaced .ensures) _ _
 
 diagnose-connections-requires : tie.Need-diagnose-connections-requires
 diagnose-connections-requires c κs =
-    let a = Start·diagnose-connections-requires c .args in
-    let m = tablesOf (a .bytes .now) (a .n .now) (a .c .now) (a .f .now) (a .x .now) (a .p .now) (a .i .now) (a .t .now) (a .q .now) (a .u .now) (a .e .now) (a .r .now) in
+    let m = model (Start·diagnose-connections-requires c) in
     let ok = accepted-is m _ (c .before .before .before .before .before .before .before .before .before .before .check-tables .ensures) (c .before .before .before .before .before .before .before .before .enum-told .given .1) in
-    (facts m ok .few letterC, facts m ok .few letterX)
+    can-trace m ok
 
 enum-known-d : tie.Need-enum-known-d
 enum-known-d c = search needs
@@ -99,8 +102,9 @@ same-length-3 c = search needs
 
 returns-3 : tie.Need-returns-3
 returns-3 c =
-    let a = Start·returns-3 c .args in
-    let m = tablesOf (a .bytes .now) (a .n .now) (a .c .now) (a .f .now) (a .x .now) (a .p .now) (a .i .now) (a .t .now) (a .q .now) (a .u .now) (a .e .now) (a .r .now) in
+    let s = Start·returns-3 c in
+    let a = s .args in
+    let m = model s in
     let ok = accepted-is m _ (check-tables·returns-3 c .check-tables .ensures) (c .before .before .before .before .before .before .before .before .before .before .before .before .before .before .enum-told .given .1) in
     lists-12 m (a .rows .now) (a .diagnostics .now) ok _ _ (c .before .before .before .before .before .before .before .before .before .before .before .before .trace-connections .ensures) _ (c .before .before .before .before .before .before .before .before .k .given .1)
     _ _ (c .before .before .before .before .before .diagnose-connections .ensures) (c .before .enum-told3 .given .1) _ (c .unplaced2 .ensures) _ _
@@ -113,8 +117,9 @@ same-length-5 c = search needs
 
 returns-4 : tie.Need-returns-4
 returns-4 c =
-    let a = Start·returns-4 c .args in
-    let m = tablesOf (a .bytes .now) (a .n .now) (a .c .now) (a .f .now) (a .x .now) (a .p .now) (a .i .now) (a .t .now) (a .q .now) (a .u .now) (a .e .now) (a .r .now) in
+    let s = Start·returns-4 c in
+    let a = s .args in
+    let m = model s in
     let ok = accepted-is m _ (check-tables·returns-4 c .check-tables .ensures) (c .before .before .before .before .before .before .before .before .before .before .before .before .before .before .enum-told .given .1) in
     lists-both m (a .rows .now) (a .diagnostics .now) ok _ _ (c .before .before .before .before .before .before .before .before .before .before .before .before .trace-connections .ensures) _ (c .before .before .before .before .before .before .before .before .k .given .1)
     _ _ (c .before .before .before .before .before .diagnose-connections .ensures) _ (c .before .d .given .1)

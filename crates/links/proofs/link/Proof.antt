@@ -1,8 +1,8 @@
 -- `links::link` meets its contract. Each case of what the resolver answers, read as a link. Assumes nothing.
-use mathlib.Core.List.{List, []}
-use Prim.Native.Nat.{ℕ}
+use mathlib.Core.List.{[]}
 use native.Mathlib.Omega.{arith}
-use Rattle.as5506.specs.Tables.{Tables, tablesOf, Ref, ref}
+use Rattle.as5506.specs.Tables.{Tables, Ref, ref}
+use Rattle.lent.specs.Lent.{withPackages, namesIn}
 use Rattle.resolver.proofs.Answers.{located}
 use Rattle.links.proofs.Rows.{link-means}
 use borrow.Author.Needs.{needs}
@@ -10,8 +10,8 @@ use Rattle.links.proofs.link.Statement.{statement}
 use Rattle.links.proofs.link.Tie as tie
 
 -- the tables that are asked, whatever the others are
-abbrev model : tie.Start → (c f x e : List ℕ) → Tables
-model s c f x e = tablesOf (s .args .bytes .now) (s .args .n .now) c f x (s .args .p .now) (s .args .i .now) (s .args .t .now) (s .args .q .now) (s .args .u .now) e (s .args .r .now)
+abbrev model : tie.Start → Tables → Tables
+model s o = withPackages (s .args .bytes .now) (s .args .n .now) (s .args .p .now) (s .args .i .now) (s .args .t .now) (s .args .q .now) (s .args .u .now) (s .args .r .now) o
 
 abbrev reference : tie.Start → Ref
 reference s = ref (s .args .«package») (s .args .type-name) (s .args .implementation)
@@ -37,26 +37,26 @@ Start·returns-3 c = c .before .before .before .before .before .before .before .
 cast-result : tie.Need-cast-result
 cast-result c =
     let s = Start·returns-3 c in
-    omega (arith, s .pre, located (model s [] [] [] []) (s .args .from) (reference s) _ _ (c .before .before .before .resolve-classifier .ensures [] [] [] []) (c .before .found .given .1) .0)
+    omega (arith, s .pre, located (model s (namesIn [] [])) (s .args .from) (reference s) _ _ (c .before .before .before .resolve-classifier .ensures (namesIn [] [])) (c .before .found .given .1) .0)
 
 enum-told-3 : tie.Need-enum-told-3
 enum-told-3 c = search needs
 
 returns : tie.Need-returns
 returns c =
-    let s = c .before .before .before .before .before .before .before .before .before .before .before in λ c₁ f x e. link-means (model s c₁ f x e) (s .args .from) (reference s) _ _ (c .before .before .resolve-classifier .ensures c₁ f x e) (c .enum-told .given .1)
+    let s = c .before .before .before .before .before .before .before .before .before .before .before in λ o. link-means (model s o) (s .args .from) (reference s) _ _ (c .before .before .resolve-classifier .ensures o) (c .enum-told .given .1)
 
 returns-2 : tie.Need-returns-2
 returns-2 c =
-    let s = c .before .before .before .before .before .before .before .before .before .before .before in λ c₁ f x e. link-means (model s c₁ f x e) (s .args .from) (reference s) _ _ (c .before .before .resolve-classifier .ensures c₁ f x e) (c .enum-told2 .given .1)
+    let s = c .before .before .before .before .before .before .before .before .before .before .before in λ o. link-means (model s o) (s .args .from) (reference s) _ _ (c .before .before .resolve-classifier .ensures o) (c .enum-told2 .given .1)
 
 returns-3 : tie.Need-returns-3
 returns-3 c =
-    let s = Start·returns-3 c in λ c₁ f x e. link-means (model s c₁ f x e) (s .args .from) (reference s) _ _ (c .before .before .before .resolve-classifier .ensures c₁ f x e) (c .before .found .given .1)
+    let s = Start·returns-3 c in λ o. link-means (model s o) (s .args .from) (reference s) _ _ (c .before .before .before .resolve-classifier .ensures o) (c .before .found .given .1)
 
 returns-4 : tie.Need-returns-4
 returns-4 c =
-    let s = c .before .before .before .before .before .before .before .before .before .before .before in λ c₁ f x e. link-means (model s c₁ f x e) (s .args .from) (reference s) _ _ (c .before .before .resolve-classifier .ensures c₁ f x e) (c .enum-told3 .given .1)
+    let s = c .before .before .before .before .before .before .before .before .before .before .before in λ o. link-means (model s o) (s .args .from) (reference s) _ _ (c .before .before .resolve-classifier .ensures o) (c .enum-told3 .given .1)
 
 pub link-spec : {M : Type 1} → statement M
 link-spec =

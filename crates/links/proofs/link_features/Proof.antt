@@ -1,12 +1,12 @@
 -- `links::link_features` meets its contract. The invariant: the table has the links of the rows below `row`. The measure: the rows that are left. Assumes nothing.
 use mathlib.Core.Path.{_≡_, refl, ap, _∙_}
-use mathlib.Core.List.{List}
-use Prim.Native.Nat.{ℕ, _-_, _/_, _<_}
+use Prim.Native.Nat.{_-_, _/_, _<_}
 use native.Mathlib.Nat.{div-le-self}
 use native.Mathlib.Omega.{arith}
 use lib.ListN.{length, length-set}
 use borrow.Author.Needs.{needs}
-use Rattle.as5506.specs.Tables.{tablesOf}
+use Rattle.as5506.specs.Tables.{Tables, width, letterE}
+use Rattle.lent.specs.Lent.{withE, withPackages}
 use Rattle.links.specs.Links.{nestedLink, Holds}
 use Rattle.links.proofs.Rows.{holds-none, holds-turn, holds-end}
 use Rattle.links.proofs.link_features.Statement.{statement}
@@ -14,16 +14,16 @@ use Rattle.links.proofs.link_features.Tie as tie
 
 abbrev Inv-loop : tie.InvT-loop
 Inv-loop bytes n p i t q u e r nested₀ count row₀ nested row =
-    (length nested ≡ length nested₀) × ((c f x : List ℕ) → Holds (nestedLink (tablesOf bytes n c f x p i t q u e r)) nested row)
+    (length nested ≡ length nested₀) × ((o : Tables) → Holds (nestedLink (withPackages bytes n p i t q u r (withE e o))) nested row)
 
 abbrev μ-loop : tie.MeasureT-loop
-μ-loop bytes n p i t q u e r nested₀ count row₀ nested row = length e / 8 - row
+μ-loop bytes n p i t q u e r nested₀ count row₀ nested row = length e / width letterE - row
 
 loop-holds : tie.Need-loop-holds Inv-loop μ-loop
-loop-holds c = (refl, λ c₁ f x. holds-none _ _)
+loop-holds c = (refl, λ o. holds-none _ _)
 
 link-feature-requires : tie.Need-link-feature-requires Inv-loop μ-loop
-link-feature-requires c κs = (c .before .before .before .before .before .before .before .before .before .before .before .before .pre .0, c .loop-test .taken)
+link-feature-requires c κs = c .before .before .before .before .before .before .before .before .before .before .before .before .pre .few-types
 
 put-number-requires : tie.Need-put-number-requires Inv-loop μ-loop
 put-number-requires c κs = search needs
@@ -35,7 +35,7 @@ Start·loop-again c = c .before .before .before .before .before .before .before 
 -- end of places
 
 add-row : tie.Need-add-row Inv-loop μ-loop
-add-row c = omega (arith, div-le-self (length (Start·loop-again c .args .e .now)) 8, c .before .before .before .before .before .loop-test .taken)
+add-row c = omega (arith, div-le-self (length (Start·loop-again c .args .e .now)) (width letterE), c .before .before .before .before .before .loop-test .taken)
 
 loop-less : tie.Need-loop-less Inv-loop μ-loop
 loop-less c = omega (arith, c .before .before .before .before .before .loop-test .taken)
@@ -44,14 +44,14 @@ loop-again : tie.Need-loop-again Inv-loop μ-loop
 loop-again c =
     let l = c .before .before .before .before .before .before .loop in
     let put = c .before .before .put-number .ensures in
-    let room : l .row < length (l .nested) = omega (arith, c .before .before .before .before .before .loop-test .taken, Start·loop-again c .pre .1, l .inv .0) in
-    (ap length put ∙ length-set (l .nested) (l .row) _ ∙ l .inv .0, λ c₁ f x. holds-turn _ _ _ _ _ room (c .before .before .before .before .link-feature .ensures c₁ f x) put (l .inv .1 c₁ f x))
+    let room : l .row < length (l .nested) = omega (arith, c .before .before .before .before .before .loop-test .taken, Start·loop-again c .pre .fits-nested, l .inv .0) in
+    (ap length put ∙ length-set (l .nested) (l .row) _ ∙ l .inv .0, λ o. holds-turn _ _ _ _ _ room (c .before .before .before .before .link-feature .ensures o) put (l .inv .1 o))
 
 same-length : tie.Need-same-length Inv-loop μ-loop
 same-length c = c .before .loop .inv .0
 
 returns : tie.Need-returns Inv-loop μ-loop
-returns c = λ c₁ f x. holds-end _ _ _ _ (omega arith) (c .before .loop .inv .1 c₁ f x)
+returns c = λ o. holds-end _ _ _ _ (omega arith) (c .before .loop .inv .1 o)
 
 pub link-features-spec : {M : Type 1} → statement M
 link-features-spec =

@@ -1,6 +1,6 @@
 -- `resolver::from_imports` meets its contract. The invariant: what the imports from row `start` on give is what all give. The measure: the rows that are left. Assumes nothing.
 use mathlib.Core.Path.{_≡_, sym, ap, _∙_}
-use mathlib.Core.List.{List, [], map}
+use mathlib.Core.List.{[], map}
 use mathlib.Core.Bool.{false}
 use mathlib.Core.Option.{some}
 use Prim.Native.Nat.{ℕ, _-_, _/_, _≤_, _<_}
@@ -9,8 +9,9 @@ use lib.ListN.{length}
 use borrow.Author.Needs.{needs}
 use Rattle.as5506.specs.Names.{key}
 use Rattle.as5506.specs.Lists.{firstOf}
-use Rattle.as5506.specs.Tables.{Tables, tablesOf, Ref, ref}
+use Rattle.as5506.specs.Tables.{Tables, Ref, ref}
 use Rattle.as5506.specs.Resolve.{packageNamed, inFound, firstFound, fromImports}
+use Rattle.lent.specs.Lent.{withNames, withP, withI, withTypes, namesIn}
 use Rattle.resolver.specs.declared.Resolved.{Resolved}
 use Rattle.resolver.specs.Found.{rowOf, found}
 use Rattle.resolver.proofs.Keys.{import-rows}
@@ -21,8 +22,8 @@ use Rattle.resolver.proofs.from_imports.Tie as tie
 
 abbrev Inv-loop : tie.InvT-loop
 Inv-loop bytes n p i t q u asking type-name implementation key₀ start₀ start =
-    (c f x e r : List ℕ) (name : ℕ) →
-    let m : Tables = tablesOf bytes n c f x p i t q u e r in
+    (o : Tables) (name : ℕ) →
+    let m : Tables = withNames bytes n (withP p (withI i (withTypes t q u o))) in
     let k : Ref = ref name type-name implementation in
     fromImports m asking k ≡ firstFound (map (imported m k) (importsFrom m asking start))
 
@@ -30,8 +31,8 @@ abbrev μ-loop : tie.MeasureT-loop
 μ-loop bytes n p i t q u asking type-name implementation key₀ start₀ start = length i / 2 - start
 
 -- the tables that are asked, whatever the others are
-abbrev model : tie.Start Inv-loop μ-loop → (c f x e r : List ℕ) → Tables
-model s c f x e r = tablesOf (s .args .bytes .now) (s .args .n .now) c f x (s .args .p .now) (s .args .i .now) (s .args .t .now) (s .args .q .now) (s .args .u .now) e r
+abbrev model : tie.Start Inv-loop μ-loop → Tables → Tables
+model s o = withNames (s .args .bytes .now) (s .args .n .now) (withP (s .args .p .now) (withI (s .args .i .now) (withTypes (s .args .t .now) (s .args .q .now) (s .args .u .now) o)))
 
 abbrev reference : tie.Start Inv-loop μ-loop → ℕ → Ref
 reference s name = ref name (s .args .type-name) (s .args .implementation)
@@ -40,37 +41,37 @@ abbrev entry : tie.At-loop Inv-loop μ-loop → tie.Start Inv-loop μ-loop
 entry c = c .before .before .before .before .before .before .before .before
 
 -- the scan for the next import
-module _ (c : tie.After-find-row Inv-loop μ-loop) (c₁ f x e r : List ℕ) where
-  scanned : let s = entry (c .before) in rowOf (c .find-row .result) ≡ firstOf (importsFrom (model s c₁ f x e r) (s .args .asking) (c .before .loop .start))
-  scanned = let s = entry (c .before) in c .find-row .ensures ∙ ap firstOf (import-rows (model s c₁ f x e r) (s .args .asking) (c .before .loop .start))
+module _ (c : tie.After-find-row Inv-loop μ-loop) (o : Tables) where
+  scanned : let s = entry (c .before) in rowOf (c .find-row .result) ≡ firstOf (importsFrom (model s o) (s .args .asking) (c .before .loop .start))
+  scanned = let s = entry (c .before) in c .find-row .ensures ∙ ap firstOf (import-rows (model s o) (s .args .asking) (c .before .loop .start))
 
 -- its row
 module _ (c : tie.After-known-told Inv-loop μ-loop) where
   abbrev loop : tie.At-loop Inv-loop μ-loop
   loop = c .before .before .before .before
 
-  row-at : (c₁ f x e r : List ℕ) → some (c .before .row .given .0 .0) ≡ firstOf (importsFrom (model (entry loop) c₁ f x e r) (entry loop .args .asking) (loop .loop .start))
-  row-at c₁ f x e r = at-row _ _ _ (c .before .row .given .1) (scanned (c .before .before .before) c₁ f x e r)
+  row-at : (o : Tables) → some (c .before .row .given .0 .0) ≡ firstOf (importsFrom (model (entry loop) o) (entry loop .args .asking) (loop .loop .start))
+  row-at o = at-row _ _ _ (c .before .row .given .1) (scanned (c .before .before .before) o)
 
   row-bound : (loop .loop .start ≤ c .before .row .given .0 .0) × (c .before .row .given .0 .0 < length (entry loop .args .i .now) / 2)
-  row-bound = import-row (model (entry loop) [] [] [] [] []) (entry loop .args .asking) (reference (entry loop) 0) (loop .loop .start) _ (row-at [] [] [] [] [])
+  row-bound = import-row (model (entry loop) (namesIn [] [])) (entry loop .args .asking) (reference (entry loop) 0) (loop .loop .start) _ (row-at (namesIn [] []))
 
 -- what the import gives
-module _ (c : tie.After-resolve-in-package Inv-loop μ-loop) (c₁ f x e r : List ℕ) (name : ℕ) where
+module _ (c : tie.After-resolve-in-package Inv-loop μ-loop) (o : Tables) (name : ℕ) where
   abbrev from : tie.Start Inv-loop μ-loop
   from = entry (c .before .before .before .before .before .before)
 
   abbrev asks : ℕ → Resolved
-  asks v = let m = model from c₁ f x e r in found m (inFound m false (reference from name) (packageNamed m (key m v)))
+  asks v = let m = model from o in found m (inFound m false (reference from name) (packageNamed m (key m v)))
 
   asked : c .resolve-in-package .result ≡ asks (c .before .field .result)
-  asked = c .resolve-in-package .ensures c₁ f x (from .args .i .now) e r name
+  asked = c .resolve-in-package .ensures (model from o) name
 
-  imports : c .resolve-in-package .result ≡ found (model from c₁ f x e r) (imported (model from c₁ f x e r) (reference from name) (c .before .before .before .row .given .0 .0))
+  imports : c .resolve-in-package .result ≡ found (model from o) (imported (model from o) (reference from name) (c .before .before .before .row .given .0 .0))
   imports = asked ∙ ap asks (c .before .field .ensures)
 
 loop-holds : tie.Need-loop-holds Inv-loop μ-loop
-loop-holds c = let s = c .before .before .before .before .before .before .before in λ c₁ f x e r name. imports-start (model s c₁ f x e r) (s .args .asking) (reference s name)
+loop-holds c = let s = c .before .before .before .before .before .before .before in λ o name. imports-start (model s o) (s .args .asking) (reference s name)
 
 find-row-requires : tie.Need-find-row-requires Inv-loop μ-loop
 find-row-requires c κs = search needs
@@ -84,8 +85,8 @@ enum-told c = search needs
 returns : tie.Need-returns Inv-loop μ-loop
 returns c =
     let s = c .before .before .before .before .before .before .before .before .before .before .before in
-    λ c₁ f x e r name. sym (ap (found (model s c₁ f x e r)) (c .before .before .before .loop .inv c₁ f x e r name
-    ∙ imports-end (model s c₁ f x e r) (s .args .asking) (reference s name) (c .before .before .before .loop .start) (no-row _ _ (c .enum-told .given .1) (scanned (c .before .before) c₁ f x e r))))
+    λ o name. sym (ap (found (model s o)) (c .before .before .before .loop .inv o name
+    ∙ imports-end (model s o) (s .args .asking) (reference s name) (c .before .before .before .loop .start) (no-row _ _ (c .enum-told .given .1) (scanned (c .before .before) o))))
 
 field-requires : tie.Need-field-requires Inv-loop μ-loop
 field-requires c κs = (omega arith, omega arith, row-bound c .1)
@@ -108,9 +109,9 @@ Start·loop-again c = c .before .before .before .before .before .before .before 
 returns-2 : tie.Need-returns-2 Inv-loop μ-loop
 returns-2 c =
     let s = Start·returns-2 c in
-    λ c₁ f x e r name. import-hit (model s c₁ f x e r) (s .args .asking) (reference s name) (c .before .before .before .before .before .before .before .before .loop .start) _ (row-at (c .before .before .before .before) c₁ f x e r) _
-    (imports (c .before .before) c₁ f x e r name) (sym (c .before .is-found .ensures) ∙ c .if1 .taken)
-    ∙ sym (ap (found (model s c₁ f x e r)) (c .before .before .before .before .before .before .before .before .loop .inv c₁ f x e r name))
+    λ o name. import-hit (model s o) (s .args .asking) (reference s name) (c .before .before .before .before .before .before .before .before .loop .start) _ (row-at (c .before .before .before .before) o) _
+    (imports (c .before .before) o name) (sym (c .before .is-found .ensures) ∙ c .if1 .taken)
+    ∙ sym (ap (found (model s o)) (c .before .before .before .before .before .before .before .before .loop .inv o name))
 
 add-start : tie.Need-add-start Inv-loop μ-loop
 add-start c = omega (arith, Start·loop-again c .good, row-bound (c .before .before .before .before) .1)
@@ -121,9 +122,9 @@ loop-less c = omega (arith, row-bound (c .before .before .before .before) .0, ro
 loop-again : tie.Need-loop-again Inv-loop μ-loop
 loop-again c =
     let s = Start·loop-again c in
-    λ c₁ f x e r name. c .before .before .before .before .before .before .before .before .loop .inv c₁ f x e r name
-    ∙ import-miss (model s c₁ f x e r) (s .args .asking) (reference s name) (c .before .before .before .before .before .before .before .before .loop .start) _ (row-at (c .before .before .before .before) c₁ f x e r) _
-    (imports (c .before .before) c₁ f x e r name) (sym (c .before .is-found .ensures) ∙ c .if1 .left)
+    λ o name. c .before .before .before .before .before .before .before .before .loop .inv o name
+    ∙ import-miss (model s o) (s .args .asking) (reference s name) (c .before .before .before .before .before .before .before .before .loop .start) _ (row-at (c .before .before .before .before) o) _
+    (imports (c .before .before) o name) (sym (c .before .is-found .ensures) ∙ c .if1 .left)
 
 pub from-imports-spec : {M : Type 1} → statement M
 from-imports-spec =

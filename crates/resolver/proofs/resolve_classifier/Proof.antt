@@ -1,16 +1,15 @@
 -- `resolver::resolve_classifier` meets its contract. One law of Steps for each return. Assumes nothing.
-use mathlib.Core.List.{List}
-use Prim.Native.Nat.{ℕ}
 use borrow.Author.Needs.{needs}
-use Rattle.as5506.specs.Tables.{Tables, tablesOf, Ref, ref}
+use Rattle.as5506.specs.Tables.{Tables, Ref, ref}
+use Rattle.lent.specs.Lent.{withPackages}
 use Rattle.resolver.proofs.Scan.{at-row, no-row}
 use Rattle.resolver.proofs.Steps.{by-package, no-asker, by-asker}
 use Rattle.resolver.proofs.resolve_classifier.Statement.{statement}
 use Rattle.resolver.proofs.resolve_classifier.Tie as tie
 
 -- the tables that are asked, whatever the others are
-abbrev model : tie.Start → (c f x e : List ℕ) → Tables
-model s c f x e = tablesOf (s .args .bytes .now) (s .args .n .now) c f x (s .args .p .now) (s .args .i .now) (s .args .t .now) (s .args .q .now) (s .args .u .now) e (s .args .r .now)
+abbrev model : tie.Start → Tables → Tables
+model s o = withPackages (s .args .bytes .now) (s .args .n .now) (s .args .p .now) (s .args .i .now) (s .args .t .now) (s .args .q .now) (s .args .u .now) (s .args .r .now) o
 
 abbrev reference : tie.Start → Ref
 reference s = ref (s .args .«package») (s .args .type-name) (s .args .implementation)
@@ -24,8 +23,8 @@ with-package-requires c κs = search needs
 returns : tie.Need-returns
 returns c =
     let s = c .before .before .before .before .before .before .before .before .before .before .before in
-    λ c₁ f x e. by-package (model s c₁ f x e) (s .args .from) (reference s) _ (c .before .if1 .taken)
-    (c .with-package .ensures c₁ f x (s .args .i .now) e (c .before .before .find-package .ensures c₁ f x (s .args .i .now) (s .args .t .now) (s .args .q .now) (s .args .u .now) e (s .args .r .now)))
+    λ o. by-package (model s o) (s .args .from) (reference s) _ (c .before .if1 .taken)
+    (c .with-package .ensures (model s o) (c .before .before .find-package .ensures (model s o)))
 
 enum-known-asking : tie.Need-enum-known-asking
 enum-known-asking c = search needs
@@ -36,8 +35,8 @@ enum-told c = search needs
 returns-2 : tie.Need-returns-2
 returns-2 c =
     let s = c .before .before .before .before .before .before .before .before .before .before .before .before in
-    λ c₁ f x e. no-asker (model s c₁ f x e) (s .args .from) (reference s) (c .before .before .if1 .left)
-    (no-row _ _ (c .enum-told .given .1) (c .before .before .before .find-package .ensures c₁ f x (s .args .i .now) (s .args .t .now) (s .args .q .now) (s .args .u .now) e (s .args .r .now)))
+    λ o. no-asker (model s o) (s .args .from) (reference s) (c .before .before .if1 .left)
+    (no-row _ _ (c .enum-told .given .1) (c .before .before .before .find-package .ensures (model s o)))
 
 without-package-requires : tie.Need-without-package-requires
 without-package-requires c κs = search needs
@@ -45,9 +44,9 @@ without-package-requires c κs = search needs
 returns-3 : tie.Need-returns-3
 returns-3 c =
     let s = c .before .before .before .before .before .before .before .before .before .before .before .before .before .before in
-    λ c₁ f x e.
-    let asks = at-row _ _ _ (c .before .before .asking .given .1) (c .before .before .before .before .before .find-package .ensures c₁ f x (s .args .i .now) (s .args .t .now) (s .args .q .now) (s .args .u .now) e (s .args .r .now)) in
-    by-asker (model s c₁ f x e) (s .args .from) (reference s) _ _ (c .before .before .before .before .if1 .left) asks (c .without-package .ensures c₁ f x e (s .args .«package») asks)
+    λ o.
+    let asks = at-row _ _ _ (c .before .before .asking .given .1) (c .before .before .before .before .before .find-package .ensures (model s o)) in
+    by-asker (model s o) (s .args .from) (reference s) _ _ (c .before .before .before .before .if1 .left) asks (c .without-package .ensures o (s .args .«package») asks)
 
 pub resolve-classifier-spec : {M : Type 1} → statement M
 resolve-classifier-spec =

@@ -1,17 +1,17 @@
 -- `resolver::resolve_in_package` meets its contract. One law of Steps for each return. Assumes nothing.
-use mathlib.Core.List.{List}
 use Prim.Native.Nat.{ℕ}
 use borrow.Author.Needs.{needs}
 use Rattle.as5506.specs.Names.{key}
-use Rattle.as5506.specs.Tables.{Tables, tablesOf, Ref, ref}
+use Rattle.as5506.specs.Tables.{Tables, Ref, ref}
+use Rattle.lent.specs.Lent.{withNames, withP, withTypes}
 use Rattle.resolver.proofs.Scan.{at-row, no-row}
 use Rattle.resolver.proofs.Steps.{package-none, package-some}
 use Rattle.resolver.proofs.resolve_in_package.Statement.{statement}
 use Rattle.resolver.proofs.resolve_in_package.Tie as tie
 
 -- the tables that are asked, whatever the others are
-abbrev model : tie.Start → (c f x i e r : List ℕ) → Tables
-model s c f x i e r = tablesOf (s .args .bytes .now) (s .args .n .now) c f x (s .args .p .now) i (s .args .t .now) (s .args .q .now) (s .args .u .now) e r
+abbrev model : tie.Start → Tables → Tables
+model s o = withNames (s .args .bytes .now) (s .args .n .now) (withP (s .args .p .now) (withTypes (s .args .t .now) (s .args .q .now) (s .args .u .now) o))
 
 abbrev reference : tie.Start → ℕ → Ref
 reference s name = ref name (s .args .type-name) (s .args .implementation)
@@ -28,8 +28,8 @@ enum-told c = search needs
 returns : tie.Need-returns
 returns c =
     let s = c .before .before .before .before .before .before .before .before .before in
-    λ c₁ f x i e r name. package-none (model s c₁ f x i e r) (s .args .own) (reference s name) (key (model s c₁ f x i e r) (s .args .«package»))
-    (no-row _ _ (c .enum-told .given .1) (c .before .before .find-package .ensures c₁ f x i (s .args .t .now) (s .args .q .now) (s .args .u .now) e r))
+    λ o name. package-none (model s o) (s .args .own) (reference s name) (key (model s o) (s .args .«package»))
+    (no-row _ _ (c .enum-told .given .1) (c .before .before .find-package .ensures (model s o)))
 
 in-package-requires : tie.Need-in-package-requires
 in-package-requires c κs = search needs
@@ -37,9 +37,9 @@ in-package-requires c κs = search needs
 returns-2 : tie.Need-returns-2
 returns-2 c =
     let s = c .before .before .before .before .before .before .before .before .before .before .before in
-    λ c₁ f x i e r name. package-some (model s c₁ f x i e r) (s .args .own) (reference s name) (key (model s c₁ f x i e r) (s .args .«package»)) _ _
-    (at-row _ _ _ (c .before .before .row .given .1) (c .before .before .before .before .find-package .ensures c₁ f x i (s .args .t .now) (s .args .q .now) (s .args .u .now) e r))
-    (c .in-package .ensures c₁ f x (s .args .p .now) i e r name)
+    λ o name. package-some (model s o) (s .args .own) (reference s name) (key (model s o) (s .args .«package»)) _ _
+    (at-row _ _ _ (c .before .before .row .given .1) (c .before .before .before .before .find-package .ensures (model s o)))
+    (c .in-package .ensures (model s o) name)
 
 pub resolve-in-package-spec : {M : Type 1} → statement M
 resolve-in-package-spec =

@@ -1,15 +1,16 @@
 -- `resolver::without_package` meets its contract. One law of Steps for each return. Assumes nothing.
 use mathlib.Core.Bool.{true}
 use mathlib.Core.Path.{_≡_, sym, _∙_}
-use mathlib.Core.List.{List, []}
+use mathlib.Core.List.{[]}
 use mathlib.Core.Option.{some}
 use Prim.Native.Nat.{ℕ, _/_, _<_}
 use native.Mathlib.Omega.{arith}
 use lib.ListN.{length}
 use borrow.Author.Needs.{needs}
 use Rattle.as5506.specs.Lists.{firstOf}
-use Rattle.as5506.specs.Tables.{Tables, tablesOf, Ref, ref}
+use Rattle.as5506.specs.Tables.{Tables, Ref, ref}
 use Rattle.as5506.specs.Resolve.{inPackage, renamesFor}
+use Rattle.lent.specs.Lent.{withPackages, namesIn}
 use Rattle.resolver.specs.Found.{found}
 use Rattle.resolver.proofs.Scan.{at-row, no-row}
 use Rattle.resolver.proofs.Steps.{in-own, by-imports, by-rename}
@@ -18,30 +19,30 @@ use Rattle.resolver.proofs.without_package.Statement.{statement}
 use Rattle.resolver.proofs.without_package.Tie as tie
 
 -- the tables that are asked, whatever the others are
-abbrev model : tie.Start → (c f x e : List ℕ) → Tables
-model s c f x e = tablesOf (s .args .bytes .now) (s .args .n .now) c f x (s .args .p .now) (s .args .i .now) (s .args .t .now) (s .args .q .now) (s .args .u .now) e (s .args .r .now)
+abbrev model : tie.Start → Tables → Tables
+model s o = withPackages (s .args .bytes .now) (s .args .n .now) (s .args .p .now) (s .args .i .now) (s .args .t .now) (s .args .q .now) (s .args .u .now) (s .args .r .now) o
 
 abbrev reference : tie.Start → ℕ → Ref
 reference s name = ref name (s .args .type-name) (s .args .implementation)
 
 -- the rename that is found
-module _ (c : tie.After-known-told) (c₁ f x e : List ℕ) (name : ℕ) where
+module _ (c : tie.After-known-told) (o : Tables) (name : ℕ) where
   abbrev from : tie.Start
   from = c .before .before .before .before .before .before .before .before .before .before .before .before .before .before .before
 
-  rename-at : some (c .before .rename .given .0 .0) ≡ firstOf (renamesFor (model from c₁ f x e) (from .args .asking) (reference from name))
-  rename-at = at-row _ _ _ (c .before .rename .given .1) (c .before .before .before .rename-for .ensures c₁ f x (from .args .p .now) (from .args .i .now) (from .args .t .now) (from .args .q .now) (from .args .u .now) e name)
+  rename-at : some (c .before .rename .given .0 .0) ≡ firstOf (renamesFor (model from o) (from .args .asking) (reference from name))
+  rename-at = at-row _ _ _ (c .before .rename .given .1) (c .before .before .before .rename-for .ensures (model from o) name)
 
   within : c .before .rename .given .0 .0 < length (from .args .r .now) / 5
-  within = rename-for-row (model from c₁ f x e) (from .args .asking) (reference from name) _ rename-at .0
+  within = rename-for-row (model from o) (from .args .asking) (reference from name) _ rename-at .0
 
 -- what the own package gave
-module _ (c : tie.After-is-found) (c₁ f x e : List ℕ) (name : ℕ) where
+module _ (c : tie.After-is-found) (o : Tables) (name : ℕ) where
   abbrev start : tie.Start
   start = c .before .before .before .before .before .before .before .before .before .before
 
-  own : c .before .in-package .result ≡ found (model start c₁ f x e) (inPackage (model start c₁ f x e) true (start .args .asking) (reference start name))
-  own = c .before .in-package .ensures c₁ f x (start .args .p .now) (start .args .i .now) e (start .args .r .now) name
+  own : c .before .in-package .result ≡ found (model start o) (inPackage (model start o) true (start .args .asking) (reference start name))
+  own = c .before .in-package .ensures (model start o) name
 
 in-package-requires : tie.Need-in-package-requires
 in-package-requires c κs = search needs
@@ -52,7 +53,7 @@ is-found-requires c κs = search needs
 returns : tie.Need-returns
 returns c =
     let s = c .before .before .before .before .before .before .before .before .before .before .before in
-    λ c₁ f x e name asks. in-own (model s c₁ f x e) (s .args .from) (s .args .asking) (reference s name) _ (own (c .before) c₁ f x e name) (sym (c .before .is-found .ensures) ∙ c .if1 .taken)
+    λ o name asks. in-own (model s o) (s .args .from) (s .args .asking) (reference s name) _ (own (c .before) o name) (sym (c .before .is-found .ensures) ∙ c .if1 .taken)
 
 rename-for-requires : tie.Need-rename-for-requires
 rename-for-requires c κs = search needs
@@ -69,15 +70,15 @@ from-imports-requires c κs = search needs
 returns-2 : tie.Need-returns-2
 returns-2 c =
     let s = c .before .before .before .before .before .before .before .before .before .before .before .before .before .before .before in
-    λ c₁ f x e name asks. by-imports (model s c₁ f x e) (s .args .from) (s .args .asking) (reference s name) _ (own (c .before .before .before .before .before) c₁ f x e name) (sym (c .before .before .before .before .before .is-found .ensures) ∙ c .before .before .before .before .if1 .left) _
-    (no-row _ _ (c .before .enum-told .given .1) (c .before .before .before .rename-for .ensures c₁ f x (s .args .p .now) (s .args .i .now) (s .args .t .now) (s .args .q .now) (s .args .u .now) e name))
-    (c .from-imports .ensures c₁ f x e (s .args .r .now) name)
+    λ o name asks. by-imports (model s o) (s .args .from) (s .args .asking) (reference s name) _ (own (c .before .before .before .before .before) o name) (sym (c .before .before .before .before .before .is-found .ensures) ∙ c .before .before .before .before .if1 .left) _
+    (no-row _ _ (c .before .enum-told .given .1) (c .before .before .before .rename-for .ensures (model s o) name))
+    (c .from-imports .ensures (model s o) name)
 
 field-requires : tie.Need-field-requires
-field-requires c κs = (omega arith, omega arith, within c [] [] [] [] 0)
+field-requires c κs = (omega arith, omega arith, within c (namesIn [] []) 0)
 
 field-requires-2 : tie.Need-field-requires-2
-field-requires-2 c κs = (omega arith, omega arith, within (c .before) [] [] [] [] 0)
+field-requires-2 c κs = (omega arith, omega arith, within (c .before) (namesIn [] []) 0)
 
 with-package-requires : tie.Need-with-package-requires
 with-package-requires c κs = search needs
@@ -85,9 +86,9 @@ with-package-requires c κs = search needs
 returns-3 : tie.Need-returns-3
 returns-3 c =
     let s = c .before .before .before .before .before .before .before .before .before .before .before .before .before .before .before .before .before .before in
-    λ c₁ f x e name asks. by-rename (model s c₁ f x e) (s .args .from) (s .args .asking) (reference s name) _ (own (c .before .before .before .before .before .before .before .before) c₁ f x e name) (sym (c .before .before .before .before .before .before .before .before .is-found .ensures) ∙ c .before .before .before .before .before .before .before .if1 .left) _ _ _ _
-    (rename-at (c .before .before .before) c₁ f x e name) (c .before .before .field .ensures) (c .before .field2 .ensures)
-    (c .with-package .ensures c₁ f x (s .args .i .now) e asks)
+    λ o name asks. by-rename (model s o) (s .args .from) (s .args .asking) (reference s name) _ (own (c .before .before .before .before .before .before .before .before) o name) (sym (c .before .before .before .before .before .before .before .before .is-found .ensures) ∙ c .before .before .before .before .before .before .before .if1 .left) _ _ _ _
+    (rename-at (c .before .before .before) o name) (c .before .before .field .ensures) (c .before .field2 .ensures)
+    (c .with-package .ensures (model s o) asks)
 
 pub without-package-spec : {M : Type 1} → statement M
 without-package-spec =

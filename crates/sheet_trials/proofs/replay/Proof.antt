@@ -1,218 +1,161 @@
--- `sheet_trials::replay`: every index and part is in range, and each slice keeps its length. Assumes nothing.
-use borrow.Author.Needs.{needs}
-use lib.Dec.{lit<}
-use lib.Seq.{length-front}
+-- `sheet_trials::replay`: every part is in range, and each slice keeps its length. Assumes nothing.
+use Rattle.sheet_trials.proofs.Parts.{within, part-is, after-is}
 use Rattle.sheet_trials.proofs.replay.Statement.{statement}
 use Rattle.sheet_trials.proofs.replay.Tie as tie
 
--- from where the last slice's part is measured back to the others, and to the start
-abbrev end-r : tie.After-numbers-end11 → tie.After-numbers-end11
-end-r c = c
+-- from the call back to where all slices are there, and to the start
+abbrev lent : tie.After-read-sheet → tie.After-sevens10
+lent c = c .before .before .before .before .before .before .before .before .before .before .before .before .before
 
-abbrev end-e : tie.After-numbers-end11 → tie.After-numbers-end10
-end-e c = end-r c .before .before
+abbrev start : tie.After-sevens10 → tie.Start
+start c = c .before .before .before .before .before .before .before .before .before .before .before .before .before
 
-abbrev end-u : tie.After-numbers-end11 → tie.After-numbers-end9
-end-u c = end-e c .before .before
+sevens-of-bytes-requires : tie.Need-sevens-of-bytes-requires
+sevens-of-bytes-requires c κs = tt
 
-abbrev end-q : tie.After-numbers-end11 → tie.After-numbers-end8
-end-q c = end-u c .before .before
+sevens-of-names-requires : tie.Need-sevens-of-names-requires
+sevens-of-names-requires c κs = tt
 
-abbrev end-t : tie.After-numbers-end11 → tie.After-numbers-end7
-end-t c = end-q c .before .before
+sevens-requires : tie.Need-sevens-requires
+sevens-requires c κs = tt
 
-abbrev end-i : tie.After-numbers-end11 → tie.After-numbers-end6
-end-i c = end-t c .before .before
+sevens-requires-2 : tie.Need-sevens-requires-2
+sevens-requires-2 c κs = tt
 
-abbrev end-p : tie.After-numbers-end11 → tie.After-numbers-end5
-end-p c = end-i c .before .before
+sevens-requires-3 : tie.Need-sevens-requires-3
+sevens-requires-3 c κs = tt
 
-abbrev end-x : tie.After-numbers-end11 → tie.After-numbers-end4
-end-x c = end-p c .before .before
+sevens-requires-4 : tie.Need-sevens-requires-4
+sevens-requires-4 c κs = tt
 
-abbrev end-f : tie.After-numbers-end11 → tie.After-numbers-end3
-end-f c = end-x c .before .before
+sevens-requires-5 : tie.Need-sevens-requires-5
+sevens-requires-5 c κs = tt
 
-abbrev end-c : tie.After-numbers-end11 → tie.After-numbers-end2
-end-c c = end-f c .before .before
+sevens-requires-6 : tie.Need-sevens-requires-6
+sevens-requires-6 c κs = tt
 
-abbrev end-n : tie.After-numbers-end11 → tie.After-numbers-end
-end-n c = end-c c .before .before
+sevens-requires-7 : tie.Need-sevens-requires-7
+sevens-requires-7 c κs = tt
 
-abbrev end-bytes : tie.After-numbers-end11 → tie.After-bytes-end2
-end-bytes c = end-n c .before .before
+sevens-requires-8 : tie.Need-sevens-requires-8
+sevens-requires-8 c κs = tt
 
-abbrev start : tie.After-numbers-end11 → tie.Start
-start c = end-bytes c .before .before .before .before .before .before .before .before .before .before .before .before .before .before .before .before .before .before .before .before .before
+sevens-requires-9 : tie.Need-sevens-requires-9
+sevens-requires-9 c κs = tt
 
--- from the end to the call, and to there
-abbrev call : tie.After-print-slices → tie.After-read-sheet
-call c = c .before .before .before .before .before .before .before .before .before .before .before .before .before .before .before .before .before .before .before .before .before .before .before .before .before .before .before .before .before .before .before .before .before .before .before .before .before .before
+sevens-requires-10 : tie.Need-sevens-requires-10
+sevens-requires-10 c κs = tt
 
-abbrev measured : tie.After-print-slices → tie.After-numbers-end11
-measured c = call c .before .before .before .before .before .before .before .before .before .before .before .before .before .before
-
-array-read-read-bytes : tie.Need-array-read-read-bytes
-array-read-read-bytes c = lit< tt
-
-read-bytes-requires : tie.Need-read-bytes-requires
-read-bytes-requires c κs = tt
-
-array-read-bytes-end : tie.Need-array-read-bytes-end
-array-read-bytes-end c = lit< tt
-
-bytes-end-requires : tie.Need-bytes-end-requires
-bytes-end-requires c κs = tt
-
-array-read-bytes-end-2 : tie.Need-array-read-bytes-end-2
-array-read-bytes-end-2 c = lit< tt
-
-bytes-end-requires-2 : tie.Need-bytes-end-requires-2
-bytes-end-requires-2 c κs = tt
-
-array-read-numbers-end : tie.Need-array-read-numbers-end
-array-read-numbers-end c = lit< tt
-
-numbers-end-requires : tie.Need-numbers-end-requires
-numbers-end-requires c κs = tt
-
-array-read-numbers-end-2 : tie.Need-array-read-numbers-end-2
-array-read-numbers-end-2 c = lit< tt
-
-numbers-end-requires-2 : tie.Need-numbers-end-requires-2
-numbers-end-requires-2 c κs = tt
-
-array-read-numbers-end-3 : tie.Need-array-read-numbers-end-3
-array-read-numbers-end-3 c = lit< tt
-
-numbers-end-requires-3 : tie.Need-numbers-end-requires-3
-numbers-end-requires-3 c κs = tt
-
-array-read-numbers-end-4 : tie.Need-array-read-numbers-end-4
-array-read-numbers-end-4 c = lit< tt
-
-numbers-end-requires-4 : tie.Need-numbers-end-requires-4
-numbers-end-requires-4 c κs = tt
-
-array-read-numbers-end-5 : tie.Need-array-read-numbers-end-5
-array-read-numbers-end-5 c = lit< tt
-
-numbers-end-requires-5 : tie.Need-numbers-end-requires-5
-numbers-end-requires-5 c κs = tt
-
-array-read-numbers-end-6 : tie.Need-array-read-numbers-end-6
-array-read-numbers-end-6 c = lit< tt
-
-numbers-end-requires-6 : tie.Need-numbers-end-requires-6
-numbers-end-requires-6 c κs = tt
-
-array-read-numbers-end-7 : tie.Need-array-read-numbers-end-7
-array-read-numbers-end-7 c = lit< tt
-
-numbers-end-requires-7 : tie.Need-numbers-end-requires-7
-numbers-end-requires-7 c κs = tt
-
-array-read-numbers-end-8 : tie.Need-array-read-numbers-end-8
-array-read-numbers-end-8 c = lit< tt
-
-numbers-end-requires-8 : tie.Need-numbers-end-requires-8
-numbers-end-requires-8 c κs = tt
-
-array-read-numbers-end-9 : tie.Need-array-read-numbers-end-9
-array-read-numbers-end-9 c = lit< tt
-
-numbers-end-requires-9 : tie.Need-numbers-end-requires-9
-numbers-end-requires-9 c κs = tt
-
-array-read-numbers-end-10 : tie.Need-array-read-numbers-end-10
-array-read-numbers-end-10 c = lit< tt
-
-numbers-end-requires-10 : tie.Need-numbers-end-requires-10
-numbers-end-requires-10 c κs = tt
-
-array-read-numbers-end-11 : tie.Need-array-read-numbers-end-11
-array-read-numbers-end-11 c = lit< tt
-
-numbers-end-requires-11 : tie.Need-numbers-end-requires-11
-numbers-end-requires-11 c κs = tt
-
-slice-reshare-prefix-read-sheet : tie.Need-slice-reshare-prefix-read-sheet
-slice-reshare-prefix-read-sheet c = c .before .before .before .before .before .before .before .before .before .before .before .before .before .before .before .before .before .before .before .before .before .before .before .before .bytes-end .ensures .0
+array-borrow-prefix-bytes : tie.Need-array-borrow-prefix-bytes
+array-borrow-prefix-bytes c = let s = start (c) in let v = c .before .before .before .before .before .before .before .before .before .before .before .sevens-of-bytes in within (s .args .b-end) 16400 (v .result) (s .pre .bytes-within) (v .ensures)
 
 slice-aggregate-read-sheet : tie.Need-slice-aggregate-read-sheet
-slice-aggregate-read-sheet c = c .before .before .before .before .before .before .before .before .before .before .before .before .before .before .before .before .before .before .before .before .before .before .before .before .before .bytes-end .ensures .1
+slice-aggregate-read-sheet c = let s = start (c .before) in let v = c .before .before .before .before .before .before .before .before .before .before .before .before .sevens-of-bytes in part-is (s .args .b-end) 16400 (v .result) (s .pre .bytes-within) (v .ensures)
 
-slice-relend-prefix-read-sheet : tie.Need-slice-relend-prefix-read-sheet
-slice-relend-prefix-read-sheet c = end-bytes (c .before) .bytes-end2 .ensures .0
+array-borrow-prefix-n : tie.Need-array-borrow-prefix-n
+array-borrow-prefix-n c = let s = start (c .before) in let v = c .before .before .before .before .before .before .before .before .before .before .before .sevens-of-names in within (s .args .n-end) 8200 (v .result) (s .pre .n-within) (v .ensures)
 
 slice-aggregate-read-sheet-2 : tie.Need-slice-aggregate-read-sheet-2
-slice-aggregate-read-sheet-2 c = end-bytes (c .before .before) .bytes-end2 .ensures .1
+slice-aggregate-read-sheet-2 c = let s = start (c .before .before) in let v = c .before .before .before .before .before .before .before .before .before .before .before .before .sevens-of-names in part-is (s .args .n-end) 8200 (v .result) (s .pre .n-within) (v .ensures)
 
-slice-relend-prefix-read-sheet-2 : tie.Need-slice-relend-prefix-read-sheet-2
-slice-relend-prefix-read-sheet-2 c = end-n (c .before .before) .numbers-end .ensures .0
+array-borrow-prefix-c : tie.Need-array-borrow-prefix-c
+array-borrow-prefix-c c = let s = start (c .before .before) in let v = c .before .before .before .before .before .before .before .before .before .before .before .sevens in within (s .args .c-end) 2700 (v .result) (s .pre .c-within) (v .ensures)
 
 slice-aggregate-read-sheet-3 : tie.Need-slice-aggregate-read-sheet-3
-slice-aggregate-read-sheet-3 c = end-n (c .before .before .before) .numbers-end .ensures .1
+slice-aggregate-read-sheet-3 c = let s = start (c .before .before .before) in let v = c .before .before .before .before .before .before .before .before .before .before .before .before .sevens in part-is (s .args .c-end) 2700 (v .result) (s .pre .c-within) (v .ensures)
 
-slice-relend-prefix-read-sheet-3 : tie.Need-slice-relend-prefix-read-sheet-3
-slice-relend-prefix-read-sheet-3 c = end-c (c .before .before .before) .numbers-end2 .ensures .0
+array-borrow-prefix-f : tie.Need-array-borrow-prefix-f
+array-borrow-prefix-f c = let s = start (c .before .before .before) in let v = c .before .before .before .before .before .before .before .before .before .before .before .sevens2 in within (s .args .f-end) 2700 (v .result) (s .pre .f-within) (v .ensures)
 
 slice-aggregate-read-sheet-4 : tie.Need-slice-aggregate-read-sheet-4
-slice-aggregate-read-sheet-4 c = end-c (c .before .before .before .before) .numbers-end2 .ensures .1
+slice-aggregate-read-sheet-4 c = let s = start (c .before .before .before .before) in let v = c .before .before .before .before .before .before .before .before .before .before .before .before .sevens2 in part-is (s .args .f-end) 2700 (v .result) (s .pre .f-within) (v .ensures)
 
-slice-relend-prefix-read-sheet-4 : tie.Need-slice-relend-prefix-read-sheet-4
-slice-relend-prefix-read-sheet-4 c = end-f (c .before .before .before .before) .numbers-end3 .ensures .0
+array-borrow-prefix-x : tie.Need-array-borrow-prefix-x
+array-borrow-prefix-x c = let s = start (c .before .before .before .before) in let v = c .before .before .before .before .before .before .before .before .before .before .before .sevens3 in within (s .args .x-end) 2700 (v .result) (s .pre .x-within) (v .ensures)
 
 slice-aggregate-read-sheet-5 : tie.Need-slice-aggregate-read-sheet-5
-slice-aggregate-read-sheet-5 c = end-f (c .before .before .before .before .before) .numbers-end3 .ensures .1
+slice-aggregate-read-sheet-5 c = let s = start (c .before .before .before .before .before) in let v = c .before .before .before .before .before .before .before .before .before .before .before .before .sevens3 in part-is (s .args .x-end) 2700 (v .result) (s .pre .x-within) (v .ensures)
 
-slice-relend-prefix-read-sheet-5 : tie.Need-slice-relend-prefix-read-sheet-5
-slice-relend-prefix-read-sheet-5 c = end-x (c .before .before .before .before .before) .numbers-end4 .ensures .0
+array-borrow-prefix-p : tie.Need-array-borrow-prefix-p
+array-borrow-prefix-p c = let s = start (c .before .before .before .before .before) in let v = c .before .before .before .before .before .before .before .before .before .before .before .sevens4 in within (s .args .p-end) 2700 (v .result) (s .pre .p-within) (v .ensures)
 
 slice-aggregate-read-sheet-6 : tie.Need-slice-aggregate-read-sheet-6
-slice-aggregate-read-sheet-6 c = end-x (c .before .before .before .before .before .before) .numbers-end4 .ensures .1
+slice-aggregate-read-sheet-6 c = let s = start (c .before .before .before .before .before .before) in let v = c .before .before .before .before .before .before .before .before .before .before .before .before .sevens4 in part-is (s .args .p-end) 2700 (v .result) (s .pre .p-within) (v .ensures)
 
-slice-relend-prefix-read-sheet-6 : tie.Need-slice-relend-prefix-read-sheet-6
-slice-relend-prefix-read-sheet-6 c = end-p (c .before .before .before .before .before .before) .numbers-end5 .ensures .0
+array-borrow-prefix-i : tie.Need-array-borrow-prefix-i
+array-borrow-prefix-i c = let s = start (c .before .before .before .before .before .before) in let v = c .before .before .before .before .before .before .before .before .before .before .before .sevens5 in within (s .args .i-end) 2700 (v .result) (s .pre .i-within) (v .ensures)
 
 slice-aggregate-read-sheet-7 : tie.Need-slice-aggregate-read-sheet-7
-slice-aggregate-read-sheet-7 c = end-p (c .before .before .before .before .before .before .before) .numbers-end5 .ensures .1
+slice-aggregate-read-sheet-7 c = let s = start (c .before .before .before .before .before .before .before) in let v = c .before .before .before .before .before .before .before .before .before .before .before .before .sevens5 in part-is (s .args .i-end) 2700 (v .result) (s .pre .i-within) (v .ensures)
 
-slice-relend-prefix-read-sheet-7 : tie.Need-slice-relend-prefix-read-sheet-7
-slice-relend-prefix-read-sheet-7 c = end-i (c .before .before .before .before .before .before .before) .numbers-end6 .ensures .0
+array-borrow-prefix-t : tie.Need-array-borrow-prefix-t
+array-borrow-prefix-t c = let s = start (c .before .before .before .before .before .before .before) in let v = c .before .before .before .before .before .before .before .before .before .before .before .sevens6 in within (s .args .t-end) 2700 (v .result) (s .pre .t-within) (v .ensures)
 
 slice-aggregate-read-sheet-8 : tie.Need-slice-aggregate-read-sheet-8
-slice-aggregate-read-sheet-8 c = end-i (c .before .before .before .before .before .before .before .before) .numbers-end6 .ensures .1
+slice-aggregate-read-sheet-8 c = let s = start (c .before .before .before .before .before .before .before .before) in let v = c .before .before .before .before .before .before .before .before .before .before .before .before .sevens6 in part-is (s .args .t-end) 2700 (v .result) (s .pre .t-within) (v .ensures)
 
-slice-relend-prefix-read-sheet-8 : tie.Need-slice-relend-prefix-read-sheet-8
-slice-relend-prefix-read-sheet-8 c = end-t (c .before .before .before .before .before .before .before .before) .numbers-end7 .ensures .0
+array-borrow-prefix-q : tie.Need-array-borrow-prefix-q
+array-borrow-prefix-q c = let s = start (c .before .before .before .before .before .before .before .before) in let v = c .before .before .before .before .before .before .before .before .before .before .before .sevens7 in within (s .args .q-end) 2700 (v .result) (s .pre .q-within) (v .ensures)
 
 slice-aggregate-read-sheet-9 : tie.Need-slice-aggregate-read-sheet-9
-slice-aggregate-read-sheet-9 c = end-t (c .before .before .before .before .before .before .before .before .before) .numbers-end7 .ensures .1
+slice-aggregate-read-sheet-9 c = let s = start (c .before .before .before .before .before .before .before .before .before) in let v = c .before .before .before .before .before .before .before .before .before .before .before .before .sevens7 in part-is (s .args .q-end) 2700 (v .result) (s .pre .q-within) (v .ensures)
 
-slice-relend-prefix-read-sheet-9 : tie.Need-slice-relend-prefix-read-sheet-9
-slice-relend-prefix-read-sheet-9 c = end-q (c .before .before .before .before .before .before .before .before .before) .numbers-end8 .ensures .0
+array-borrow-prefix-u : tie.Need-array-borrow-prefix-u
+array-borrow-prefix-u c = let s = start (c .before .before .before .before .before .before .before .before .before) in let v = c .before .before .before .before .before .before .before .before .before .before .before .sevens8 in within (s .args .u-end) 2700 (v .result) (s .pre .u-within) (v .ensures)
 
 slice-aggregate-read-sheet-10 : tie.Need-slice-aggregate-read-sheet-10
-slice-aggregate-read-sheet-10 c = end-q (c .before .before .before .before .before .before .before .before .before .before) .numbers-end8 .ensures .1
+slice-aggregate-read-sheet-10 c = let s = start (c .before .before .before .before .before .before .before .before .before .before) in let v = c .before .before .before .before .before .before .before .before .before .before .before .before .sevens8 in part-is (s .args .u-end) 2700 (v .result) (s .pre .u-within) (v .ensures)
 
-slice-relend-prefix-read-sheet-10 : tie.Need-slice-relend-prefix-read-sheet-10
-slice-relend-prefix-read-sheet-10 c = end-u (c .before .before .before .before .before .before .before .before .before .before) .numbers-end9 .ensures .0
+array-borrow-prefix-e : tie.Need-array-borrow-prefix-e
+array-borrow-prefix-e c = let s = start (c .before .before .before .before .before .before .before .before .before .before) in let v = c .before .before .before .before .before .before .before .before .before .before .before .sevens9 in within (s .args .e-end) 2700 (v .result) (s .pre .e-within) (v .ensures)
+
+-- places: the way back from where an answer stands to what it uses
+abbrev sevens10·array-borrow-prefix-r : tie.After-e → tie.After-sevens10
+sevens10·array-borrow-prefix-r c = c .before .before .before .before .before .before .before .before .before .before .before
+
+abbrev sevens10·read-sheet-requires : tie.After-r → tie.After-sevens10
+sevens10·read-sheet-requires c = sevens10·array-borrow-prefix-r (c .before)
+
+abbrev read-sheet·slice-aggregate-print-slices-3 : tie.After-c3 → tie.After-read-sheet
+read-sheet·slice-aggregate-print-slices-3 c = c .before .before .before .before .before .before .before .before .before .before .before .before .before .before .before .before
+
+abbrev read-sheet·slice-aggregate-print-slices-4 : tie.After-f3 → tie.After-read-sheet
+read-sheet·slice-aggregate-print-slices-4 c = read-sheet·slice-aggregate-print-slices-3 (c .before)
+
+abbrev read-sheet·slice-aggregate-print-slices-5 : tie.After-x3 → tie.After-read-sheet
+read-sheet·slice-aggregate-print-slices-5 c = read-sheet·slice-aggregate-print-slices-4 (c .before)
+
+abbrev read-sheet·slice-aggregate-print-slices-6 : tie.After-p3 → tie.After-read-sheet
+read-sheet·slice-aggregate-print-slices-6 c = read-sheet·slice-aggregate-print-slices-5 (c .before)
+
+abbrev read-sheet·slice-aggregate-print-slices-7 : tie.After-i3 → tie.After-read-sheet
+read-sheet·slice-aggregate-print-slices-7 c = read-sheet·slice-aggregate-print-slices-6 (c .before)
+
+abbrev read-sheet·slice-aggregate-print-slices-8 : tie.After-t3 → tie.After-read-sheet
+read-sheet·slice-aggregate-print-slices-8 c = read-sheet·slice-aggregate-print-slices-7 (c .before)
+
+abbrev read-sheet·slice-aggregate-print-slices-9 : tie.After-q3 → tie.After-read-sheet
+read-sheet·slice-aggregate-print-slices-9 c = read-sheet·slice-aggregate-print-slices-8 (c .before)
+
+abbrev read-sheet·slice-aggregate-print-slices-10 : tie.After-u3 → tie.After-read-sheet
+read-sheet·slice-aggregate-print-slices-10 c = read-sheet·slice-aggregate-print-slices-9 (c .before)
+
+abbrev read-sheet·slice-aggregate-print-slices-11 : tie.After-e3 → tie.After-read-sheet
+read-sheet·slice-aggregate-print-slices-11 c = read-sheet·slice-aggregate-print-slices-10 (c .before)
+
+abbrev read-sheet·print-slices-requires : tie.After-r3 → tie.After-read-sheet
+read-sheet·print-slices-requires c = read-sheet·slice-aggregate-print-slices-11 (c .before)
+
+-- end of places
 
 slice-aggregate-read-sheet-11 : tie.Need-slice-aggregate-read-sheet-11
-slice-aggregate-read-sheet-11 c = end-u (c .before .before .before .before .before .before .before .before .before .before .before) .numbers-end9 .ensures .1
+slice-aggregate-read-sheet-11 c = let s = start (sevens10·array-borrow-prefix-r c) in let v = c .before .before .before .before .before .before .before .before .before .before .before .before .sevens9 in part-is (s .args .e-end) 2700 (v .result) (s .pre .e-within) (v .ensures)
 
-slice-relend-prefix-read-sheet-11 : tie.Need-slice-relend-prefix-read-sheet-11
-slice-relend-prefix-read-sheet-11 c = end-e (c .before .before .before .before .before .before .before .before .before .before .before) .numbers-end10 .ensures .0
+array-borrow-prefix-r : tie.Need-array-borrow-prefix-r
+array-borrow-prefix-r c = let s = start (sevens10·array-borrow-prefix-r c) in let v = sevens10·array-borrow-prefix-r c .sevens10 in within (s .args .r-end) 2700 (v .result) (s .pre .r-within) (v .ensures)
 
 slice-aggregate-read-sheet-12 : tie.Need-slice-aggregate-read-sheet-12
-slice-aggregate-read-sheet-12 c = end-e (c .before .before .before .before .before .before .before .before .before .before .before .before) .numbers-end10 .ensures .1
-
-slice-relend-prefix-read-sheet-12 : tie.Need-slice-relend-prefix-read-sheet-12
-slice-relend-prefix-read-sheet-12 c = end-r (c .before .before .before .before .before .before .before .before .before .before .before .before) .numbers-end11 .ensures .0
-
-slice-aggregate-read-sheet-13 : tie.Need-slice-aggregate-read-sheet-13
-slice-aggregate-read-sheet-13 c = end-r (c .before .before .before .before .before .before .before .before .before .before .before .before .before) .numbers-end11 .ensures .1
+slice-aggregate-read-sheet-12 c = let s = start (sevens10·read-sheet-requires c) in let v = sevens10·read-sheet-requires c .sevens10 in part-is (s .args .r-end) 2700 (v .result) (s .pre .r-within) (v .ensures)
 
 read-sheet-requires : tie.Need-read-sheet-requires
 read-sheet-requires c κs = tt
@@ -220,135 +163,101 @@ read-sheet-requires c κs = tt
 print-answer-requires : tie.Need-print-answer-requires
 print-answer-requires c κs = tt
 
+slice-aggregate-print-slices : tie.Need-slice-aggregate-print-slices
+slice-aggregate-print-slices c = let r = c .before .before .before .before .before .before .before .before .before .before .before .before .before .before in let v = lent r .before .before .before .before .before .before .before .before .before .before .before .sevens-of-bytes in after-is (start (lent r) .args .b-end) 16400 (v .result) (r .read-sheet .last .1 .0) (v .ensures) (r .read-sheet .kept .1 .0)
+
+slice-aggregate-print-slices-2 : tie.Need-slice-aggregate-print-slices-2
+slice-aggregate-print-slices-2 c = let r = c .before .before .before .before .before .before .before .before .before .before .before .before .before .before .before in let v = lent r .before .before .before .before .before .before .before .before .before .before .sevens-of-names in after-is (start (lent r) .args .n-end) 8200 (v .result) (r .read-sheet .last .1 .1 .0) (v .ensures) (r .read-sheet .kept .1 .1 .0)
+
+slice-aggregate-print-slices-3 : tie.Need-slice-aggregate-print-slices-3
+slice-aggregate-print-slices-3 c = let r = read-sheet·slice-aggregate-print-slices-3 c in let v = lent r .before .before .before .before .before .before .before .before .before .sevens in after-is (start (lent r) .args .c-end) 2700 (v .result) (r .read-sheet .last .1 .1 .1 .0) (v .ensures) (r .read-sheet .kept .1 .1 .1 .0)
+
+slice-aggregate-print-slices-4 : tie.Need-slice-aggregate-print-slices-4
+slice-aggregate-print-slices-4 c = let r = read-sheet·slice-aggregate-print-slices-4 c in let v = lent r .before .before .before .before .before .before .before .before .sevens2 in after-is (start (lent r) .args .f-end) 2700 (v .result) (r .read-sheet .last .1 .1 .1 .1 .0) (v .ensures) (r .read-sheet .kept .1 .1 .1 .1 .0)
+
+slice-aggregate-print-slices-5 : tie.Need-slice-aggregate-print-slices-5
+slice-aggregate-print-slices-5 c = let r = read-sheet·slice-aggregate-print-slices-5 c in let v = lent r .before .before .before .before .before .before .before .sevens3 in after-is (start (lent r) .args .x-end) 2700 (v .result) (r .read-sheet .last .1 .1 .1 .1 .1 .0) (v .ensures) (r .read-sheet .kept .1 .1 .1 .1 .1 .0)
+
+slice-aggregate-print-slices-6 : tie.Need-slice-aggregate-print-slices-6
+slice-aggregate-print-slices-6 c = let r = read-sheet·slice-aggregate-print-slices-6 c in let v = lent r .before .before .before .before .before .before .sevens4 in after-is (start (lent r) .args .p-end) 2700 (v .result) (r .read-sheet .last .1 .1 .1 .1 .1 .1 .0) (v .ensures) (r .read-sheet .kept .1 .1 .1 .1 .1 .1 .0)
+
+slice-aggregate-print-slices-7 : tie.Need-slice-aggregate-print-slices-7
+slice-aggregate-print-slices-7 c = let r = read-sheet·slice-aggregate-print-slices-7 c in let v = lent r .before .before .before .before .before .sevens5 in after-is (start (lent r) .args .i-end) 2700 (v .result) (r .read-sheet .last .1 .1 .1 .1 .1 .1 .1 .0) (v .ensures) (r .read-sheet .kept .1 .1 .1 .1 .1 .1 .1 .0)
+
+slice-aggregate-print-slices-8 : tie.Need-slice-aggregate-print-slices-8
+slice-aggregate-print-slices-8 c = let r = read-sheet·slice-aggregate-print-slices-8 c in let v = lent r .before .before .before .before .sevens6 in after-is (start (lent r) .args .t-end) 2700 (v .result) (r .read-sheet .last .1 .1 .1 .1 .1 .1 .1 .1 .0) (v .ensures) (r .read-sheet .kept .1 .1 .1 .1 .1 .1 .1 .1 .0)
+
+slice-aggregate-print-slices-9 : tie.Need-slice-aggregate-print-slices-9
+slice-aggregate-print-slices-9 c = let r = read-sheet·slice-aggregate-print-slices-9 c in let v = lent r .before .before .before .sevens7 in after-is (start (lent r) .args .q-end) 2700 (v .result) (r .read-sheet .last .1 .1 .1 .1 .1 .1 .1 .1 .1 .0) (v .ensures) (r .read-sheet .kept .1 .1 .1 .1 .1 .1 .1 .1 .1 .0)
+
+slice-aggregate-print-slices-10 : tie.Need-slice-aggregate-print-slices-10
+slice-aggregate-print-slices-10 c = let r = read-sheet·slice-aggregate-print-slices-10 c in let v = lent r .before .before .sevens8 in after-is (start (lent r) .args .u-end) 2700 (v .result) (r .read-sheet .last .1 .1 .1 .1 .1 .1 .1 .1 .1 .1 .0) (v .ensures) (r .read-sheet .kept .1 .1 .1 .1 .1 .1 .1 .1 .1 .1 .0)
+
+slice-aggregate-print-slices-11 : tie.Need-slice-aggregate-print-slices-11
+slice-aggregate-print-slices-11 c = let r = read-sheet·slice-aggregate-print-slices-11 c in let v = lent r .before .sevens9 in after-is (start (lent r) .args .e-end) 2700 (v .result) (r .read-sheet .last .1 .1 .1 .1 .1 .1 .1 .1 .1 .1 .1 .0) (v .ensures) (r .read-sheet .kept .1 .1 .1 .1 .1 .1 .1 .1 .1 .1 .1 .0)
+
+slice-aggregate-print-slices-12 : tie.Need-slice-aggregate-print-slices-12
+slice-aggregate-print-slices-12 c = let r = read-sheet·print-slices-requires c in let v = lent r .sevens10 in after-is (start (lent r) .args .r-end) 2700 (v .result) (r .read-sheet .last .1 .1 .1 .1 .1 .1 .1 .1 .1 .1 .1 .1 .0) (v .ensures) (r .read-sheet .kept .1 .1 .1 .1 .1 .1 .1 .1 .1 .1 .1 .1 .0)
+
 print-slices-requires : tie.Need-print-slices-requires
 print-slices-requires c κs = tt
 
-same-length : tie.Need-same-length
-same-length c = c .before .before .before .before .before .before .before .before .before .before .before .before .before .before .before .before .before .before .before .before .before .before .before .before .before .before .before .before .before .before .before .before .before .before .before .before .before .before .before .before .before .before .before .before .before .before .before .before .before .before .before .before .before .before .before .before .before .before .before .before .before .before .before .before .before .before .before .before .before .before .before .before .before .before .before .before .before .before .before .before .read-bytes .kept .0
-
-same-length-2 : tie.Need-same-length-2
-same-length-2 c =
-    length-front (start (measured c) .args .bytes .now) (call c .read-sheet .last .1 .0) (end-bytes (measured c) .bytes-end2 .result) (call c .read-sheet .kept .1 .0)
-
-same-length-3 : tie.Need-same-length-3
-same-length-3 c =
-    length-front (start (measured c) .args .n .now) (call c .read-sheet .last .1 .1 .0) (end-n (measured c) .numbers-end .result) (call c .read-sheet .kept .1 .1 .0)
-
-same-length-4 : tie.Need-same-length-4
-same-length-4 c =
-    length-front (start (measured c) .args .c .now) (call c .read-sheet .last .1 .1 .1 .0) (end-c (measured c) .numbers-end2 .result) (call c .read-sheet .kept .1 .1 .1 .0)
-
-same-length-5 : tie.Need-same-length-5
-same-length-5 c =
-    length-front (start (measured c) .args .f .now) (call c .read-sheet .last .1 .1 .1 .1 .0) (end-f (measured c) .numbers-end3 .result) (call c .read-sheet .kept .1 .1 .1 .1 .0)
-
-same-length-6 : tie.Need-same-length-6
-same-length-6 c =
-    length-front (start (measured c) .args .x .now) (call c .read-sheet .last .1 .1 .1 .1 .1 .0) (end-x (measured c) .numbers-end4 .result) (call c .read-sheet .kept .1 .1 .1 .1 .1 .0)
-
-same-length-7 : tie.Need-same-length-7
-same-length-7 c =
-    length-front (start (measured c) .args .p .now) (call c .read-sheet .last .1 .1 .1 .1 .1 .1 .0) (end-p (measured c) .numbers-end5 .result) (call c .read-sheet .kept .1 .1 .1 .1 .1 .1 .0)
-
-same-length-8 : tie.Need-same-length-8
-same-length-8 c =
-    length-front (start (measured c) .args .i .now) (call c .read-sheet .last .1 .1 .1 .1 .1 .1 .1 .0) (end-i (measured c) .numbers-end6 .result) (call c .read-sheet .kept .1 .1 .1 .1 .1 .1 .1 .0)
-
-same-length-9 : tie.Need-same-length-9
-same-length-9 c =
-    length-front (start (measured c) .args .t .now) (call c .read-sheet .last .1 .1 .1 .1 .1 .1 .1 .1 .0) (end-t (measured c) .numbers-end7 .result) (call c .read-sheet .kept .1 .1 .1 .1 .1 .1 .1 .1 .0)
-
-same-length-10 : tie.Need-same-length-10
-same-length-10 c =
-    length-front (start (measured c) .args .q .now) (call c .read-sheet .last .1 .1 .1 .1 .1 .1 .1 .1 .1 .0) (end-q (measured c) .numbers-end8 .result) (call c .read-sheet .kept .1 .1 .1 .1 .1 .1 .1 .1 .1 .0)
-
-same-length-11 : tie.Need-same-length-11
-same-length-11 c =
-    length-front (start (measured c) .args .u .now) (call c .read-sheet .last .1 .1 .1 .1 .1 .1 .1 .1 .1 .1 .0) (end-u (measured c) .numbers-end9 .result) (call c .read-sheet .kept .1 .1 .1 .1 .1 .1 .1 .1 .1 .1 .0)
-
-same-length-12 : tie.Need-same-length-12
-same-length-12 c =
-    length-front (start (measured c) .args .e .now) (call c .read-sheet .last .1 .1 .1 .1 .1 .1 .1 .1 .1 .1 .1 .0) (end-e (measured c) .numbers-end10 .result) (call c .read-sheet .kept .1 .1 .1 .1 .1 .1 .1 .1 .1 .1 .1 .0)
-
-same-length-13 : tie.Need-same-length-13
-same-length-13 c =
-    length-front (start (measured c) .args .r .now) (call c .read-sheet .last .1 .1 .1 .1 .1 .1 .1 .1 .1 .1 .1 .1 .0) (end-r (measured c) .numbers-end11 .result) (call c .read-sheet .kept .1 .1 .1 .1 .1 .1 .1 .1 .1 .1 .1 .1 .0)
-
 returns : tie.Need-returns
-returns c = search needs
+returns c = tt
 
 pub replay-spec : {M : Type 1} → statement M
 replay-spec =
     tie.close
     (tie.spec
-    array-read-read-bytes
-    read-bytes-requires
-    array-read-bytes-end
-    bytes-end-requires
-    array-read-bytes-end-2
-    bytes-end-requires-2
-    array-read-numbers-end
-    numbers-end-requires
-    array-read-numbers-end-2
-    numbers-end-requires-2
-    array-read-numbers-end-3
-    numbers-end-requires-3
-    array-read-numbers-end-4
-    numbers-end-requires-4
-    array-read-numbers-end-5
-    numbers-end-requires-5
-    array-read-numbers-end-6
-    numbers-end-requires-6
-    array-read-numbers-end-7
-    numbers-end-requires-7
-    array-read-numbers-end-8
-    numbers-end-requires-8
-    array-read-numbers-end-9
-    numbers-end-requires-9
-    array-read-numbers-end-10
-    numbers-end-requires-10
-    array-read-numbers-end-11
-    numbers-end-requires-11
-    slice-reshare-prefix-read-sheet
+    sevens-of-bytes-requires
+    sevens-of-names-requires
+    sevens-requires
+    sevens-requires-2
+    sevens-requires-3
+    sevens-requires-4
+    sevens-requires-5
+    sevens-requires-6
+    sevens-requires-7
+    sevens-requires-8
+    sevens-requires-9
+    sevens-requires-10
+    array-borrow-prefix-bytes
     slice-aggregate-read-sheet
-    slice-relend-prefix-read-sheet
+    array-borrow-prefix-n
     slice-aggregate-read-sheet-2
-    slice-relend-prefix-read-sheet-2
+    array-borrow-prefix-c
     slice-aggregate-read-sheet-3
-    slice-relend-prefix-read-sheet-3
+    array-borrow-prefix-f
     slice-aggregate-read-sheet-4
-    slice-relend-prefix-read-sheet-4
+    array-borrow-prefix-x
     slice-aggregate-read-sheet-5
-    slice-relend-prefix-read-sheet-5
+    array-borrow-prefix-p
     slice-aggregate-read-sheet-6
-    slice-relend-prefix-read-sheet-6
+    array-borrow-prefix-i
     slice-aggregate-read-sheet-7
-    slice-relend-prefix-read-sheet-7
+    array-borrow-prefix-t
     slice-aggregate-read-sheet-8
-    slice-relend-prefix-read-sheet-8
+    array-borrow-prefix-q
     slice-aggregate-read-sheet-9
-    slice-relend-prefix-read-sheet-9
+    array-borrow-prefix-u
     slice-aggregate-read-sheet-10
-    slice-relend-prefix-read-sheet-10
+    array-borrow-prefix-e
     slice-aggregate-read-sheet-11
-    slice-relend-prefix-read-sheet-11
+    array-borrow-prefix-r
     slice-aggregate-read-sheet-12
-    slice-relend-prefix-read-sheet-12
-    slice-aggregate-read-sheet-13
     read-sheet-requires
     print-answer-requires
+    slice-aggregate-print-slices
+    slice-aggregate-print-slices-2
+    slice-aggregate-print-slices-3
+    slice-aggregate-print-slices-4
+    slice-aggregate-print-slices-5
+    slice-aggregate-print-slices-6
+    slice-aggregate-print-slices-7
+    slice-aggregate-print-slices-8
+    slice-aggregate-print-slices-9
+    slice-aggregate-print-slices-10
+    slice-aggregate-print-slices-11
+    slice-aggregate-print-slices-12
     print-slices-requires
-    same-length
-    same-length-2
-    same-length-3
-    same-length-4
-    same-length-5
-    same-length-6
-    same-length-7
-    same-length-8
-    same-length-9
-    same-length-10
-    same-length-11
-    same-length-12
-    same-length-13
     returns)

@@ -5,6 +5,7 @@ use native.Mathlib.Omega.{arith}
 use borrow.Author.Needs.{needs}
 use lib.ListN.{take, drop}
 use lib.Seq.{sets}
+use Rattle.as5506.specs.Layout.{featureNumbers}
 use Rattle.lent.proofs.Append.{append-past}
 use Rattle.sink.proofs.Blocks.{written-length, match-put, kept-length}
 use Rattle.sink.proofs.put_match.Statement.{statement}
@@ -73,11 +74,11 @@ same-length c = search needs
 returns-2 : tie.Need-returns-2
 returns-2 c =
     let s = c .before .before .before .before .before .before .before .before .before .before .before .before .before .before .before .before .before in
-    let e : s .args .i * 14 + 14 - s .args .i * 14 ≡ 14 = omega arith in
+    let e : s .args .i * featureNumbers + featureNumbers - s .args .i * featureNumbers ≡ featureNumbers = omega arith in
     match-put _ _ _ _ _ (written-length (s .args .feature) (s .pre .0) (s .pre .1)) (kept-length (s .args .kept .now) (s .args .i) (s .pre .2)) _ _ _ _ _
     (c .before .before .before .before .before .before .before .before .before .before .before .before .before .block-of .ensures)
     (c .before .before .before .before .before .before .before .before .before .before .put-numbers .ensures)
-    (c .before .before .before .before .before .before .put-numbers2 .ensures ∙ ap (λ (k : ℕ). sets (c .before .before .before .before .before .before .before .before .before .before .put-numbers .last .0) 17 (take k (drop (s .args .i * 14) (s .args .kept .now)))) e)
+    (c .before .before .before .before .before .before .put-numbers2 .ensures ∙ ap (λ (k : ℕ). sets (c .before .before .before .before .before .before .before .before .before .before .put-numbers .last .0) 17 (take k (drop (s .args .i * featureNumbers) (s .args .kept .now)))) e)
     (c .before .before .append-numbers .ensures)
 
 pub put-match-spec : {M : Type 1} → statement M

@@ -3,9 +3,10 @@ use Rattle.trace.proofs.Rows.{row-same, leftRows, phase, ends-source, e
 use Rattle.trace.proofs.Chains.{begins-done, begins-at}
 use Rattle.trace.proofs.Scan.{step-at, step-done, within-at, fewer}
 use Rattle.trace.proofs.Writing.{Remains}
-use Rattle.trace.specs.Ends.{endOf, rowsBehind}
-use Rattle.trace.specs.Steps.{sideOf, stepsFrom}
-use Rattle.as5506.specs.Layout.{tracedBlock}
+use Rattle.trace.specs.Ends.{chainPlaces, endOf, rowsBehind}
+use Rattle.columns.specs.Side.{sideOf}
+use Rattle.trace.specs.Steps.{stepsFrom}
+use Rattle.as5506.specs.Layout.{tracedBlock, rowNumbers}
 use Rattle.as5506.specs.Tracing.{chains}
 use Rattle.lent.specs.Lent.{wiringIn}
 use lib.ListN.{length, take, length-set}
@@ -25,7 +26,7 @@ use Rattle.trace.proofs.+trace.{statement}
 use Rattle.trace.proofs.+trace.Tie.{close}
 
 abbrev μ-trace : Measures 5 trace-kinds.ps ℕ
-μ-trace κs a = phase (a .1 .1 .1 .1 .1 .0) * 22 + a .1 .1 .1 .1 .1 .1 .1 .1 .0
+μ-trace κs a = phase (a .1 .1 .1 .1 .1 .0) * chainPlaces + a .1 .1 .1 .1 .1 .1 .1 .1 .0
 
 abbrev trace-at : ℕ → In 5 trace-kinds.ps
 trace-at t = and 5 trace-kinds.ps (is 5 trace-kinds.ps μ-trace t) trace.Pre
@@ -38,7 +39,7 @@ claims t = (first-step-reads.Asked, first-step-reads.Learnt, trace-below t, trac
 
 abbrev trace-Inv-loop : trace-lts.InvT-loop
 trace-Inv-loop bytes n c x out₀ side conn left other limit count component feature len so-far done₀ i₀ j₀ out done i j =
-    Remains 49 (tracedBlock (wiringIn bytes n c x)) (rowsBehind (wiringIn bytes n c x) (sideOf side) conn limit (endOf other) (take len so-far) (chains (wiringIn bytes n c x) (sideOf side) left component feature))
+    Remains rowNumbers (tracedBlock (wiringIn bytes n c x)) (rowsBehind (wiringIn bytes n c x) (sideOf side) conn limit (endOf other) (take len so-far) (chains (wiringIn bytes n c x) (sideOf side) left component feature))
     out₀ count out done (leftRows (wiringIn bytes n c x) (sideOf side) conn limit (endOf other) (take len so-far) left (stepsFrom (wiringIn bytes n c x) (sideOf side) component feature i j))
 
 abbrev trace-μ-loop : trace-lts.MeasureT-loop
@@ -58,8 +59,8 @@ trace-trace-requires : (t : ℕ) → trace-lts.Need-trace-requires (claims t) (t
 trace-trace-requires t c κs =
     let s = c .before .before .before .before .before .before .before .before .before .before .before in
     let e = c .before .enum-told2 .given .1 in
-    let f = fit-over _ _ _ _ _ e (s .pre .1 .1 .2) in
-    (omega (arith, s .pre .0, ap phase e, f .1), (s .pre .1 .0, (s .pre .1 .1 .1, s .pre .1 .1 .0, f .0)))
+    let f = fit-over _ _ _ _ _ e (s .pre .1 .1 .steps) in
+    (omega (arith, s .pre .0, ap phase e, f .1), (s .pre .1 .0, record { places = s .pre .1 .1 .other-places; other-places = s .pre .1 .1 .places; steps = f .0 }))
 
 trace-same-length : (t : ℕ) → trace-lts.Need-same-length (claims t) (trace-at t) trace.Post trace-Inv-loop trace-μ-loop
 trace-same-length t c = c .before .before .trace .kept .1 .1 .1 .1 .0
@@ -75,8 +76,8 @@ trace-enum-told-3 t c = search needs
 trace-put-row-requires : (t : ℕ) → trace-lts.Need-put-row-requires (claims t) (trace-at t) trace.Post trace-Inv-loop trace-μ-loop
 trace-put-row-requires t c κs =
     let s = c .before .before .before .before .before .before .before .before .before .before .before in
-    let f = fit-row _ _ _ _ _ (c .before .enum-told3 .given .1) (s .pre .1 .1 .2) in
-    (omega (arith, f .0, f .1), omega (arith, f .0, f .1), s .pre .1 .1 .1, s .pre .1 .1 .0)
+    let f = fit-row _ _ _ _ _ (c .before .enum-told3 .given .1) (s .pre .1 .1 .steps) in
+    (record { places = s .pre .1 .1 .other-places; taken = f .0 }, record { places = s .pre .1 .1 .places; taken = f .1 })
 
 trace-same-length-2 : (t : ℕ) → trace-lts.Need-same-length-2 (claims t) (trace-at t) trace.Post trace-Inv-loop trace-μ-loop
 trace-same-length-2 t c = c .before .before .put-row .kept .0
@@ -93,7 +94,7 @@ trace-loop-holds : (t : ℕ) → trace-lts.Need-loop-holds (claims t) (trace-at 
 trace-loop-holds t c =
     let s = c .before .before .before .before .before .before .before .before .before in
     let b = begins-at _ _ _ _ _ _ (c .before .before .before .first-step .ensures) _ _ _ (c .before .enum-told4 .given .1) in
-    trace-start _ _ _ _ _ _ _ _ _ _ _ _ _ _ (s .pre .1 .0 .2) b
+    trace-start _ _ _ _ _ _ _ _ _ _ _ _ _ _ (s .pre .1 .0 .room) b
 
 trace-next-step-requires : (t : ℕ) → trace-lts.Need-next-step-requires (claims t) (trace-at t) trace.Post trace-Inv-loop trace-μ-loop
 trace-next-step-requires t c κs = tt
@@ -135,31 +136,31 @@ trace-cast-path : (t : ℕ) → trace-lts.Need-cast-path (claims t) (trace-at t)
 trace-cast-path t c =
     let s = Start·trace-add-trace t c in
     let w = within-at _ _ _ (c .before .before .before .next-step .ensures .1) _ _ _ (c .before .row .given .1) in
-    omega (arith, w .0, s .pre .1 .0 .1)
+    omega (arith, w .0, s .pre .1 .0 .tables .connections)
 
 trace-mul-path : (t : ℕ) → trace-lts.Need-mul-path (claims t) (trace-at t) trace.Post trace-Inv-loop trace-μ-loop
 trace-mul-path t c =
     let s = Start·trace-add-trace t c in
     let b = begins-at _ _ _ _ _ _ (first-step·trace-add-trace t c .first-step .ensures) _ _ _ (c .before .before .before .before .before .before .enum-told4 .given .1) in
-    omega (arith, fit-room _ _ _ _ _ (s .pre .1 .1 .2) (b .0))
+    omega (arith, fit-room _ _ _ _ _ (s .pre .1 .1 .steps) (b .0))
 
 trace-array-write-path : (t : ℕ) → trace-lts.Need-array-write-path (claims t) (trace-at t) trace.Post trace-Inv-loop trace-μ-loop
 trace-array-write-path t c =
     let s = Start·trace-add-trace t c in
     let b = begins-at _ _ _ _ _ _ (first-step·trace-add-trace t c .first-step .ensures) _ _ _ (c .before .before .before .before .before .before .enum-told4 .given .1) in
-    omega (arith, s .pre .1 .1 .0, fit-room _ _ _ _ _ (s .pre .1 .1 .2) (b .0))
+    omega (arith, s .pre .1 .1 .places, fit-room _ _ _ _ _ (s .pre .1 .1 .steps) (b .0))
 
 trace-cast-t33 : (t : ℕ) → trace-lts.Need-cast-t33 (claims t) (trace-at t) trace.Post trace-Inv-loop trace-μ-loop
 trace-cast-t33 t c =
     let s = Start·trace-add-trace t c in
     let w = within-at _ _ _ (c .before .before .before .next-step .ensures .1) _ _ _ (c .before .row .given .1) in
-    omega (arith, w .1, s .pre .1 .0 .0)
+    omega (arith, w .1, s .pre .1 .0 .tables .components)
 
 trace-add-trace : (t : ℕ) → trace-lts.Need-add-trace (claims t) (trace-at t) trace.Post trace-Inv-loop trace-μ-loop
 trace-add-trace t c =
     let s = Start·trace-add-trace t c in
     let b = begins-at _ _ _ _ _ _ (first-step·trace-add-trace t c .first-step .ensures) _ _ _ (c .before .before .before .before .before .before .enum-told4 .given .1) in
-    omega (arith, fit-room _ _ _ _ _ (s .pre .1 .1 .2) (b .0))
+    omega (arith, fit-room _ _ _ _ _ (s .pre .1 .1 .steps) (b .0))
 
 trace-sub-trace : (t : ℕ) → trace-lts.Need-sub-trace (claims t) (trace-at t) trace.Post trace-Inv-loop trace-μ-loop
 trace-sub-trace t c =
@@ -172,7 +173,10 @@ trace-trace-requires-2 t c κs =
     let g = c .before .before .before .before .before .loop in
     let b = begins-at _ _ _ _ _ _ (c .before .before .before .before .before .before .before .before .before .first-step .ensures) _ _ _ (c .before .before .before .before .before .before .before .enum-told4 .given .1) in (
       omega (arith, s .pre .0, b .0),
-      ((s .pre .1 .0 .0, s .pre .1 .0 .1, rw (g .inv .size) (g .inv .room)), (simp length-set (s .pre .1 .1 .0), s .pre .1 .1 .1, fit-less _ _ _ _ _ _ _ (s .pre .1 .1 .2) (omega (arith, b .0)))),
+      (
+        record { tables = s .pre .1 .0 .tables; room = rw (g .inv .size) (g .inv .room) },
+        record { places = simp length-set (s .pre .1 .1 .places); other-places = s .pre .1 .1 .other-places; steps = fit-less _ _ _ _ _ _ _ (s .pre .1 .1 .steps) (omega (arith, b .0)) },
+      ),
     )
 
 trace-enum-told-6 : (t : ℕ) → trace-lts.Need-enum-told-6 (claims t) (trace-at t) trace.Post trace-Inv-loop trace-μ-loop
@@ -188,7 +192,7 @@ trace-returns-4 t c =
     let b = begins-at _ _ _ _ _ _ (c .before .before .before .before .before .before .before .before .before .before .before .before .before .before .first-step .ensures) _ _ _ (c .before .before .before .before .before .before .before .before .before .before .before .before .enum-told4 .given .1) in
     let e = step-at _ _ _ _ _ _ _ (c .before .before .before .before .before .before .before .before .before .next-step .ensures .0) _ _ _ (c .before .before .before .before .before .before .before .row .given .1) in
     trace-full _ _ _ _ _ _ _ _ (s .args .here .path) (s .args .here .len) (s .args .out .now) (s .args .count) (g .out) (g .done) _ _ _ (g .inv) e
-    (omega (arith, s .pre .1 .1 .0, fit-room _ _ _ _ _ (s .pre .1 .1 .2) (b .0))) (c .before .before .before .before .trace2 .result) _ (c .before .before .before .before .trace2 .ensures) (c .enum-told6 .given .1) _
+    (omega (arith, s .pre .1 .1 .places, fit-room _ _ _ _ _ (s .pre .1 .1 .steps) (b .0))) (c .before .before .before .before .trace2 .result) _ (c .before .before .before .before .trace2 .ensures) (c .enum-told6 .given .1) _
 
 trace-enum-known-r : (t : ℕ) → trace-lts.Need-enum-known-r (claims t) (trace-at t) trace.Post trace-Inv-loop trace-μ-loop
 trace-enum-known-r t c = search needs
@@ -197,7 +201,7 @@ trace-add-j : (t : ℕ) → trace-lts.Need-add-j (claims t) (trace-at t) trace.P
 trace-add-j t c =
     let s = Start·trace-loop-again t c in
     let w = within-at _ _ _ (next-step·trace-loop-again t c .next-step .ensures .1) _ _ _ (row·trace-loop-again t c .row .given .1) in
-    omega (arith, w .1, s .pre .1 .0 .0)
+    omega (arith, w .1, s .pre .1 .0 .tables .components)
 
 trace-loop-less : (t : ℕ) → trace-lts.Need-loop-less (claims t) (trace-at t) trace.Post trace-Inv-loop trace-μ-loop
 trace-loop-less t c =
@@ -211,7 +215,7 @@ trace-loop-again t c =
     let b = begins-at _ _ _ _ _ _ (c .before .before .before .before .before .before .before .before .before .before .before .before .before .before .before .first-step .ensures) _ _ _ (c .before .before .before .before .before .before .before .before .before .before .before .before .before .enum-told4 .given .1) in
     let e = step-at _ _ _ _ _ _ _ (next-step·trace-loop-again t c .next-step .ensures .0) _ _ _ (row·trace-loop-again t c .row .given .1) in
     trace-turn _ _ _ _ _ _ _ _ (s .args .here .path) (s .args .here .len) (s .args .out .now) (s .args .count) (g .out) (g .done) _ _ _ (g .inv) e
-    (omega (arith, s .pre .1 .1 .0, fit-room _ _ _ _ _ (s .pre .1 .1 .2) (b .0))) (c .before .before .before .before .before .trace2 .result) _ (c .before .before .before .before .before .trace2 .ensures) _ (c .before .r .given .1)
+    (omega (arith, s .pre .1 .1 .places, fit-room _ _ _ _ _ (s .pre .1 .1 .steps) (b .0))) (c .before .before .before .before .before .trace2 .result) _ (c .before .before .before .before .before .trace2 .ensures) _ (c .before .r .given .1)
 
 pub +trace-spec : {M : Type 1} → statement M
 +trace-spec = close μ-trace λ t. trace-lts.spec (claims t)

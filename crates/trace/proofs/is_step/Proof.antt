@@ -1,6 +1,6 @@
 -- `trace::is_step` meets its contract. Part by part, up to the first that fails: one law of Scan for each return. Assumes nothing.
 use Rattle.trace.proofs.Scan.{not-own, no-sub, near-sub, no-near-feature, by-feature}
-use Rattle.trace.specs.Steps.{sideOf}
+use Rattle.columns.specs.Side.{sideOf}
 use Rattle.as5506.specs.Tables.{Side as TheSide}
 use Rattle.as5506.specs.Tables.{xSub, xFeat}
 use mathlib.Core.List.{[]}
@@ -10,17 +10,11 @@ use Rattle.trace.proofs.is_step.Statement.{statement}
 use Rattle.trace.proofs.is_step.Tie as tie
 use Rattle.lent.specs.Lent.{connectionsIn}
 
-mul-number-at : tie.Need-mul-number-at
-mul-number-at c = search needs
-
-add-number-at : tie.Need-add-number-at
-add-number-at c = search needs
-
-number-at-requires : tie.Need-number-at-requires
-number-at-requires c κs = search needs
+owner-of-requires : tie.Need-owner-of-requires
+owner-of-requires c κs = search needs
 
 returns : tie.Need-returns
-returns c = let s = c .before .before .before .before .before .args in not-own _ (sideOf (s .side)) (s .component) (s .feature) (s .i) _ (c .before .number-at .ensures) (c .if1 .taken)
+returns c = let s = c .before .before .before .before .before .args in not-own _ (sideOf (s .side)) (s .component) (s .feature) (s .i) _ (c .before .owner-of .ensures) (c .if1 .taken)
 
 subcomponent-of-requires : tie.Need-subcomponent-of-requires
 subcomponent-of-requires c κs = search needs
@@ -28,7 +22,7 @@ subcomponent-of-requires c κs = search needs
 returns-2 : tie.Need-returns-2
 returns-2 c =
     let s = c .before .before .before .before .before .before .before .args in
-    no-sub _ (sideOf (s .side)) (s .component) (s .feature) (s .i) _ (c .before .before .before .number-at .ensures) (c .before .before .if1 .left) _ (c .before .subcomponent-of .ensures) (c .if2 .taken)
+    no-sub _ (sideOf (s .side)) (s .component) (s .feature) (s .i) _ (c .before .before .before .owner-of .ensures) (c .before .before .if1 .left) _ (c .before .subcomponent-of .ensures) (c .if2 .taken)
 
 opposite-requires : tie.Need-opposite-requires
 opposite-requires c κs = search needs
@@ -39,7 +33,7 @@ subcomponent-of-requires-2 c κs = search needs
 returns-3 : tie.Need-returns-3
 returns-3 c =
     let s = c .before .before .before .before .before .before .before .before .before .before .args in
-    near-sub _ (sideOf (s .side)) (s .component) (s .feature) (s .i) _ (c .before .before .before .before .before .before .number-at .ensures) (c .before .before .before .before .before .if1 .left) _ (c .before .before .before .before .subcomponent-of .ensures) (c .before .before .before .if2 .left)
+    near-sub _ (sideOf (s .side)) (s .component) (s .feature) (s .i) _ (c .before .before .before .before .before .before .owner-of .ensures) (c .before .before .before .before .before .if1 .left) _ (c .before .before .before .before .subcomponent-of .ensures) (c .before .before .before .if2 .left)
     _ (c .before .subcomponent-of2 .ensures ∙ ap (λ (t : TheSide). xSub (connectionsIn [] [] (s .x .now)) t (s .i)) (c .before .before .opposite .ensures)) (c .if3 .taken)
 
 feature-of-requires : tie.Need-feature-of-requires
@@ -48,7 +42,7 @@ feature-of-requires c κs = search needs
 returns-4 : tie.Need-returns-4
 returns-4 c =
     let s = c .before .before .before .before .before .before .before .before .before .before .before .before .args in
-    no-near-feature _ (sideOf (s .side)) (s .component) (s .feature) (s .i) _ (c .before .before .before .before .before .before .before .before .number-at .ensures) (c .before .before .before .before .before .before .before .if1 .left) _ (c .before .before .before .before .before .before .subcomponent-of .ensures) (c .before .before .before .before .before .if2 .left)
+    no-near-feature _ (sideOf (s .side)) (s .component) (s .feature) (s .i) _ (c .before .before .before .before .before .before .before .before .owner-of .ensures) (c .before .before .before .before .before .before .before .if1 .left) _ (c .before .before .before .before .before .before .subcomponent-of .ensures) (c .before .before .before .before .before .if2 .left)
     _ (c .before .before .before .subcomponent-of2 .ensures ∙ ap (λ (t : TheSide). xSub (connectionsIn [] [] (s .x .now)) t (s .i)) (c .before .before .before .before .opposite .ensures)) (c .before .before .if3 .left)
     _ (c .before .feature-of .ensures ∙ ap (λ (t : TheSide). xFeat (connectionsIn [] [] (s .x .now)) t (s .i)) (c .before .before .before .before .opposite .ensures)) (c .if4 .taken)
 
@@ -58,7 +52,7 @@ same-feature-requires c κs = search needs
 returns-5 : tie.Need-returns-5
 returns-5 c =
     let s = c .before .before .before .before .before .before .before .before .before .before .before .before .before .args in
-    by-feature _ (sideOf (s .side)) (s .component) (s .feature) (s .i) _ (c .before .before .before .before .before .before .before .before .before .number-at .ensures) (c .before .before .before .before .before .before .before .before .if1 .left) _ (c .before .before .before .before .before .before .before .subcomponent-of .ensures) (c .before .before .before .before .before .before .if2 .left)
+    by-feature _ (sideOf (s .side)) (s .component) (s .feature) (s .i) _ (c .before .before .before .before .before .before .before .before .before .owner-of .ensures) (c .before .before .before .before .before .before .before .before .if1 .left) _ (c .before .before .before .before .before .before .before .subcomponent-of .ensures) (c .before .before .before .before .before .before .if2 .left)
     _ (c .before .before .before .before .subcomponent-of2 .ensures ∙ ap (λ (t : TheSide). xSub (connectionsIn [] [] (s .x .now)) t (s .i)) (c .before .before .before .before .before .opposite .ensures)) (c .before .before .before .if3 .left)
     _ (c .before .before .feature-of .ensures ∙ ap (λ (t : TheSide). xFeat (connectionsIn [] [] (s .x .now)) t (s .i)) (c .before .before .before .before .before .opposite .ensures)) (c .before .if4 .left) _ (c .same-feature .ensures)
 
@@ -66,9 +60,7 @@ pub is-step-spec : {M : Type 1} → statement M
 is-step-spec =
     tie.close
     (tie.spec
-    mul-number-at
-    add-number-at
-    number-at-requires
+    owner-of-requires
     returns
     subcomponent-of-requires
     returns-2

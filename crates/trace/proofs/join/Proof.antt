@@ -4,6 +4,7 @@ use mathlib.Core.List.{List}
 use Rattle.trace.proofs.Joining.{places-front, Joins, joins-start, joins-old, joins-new, joins-end}
 use Rattle.as5506.specs.Tracing.{appendNew}
 use Rattle.as5506.specs.Lists.{padded}
+use Rattle.as5506.specs.Layout.{pathPlaces}
 use lib.ListN.{length, take}
 use borrow.Author.Tests.{not-true, not-false}
 use native.Mathlib.Omega.{arith}
@@ -65,7 +66,7 @@ returns c =
     let g = c .before .loop in
     let e = ap (λ (p : List ℕ). appendNew p (take (s .dlen) (s .t3))) (places-front (s .s) _ (s .slen) (omega arith) (c .before .before .places .ensures)) in
     let j = joins-end _ (g .rows) (g .len) (s .t3) (s .dlen) (g .k) (s .slen) (g .inv) (omega arith) (omega arith) (omega (arith, g .inv .room, g .inv .within)) in
-    (j .0 ∙ ap (padded 41) e, (j .1 ∙ ap length e, omega (arith, g .inv .room, g .inv .within)))
+    (j .0 ∙ ap (padded pathPlaces) e, (j .1 ∙ ap length e, omega (arith, g .inv .room, g .inv .within)))
 
 pub join-spec : {M : Type 1} → statement M
 join-spec =

@@ -1,6 +1,7 @@
 -- `trace::next_step` meets its contract. The invariant: the steps from the first row on are those from row i on. The measure: the rows that are left. Assumes nothing.
 use Rattle.trace.proofs.Scan.{steps-hit, steps-miss, steps-end}
-use Rattle.trace.specs.Steps.{sideOf, stepsFrom}
+use Rattle.columns.specs.Side.{sideOf}
+use Rattle.trace.specs.Steps.{stepsFrom}
 use Rattle.children.proofs.Scan.{after-at, after-nothing, inside-at}
 use borrow.Author.Needs.{needs}
 use native.Mathlib.Omega.{arith}

@@ -2,6 +2,7 @@
 use Rattle.trace.proofs.Joining.{places-turn, padded-size}
 use Rattle.lent.proofs.Padded.{padded-none}
 use Rattle.as5506.specs.Lists.{padded}
+use Rattle.as5506.specs.Layout.{pathPlaces}
 use lib.Seq.{length-take-le}
 use Prim.Native.Nat.{ℕ, _+_, _-_, _≤_}
 use lib.ListN.{length, take}
@@ -11,13 +12,13 @@ use Rattle.trace.proofs.places.Statement.{statement}
 use Rattle.trace.proofs.places.Tie as tie
 
 abbrev Inv-loop : tie.InvT-loop
-Inv-loop len s rows₀ i₀ rows i = (i ≤ len) × (length rows ≡ 41) × (rows ≡ padded 41 (take i s))
+Inv-loop len s rows₀ i₀ rows i = (i ≤ len) × (length rows ≡ pathPlaces) × (rows ≡ padded pathPlaces (take i s))
 
 abbrev μ-loop : tie.MeasureT-loop
 μ-loop len s rows₀ i₀ rows i = len - i
 
 loop-holds : tie.Need-loop-holds Inv-loop μ-loop
-loop-holds c = (omega arith, refl, sym (padded-none 41))
+loop-holds c = (omega arith, refl, sym (padded-none pathPlaces))
 
 mul-rows : tie.Need-mul-rows Inv-loop μ-loop
 mul-rows c = omega arith
@@ -49,7 +50,7 @@ returns c =
     let g = c .before .loop in
     let s = c .before .before .args in
     let e : g .i ≡ s .len = omega arith in
-    g .inv .2 ∙ ap (λ (k : ℕ). padded 41 (take k (s .t1))) e
+    g .inv .2 ∙ ap (λ (k : ℕ). padded pathPlaces (take k (s .t1))) e
 
 pub places-spec : {M : Type 1} → statement M
 places-spec =

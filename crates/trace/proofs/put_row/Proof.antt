@@ -1,9 +1,6 @@
 -- `trace::put_row` meets its contract. The two blocks that are written are the row's. Assumes nothing.
 use Rattle.trace.proofs.Rows.{row-written}
 use Rattle.trace.specs.Writing.{Written}
-use lib.ListN.{getD}
-use Prim.Native.Nat.{ℕ, _+_, _*_}
-use mathlib.Core.Path.{_≡_, _∙_, ap}
 use native.Mathlib.Omega.{arith}
 use borrow.Author.Needs.{needs}
 use Rattle.trace.proofs.put_row.Statement.{statement}
@@ -14,19 +11,13 @@ unfolding Written
 returns c = omega arith
 
 join-requires : tie.Need-join-requires
-join-requires c κs = search needs
+join-requires c κs = let s = c .before .before .before .before .before in (s .pre .0 .taken, s .pre .1 .taken)
 
-mul-row : tie.Need-mul-row
-mul-row c = search needs
+kind-of-requires : tie.Need-kind-of-requires
+kind-of-requires c κs = search needs
 
-add-number-at : tie.Need-add-number-at
-add-number-at c = search needs
-
-number-at-requires : tie.Need-number-at-requires
-number-at-requires c κs = search needs
-
-number-at-requires-2 : tie.Need-number-at-requires-2
-number-at-requires-2 c κs = search needs
+name-of-requires : tie.Need-name-of-requires
+name-of-requires c κs = search needs
 
 cast-t19 : tie.Need-cast-t19
 cast-t19 c = search needs
@@ -62,15 +53,11 @@ join·returns-2 c = c .before .before .before .before .before .before .before .b
 abbrev Else1·returns-2 : tie.After-slice-known3 → tie.Else1
 Else1·returns-2 c = join·returns-2 c .before .before .before
 
-abbrev Start·returns-2 : tie.After-slice-known3 → tie.Start
-Start·returns-2 c = Else1·returns-2 c .before .before .before
-
 -- end of places
 
 returns-2 : tie.Need-returns-2
 returns-2 c =
-    let s = Start·returns-2 c .args in
-    row-written _ _ _ _ _ _ _ _ (c .before .before .before .before .before .before .before .before .before .before .before .before .number-at .ensures) (c .before .before .before .before .before .before .before .before .before .before .before .number-at2 .ensures ∙ ap (λ (k : ℕ). getD (s .x .now) k 0) (let e : s .conn * 7 ≡ s .conn * 7 + 0 = omega arith in e)) (join·returns-2 c .join .ensures .1 .0) (join·returns-2 c .join .ensures .0)
+    row-written _ _ _ _ _ _ _ _ (c .before .before .before .before .before .before .before .before .before .before .before .before .kind-of .ensures) (c .before .before .before .before .before .before .before .before .before .before .before .name-of .ensures) (join·returns-2 c .join .ensures .1 .0) (join·returns-2 c .join .ensures .0)
     _ _ _ _ (join·returns-2 c .join .ensures .1 .1) (Else1·returns-2 c .if1 .left) (c .before .before .before .before .before .before .before .put-numbers .ensures) (c .before .before .put-numbers2 .ensures)
 
 pub put-row-spec : {M : Type 1} → statement M
@@ -79,10 +66,8 @@ put-row-spec =
     (tie.spec
     returns
     join-requires
-    mul-row
-    add-number-at
-    number-at-requires
-    number-at-requires-2
+    kind-of-requires
+    name-of-requires
     cast-t19
     mul-at
     slice-aggregate-put-numbers

@@ -66,7 +66,7 @@ returns-4 : tie.Need-returns-4
 returns-4 c = written-as _ _ _ _ _ _ _ _ (diags-at _ _ _ (shape-same _ _ _ _ _ _ _ (c .before .before .before .before .before .before .shape-of .ensures) (c .before .before .before .before .enum-told4 .given .1))) (c .before .before .diagnose-edge2 .ensures)
 
 returns-5 : tie.Need-returns-5
-returns-5 c = written-as _ _ _ _ _ _ _ _ (diags-at _ _ _ (shape-same _ _ _ _ _ _ _ (c .before .before .shape-of .ensures) (c .enum-told5 .given .1)) ∙ neither-diags _ _) (written-none _ _ _ _ (c .before .before .before .before .before .before .before .before .pre .2))
+returns-5 c = written-as _ _ _ _ _ _ _ _ (diags-at _ _ _ (shape-same _ _ _ _ _ _ _ (c .before .before .shape-of .ensures) (c .enum-told5 .given .1)) ∙ neither-diags _ _) (written-none _ _ _ _ (c .before .before .before .before .before .before .before .before .pre .room))
 
 pub diagnose-connection-spec : {M : Type 1} → statement M
 diagnose-connection-spec =

@@ -1,14 +1,18 @@
 -- `semantic::diagnostics::diagnose_edge` meets its contract. One law of DiagLaws for each return. Assumes nothing.
 use Rattle.semantic.proofs.DiagLaws.{room-count, edge-none, edge-written}
-use Rattle.as5506.specs.Tables.{present, cParent}
+use Rattle.as5506.specs.Tables.{Tables, present, cParent}
 use Rattle.lent.specs.Lent.{wiringIn}
 use Rattle.trace.proofs.Writing.{written-none, written-as}
-use Rattle.trace.specs.Steps.{sideOf}
+use Rattle.columns.specs.Side.{sideOf}
 use Prim.Native.Nat.{ℕ, _-_}
 use mathlib.Core.Path.{sym, ap, _∙_}
 use borrow.Author.Needs.{needs}
 use Rattle.semantic.proofs.diagnostics.diagnose_edge.Statement.{statement}
 use Rattle.semantic.proofs.diagnostics.diagnose_edge.Tie as tie
+
+-- the tables that the call is lent
+abbrev wiring : tie.Start → Tables
+wiring s = wiringIn (s .args .bytes .now) (s .args .n .now) (s .args .c .now) (s .args .x .now)
 
 owner-of-requires : tie.Need-owner-of-requires
 owner-of-requires c κs = search needs
@@ -20,8 +24,8 @@ returns : tie.Need-returns
 returns c =
     let s = c .before .before .before .before .before .before .before .before in
     let a = s .args in
-    let m = wiringIn (a .bytes .now) (a .n .now) (a .c .now) (a .x .now) in
-    written-as _ _ _ _ _ _ _ _ (edge-none m (a .i) (sideOf (a .side)) (ap (λ (o : ℕ). present (cParent m o)) (sym (c .before .before .owner-of .ensures)) ∙ sym (c .before .has-parent .ensures) ∙ c .if1 .taken)) (written-none _ _ _ _ (s .pre .2))
+    let m = wiring s in
+    written-as _ _ _ _ _ _ _ _ (edge-none m (a .i) (sideOf (a .side)) (ap (λ (o : ℕ). present (cParent m o)) (sym (c .before .before .owner-of .ensures)) ∙ sym (c .before .has-parent .ensures) ∙ c .if1 .taken)) (written-none _ _ _ _ (s .pre .room))
 
 count-named-requires : tie.Need-count-named-requires
 count-named-requires c κs = search needs
@@ -36,7 +40,7 @@ subcomponent-of-requires : tie.Need-subcomponent-of-requires
 subcomponent-of-requires c κs = search needs
 
 diagnose-if-requires : tie.Need-diagnose-if-requires
-diagnose-if-requires c κs = let s = c .before .before .before .before .before .before .before .before .before .before .before .before in room-count _ _ (s .pre .2)
+diagnose-if-requires c κs = let s = c .before .before .before .before .before .before .before .before .before .before .before .before in room-count _ _ (s .pre .room)
 
 same-length : tie.Need-same-length
 same-length c = search needs
@@ -45,7 +49,7 @@ returns-2 : tie.Need-returns-2
 returns-2 c =
     let s = c .before .before .before .before .before .before .before .before .before .before .before .before .before .before .before in
     let a = s .args in
-    let m = wiringIn (a .bytes .now) (a .n .now) (a .c .now) (a .x .now) in
+    let m = wiring s in
     edge-written m (a .i) (sideOf (a .side)) (c .before .before .before .before .before .before .count-named .result) (c .before .before .before .subcomponent-of .result) (c .before .before .before .before .no-child-code .result) _ _ _ _ (ap (λ (o : ℕ). present (cParent m o)) (sym (c .before .before .before .before .before .before .before .before .before .owner-of .ensures)) ∙ sym (c .before .before .before .before .before .before .before .before .has-parent .ensures) ∙ c .before .before .before .before .before .before .before .if1 .left)
     (c .before .before .before .before .before .before .count-named .ensures .0) (c .before .before .before .subcomponent-of .ensures) (c .before .before .before .before .no-child-code .ensures) (c .before .before .diagnose-if .ensures)
 

@@ -1,4 +1,4 @@
--- `semantic::ends::resolve_connection_pattern` meets its contract. The last field of the row names the pattern. Assumes nothing.
+-- `semantic::ends::resolve_connection_pattern` meets its contract. The component names its pattern. Assumes nothing.
 use Rattle.as5506.specs.Tracing.{oneToOne}
 use Rattle.as5506.specs.Names.{isOneToOne}
 use Rattle.as5506.specs.Tables.{present, nameIn}
@@ -9,24 +9,17 @@ use borrow.Author.Needs.{needs}
 use Rattle.semantic.proofs.ends.resolve_connection_pattern.Statement.{statement}
 use Rattle.semantic.proofs.ends.resolve_connection_pattern.Tie as tie
 
-mul-number-at : tie.Need-mul-number-at
-mul-number-at c = search needs
-
-add-number-at : tie.Need-add-number-at
-add-number-at c = search needs
-
-number-at-requires : tie.Need-number-at-requires
-number-at-requires c κs = search needs
-
 pattern-of-requires : tie.Need-pattern-of-requires
 pattern-of-requires c κs = search needs
+
+pattern-of-requires-2 : tie.Need-pattern-of-requires-2
+pattern-of-requires-2 c κs = search needs
 
 returns : tie.Need-returns
 unfolding oneToOne
 returns c =
     let s = c .before .before .before .before .before .args in
-    c .pattern-of .ensures ∙ ap (λ (k : ℕ). present k && isOneToOne (nameIn (s .bytes .now) (s .n .now) k)) (c .before .number-at .ensures)
+    c .pattern-of2 .ensures ∙ ap (λ (k : ℕ). present k && isOneToOne (nameIn (s .bytes .now) (s .n .now) k)) (c .before .pattern-of .ensures)
 
 pub resolve-connection-pattern-spec : {M : Type 1} → statement M
-resolve-connection-pattern-spec =
-    tie.close (tie.spec mul-number-at add-number-at number-at-requires pattern-of-requires returns)
+resolve-connection-pattern-spec = tie.close (tie.spec pattern-of-requires pattern-of-requires-2 returns)

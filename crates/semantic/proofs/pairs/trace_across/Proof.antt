@@ -1,15 +1,15 @@
 -- `semantic::pairs::trace_across` meets its contract. By the pattern: one law of PairLaws for each. Assumes nothing.
-use Rattle.trace.proofs.Writing.{written-as}
 use Rattle.semantic.proofs.PairLaws.{across-one, across-all}
-use Rattle.semantic.proofs.Naming.{pattern-same}
-use Rattle.name.specs.Pattern.{saysOneToOne}
-use Rattle.as5506.specs.Tracing.{oneToOne}
+use Rattle.as5506.specs.Tables.{Tables}
 use Rattle.lent.specs.Lent.{wiringIn}
 use Prim.Native.Nat.{_-_}
-use mathlib.Core.Path.{sym, ap, _∙_}
 use borrow.Author.Needs.{needs}
 use Rattle.semantic.proofs.pairs.trace_across.Statement.{statement}
 use Rattle.semantic.proofs.pairs.trace_across.Tie as tie
+
+-- the tables that the call is lent
+abbrev wiring : tie.Start → Tables
+wiring s = wiringIn (s .args .bytes .now) (s .args .n .now) (s .args .c .now) (s .args .x .now)
 
 owner-of-requires : tie.Need-owner-of-requires
 owner-of-requires c κs = search needs
@@ -34,18 +34,20 @@ same-length c = search needs
 
 returns : tie.Need-returns
 returns c =
-    let a = c .before .before .before .before .before .before .before .before .before .before .before .before .before .args in
-    let m = wiringIn (a .bytes .now) (a .n .now) (a .c .now) (a .x .now) in
-    written-as _ _ _ _ _ _ _ _ (across-one m (a .i) (ap (oneToOne m) (sym (c .before .before .before .before .before .before .before .owner-of .ensures)) ∙ sym (pattern-same _ _ _ (a .x .now) _) ∙ sym (c .before .before .before .before .before .before .resolve-connection-pattern .ensures) ∙ ap saysOneToOne (c .before .before .before .before .enum-told .given .1))) (c .before .before .trace-one-to-one .ensures)
+    let s = c .before .before .before .before .before .before .before .before .before .before .before .before .before in
+    let a = s .args in
+    let m = wiring s in
+    across-one m (a .i) _ _ (c .before .before .before .before .before .before .resolve-connection-pattern .ensures) (c .before .before .before .before .before .before .before .owner-of .ensures) _ _ _ _ (c .before .before .before .before .enum-told .given .1) (c .before .before .trace-one-to-one .ensures)
 
 same-length-2 : tie.Need-same-length-2
 same-length-2 c = search needs
 
 returns-2 : tie.Need-returns-2
 returns-2 c =
-    let a = c .before .before .before .before .before .before .before .before .before .before .before .before .before .args in
-    let m = wiringIn (a .bytes .now) (a .n .now) (a .c .now) (a .x .now) in
-    written-as _ _ _ _ _ _ _ _ (across-all m (a .i) (ap (oneToOne m) (sym (c .before .before .before .before .before .before .before .owner-of .ensures)) ∙ sym (pattern-same _ _ _ (a .x .now) _) ∙ sym (c .before .before .before .before .before .before .resolve-connection-pattern .ensures) ∙ ap saysOneToOne (c .before .before .before .before .enum-told2 .given .1))) (c .before .before .trace-all-to-all .ensures)
+    let s = c .before .before .before .before .before .before .before .before .before .before .before .before .before in
+    let a = s .args in
+    let m = wiring s in
+    across-all m (a .i) _ _ (c .before .before .before .before .before .before .resolve-connection-pattern .ensures) (c .before .before .before .before .before .before .before .owner-of .ensures) _ _ _ _ (c .before .before .before .before .enum-told2 .given .1) (c .before .before .trace-all-to-all .ensures)
 
 pub trace-across-spec : {M : Type 1} → statement M
 trace-across-spec =

@@ -36,7 +36,7 @@ enum-told-5 : tie.Need-enum-told-5
 enum-told-5 c = search needs
 
 returns : tie.Need-returns
-returns c = written-as _ _ _ _ _ _ _ _ (rows-at _ _ _ (shape-same _ _ _ _ _ _ _ (c .before .before .shape-of .ensures) (c .enum-told .given .1)) ∙ faulty-rows _ _) (written-none _ _ _ _ (c .before .before .before .before .before .before .before .before .pre .2))
+returns c = written-as _ _ _ _ _ _ _ _ (rows-at _ _ _ (shape-same _ _ _ _ _ _ _ (c .before .before .shape-of .ensures) (c .enum-told .given .1)) ∙ faulty-rows _ _) (written-none _ _ _ _ (c .before .before .before .before .before .before .before .before .pre .room))
 
 same-length : tie.Need-same-length
 same-length c = search needs
@@ -57,7 +57,7 @@ returns-4 : tie.Need-returns-4
 returns-4 c = written-as _ _ _ _ _ _ _ _ (rows-at _ _ _ (shape-same _ _ _ _ _ _ _ (c .before .before .before .before .before .before .shape-of .ensures) (c .before .before .before .before .enum-told4 .given .1))) (c .before .before .trace-edge2 .ensures)
 
 returns-5 : tie.Need-returns-5
-returns-5 c = written-as _ _ _ _ _ _ _ _ (rows-at _ _ _ (shape-same _ _ _ _ _ _ _ (c .before .before .shape-of .ensures) (c .enum-told5 .given .1)) ∙ neither-rows _ _) (written-none _ _ _ _ (c .before .before .before .before .before .before .before .before .pre .2))
+returns-5 c = written-as _ _ _ _ _ _ _ _ (rows-at _ _ _ (shape-same _ _ _ _ _ _ _ (c .before .before .shape-of .ensures) (c .enum-told5 .given .1)) ∙ neither-rows _ _) (written-none _ _ _ _ (c .before .before .before .before .before .before .before .before .pre .room))
 
 pub trace-connection-spec : {M : Type 1} → statement M
 trace-connection-spec =

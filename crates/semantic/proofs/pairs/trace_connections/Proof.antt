@@ -1,22 +1,27 @@
 -- `semantic::pairs::trace_connections` meets its contract. The invariant: the rows of the X rows from i on remain to be written. The measure: the rows of X that are left. Assumes nothing.
-use Rattle.semantic.proofs.PairLaws.{rows-next, rows-done, rows-from-start}
+use Rattle.semantic.proofs.PairLaws.{rows-end, rows-turn, rows-full}
 use Rattle.semantic.specs.Rows.{rowsFrom}
 use borrow.Author.Needs.{needs}
-use Rattle.trace.proofs.Writing.{Remains, remains-start, remains-turn, remains-full, remains-end, written-as}
-use Rattle.as5506.specs.Layout.{tracedBlock}
+use Rattle.trace.proofs.Writing.{Remains, remains-start}
+use Rattle.as5506.specs.Layout.{tracedBlock, rowNumbers}
+use Rattle.as5506.specs.Tables.{Tables}
 use Rattle.lent.specs.Lent.{wiringIn}
 use Prim.Native.Nat.{_-_, _≤_}
 use native.Mathlib.Omega.{arith}
-use mathlib.Core.Path.{sym, _∙_}
+use mathlib.Core.Path.{_∙_}
 use Rattle.semantic.proofs.pairs.trace_connections.Statement.{statement}
 use Rattle.semantic.proofs.pairs.trace_connections.Tie as tie
 
 abbrev Inv-loop : tie.InvT-loop
 Inv-loop bytes n c x out₀ rows done₀ i₀ out done i =
-    (i ≤ rows) × Remains 49 (tracedBlock (wiringIn bytes n c x)) (rowsFrom (wiringIn bytes n c x) 0) out₀ 0 out done (rowsFrom (wiringIn bytes n c x) i)
+    (i ≤ rows) × Remains rowNumbers (tracedBlock (wiringIn bytes n c x)) (rowsFrom (wiringIn bytes n c x) 0) out₀ 0 out done (rowsFrom (wiringIn bytes n c x) i)
 
 abbrev μ-loop : tie.MeasureT-loop
 μ-loop bytes n c x out₀ rows done₀ i₀ out done i = rows - i
+
+-- the tables that the call is lent
+abbrev wiring : tie.Start Inv-loop μ-loop → Tables
+wiring s = wiringIn (s .args .bytes .now) (s .args .n .now) (s .args .c .now) (s .args .x .now)
 
 loop-holds : tie.Need-loop-holds Inv-loop μ-loop
 loop-holds c = (omega arith, remains-start _ _ _ _ _ (omega arith))
@@ -25,7 +30,7 @@ trace-connection-requires : tie.Need-trace-connection-requires Inv-loop μ-loop
 trace-connection-requires c κs =
     let s = c .before .before .before .before .before .before .before .before in
     let g = c .before .before .loop in
-    (s .pre .0, s .pre .1, rw (g .inv .1 .size) (g .inv .1 .room), omega arith)
+    record { tables = s .pre; room = rw (g .inv .1 .size) (g .inv .1 .room); row = omega arith }
 
 enum-told : tie.Need-enum-told Inv-loop μ-loop
 enum-told c = search needs
@@ -35,9 +40,8 @@ same-length c = c .before .before .before .before .trace-connection .kept .1 .1 
 
 returns : tie.Need-returns Inv-loop μ-loop
 returns c =
-    let g = c .before .before .before .before .before .before .before .loop in
-    written-as _ _ _ _ _ _ _ _ (sym (rows-from-start _))
-    (remains-full _ _ _ _ _ _ _ _ (g .inv .1) _ _ (rows-next _ _ (omega arith)) (c .before .before .before .before .trace-connection .result) _ (c .before .before .before .before .trace-connection .ensures) (c .enum-told .given .1) _)
+    let m = wiring (c .before .before .before .before .before .before .before .before .before .before .before .before .before) in
+    rows-full m _ _ _ _ (c .before .before .before .before .before .before .before .loop .inv .1) (omega arith) (c .before .before .before .before .trace-connection .result) _ (c .before .before .before .before .trace-connection .ensures) (c .enum-told .given .1) _
 
 enum-known-r : tie.Need-enum-known-r Inv-loop μ-loop
 enum-known-r c = search needs
@@ -50,16 +54,16 @@ loop-less c = omega arith
 
 loop-again : tie.Need-loop-again Inv-loop μ-loop
 loop-again c =
-    let g = c .before .before .before .before .before .before .before .before .loop in
-    (omega arith, remains-turn _ _ _ _ _ _ _ _ (g .inv .1) _ _ (rows-next _ _ (omega arith)) (c .before .before .before .before .before .trace-connection .result) _ (c .before .before .before .before .before .trace-connection .ensures) _ (c .before .r .given .1))
+    let m = wiring (c .before .before .before .before .before .before .before .before .before .before .before .before .before .before) in
+    (omega arith, rows-turn m _ _ _ _ (c .before .before .before .before .before .before .before .before .loop .inv .1) (omega arith) (c .before .before .before .before .before .trace-connection .result) _ (c .before .before .before .before .before .trace-connection .ensures) _ (c .before .r .given .1))
 
 same-length-2 : tie.Need-same-length-2 Inv-loop μ-loop
 same-length-2 c = c .before .loop .inv .1 .size
 
 returns-2 : tie.Need-returns-2 Inv-loop μ-loop
 returns-2 c =
-    let g = c .before .loop in
-    written-as _ _ _ _ _ _ _ _ (sym (rows-from-start _)) (remains-end _ _ _ _ _ _ _ _ (g .inv .1) (rows-done _ _ (omega arith)))
+    let m = wiring (c .before .before .before .before .before .before .before) in
+    rows-end m _ _ _ _ (c .before .loop .inv .1) (omega arith)
 
 pub trace-connections-spec : {M : Type 1} → statement M
 trace-connections-spec =

@@ -1,6 +1,6 @@
 -- `semantic::pairs::trace_pair` meets its contract. The tracer's rows are the pair's. Assumes nothing.
 use Rattle.semantic.proofs.PairLaws.{pair-written, limit-low}
-use Rattle.trace.specs.Ends.{Fit}
+use Rattle.trace.specs.Ends.{chainPlaces, Fit}
 use Prim.Native.Nat.{_-_}
 use native.Mathlib.Omega.{arith}
 use mathlib.Core.Path.{refl}
@@ -39,7 +39,7 @@ trace-requires : tie.Need-trace-requires
 unfolding Fit
 trace-requires c κs =
     let s = c .before .before .before .before .before .before .before .before .before .before .before .before in
-    ((s .pre .0, s .pre .1, s .pre .2), (refl, refl, (omega (arith, c .before .limit-of .ensures, limit-low (s .args .from)), omega (arith, c .limit-of2 .ensures, limit-low (s .args .to)))))
+    (record { tables = s .pre .tables; room = s .pre .room }, record { places = refl {a = chainPlaces}; other-places = refl {a = chainPlaces}; steps = (omega (arith, c .before .limit-of .ensures, limit-low (s .args .from)), omega (arith, c .limit-of2 .ensures, limit-low (s .args .to))) })
 
 same-length : tie.Need-same-length
 same-length c = search needs

@@ -14,29 +14,20 @@ connection-name-requires c κs = search needs
 number-at-requires-2 : tie.Need-number-at-requires-2
 number-at-requires-2 c κs = search needs
 
-cast-row : tie.Need-cast-row
-cast-row c = search needs
+cast-owner-of : tie.Need-cast-owner-of
+cast-owner-of c = search needs
 
-mul-row : tie.Need-mul-row
-mul-row c = search needs
+owner-of-requires : tie.Need-owner-of-requires
+owner-of-requires c κs = search needs
 
-add-number-at : tie.Need-add-number-at
-add-number-at c = search needs
-
-number-at-requires-3 : tie.Need-number-at-requires-3
-number-at-requires-3 c κs = search needs
-
-cast-owner : tie.Need-cast-owner
-cast-owner c = search needs
-
-mul-number-at : tie.Need-mul-number-at
-mul-number-at c = search needs
-
-number-at-requires-4 : tie.Need-number-at-requires-4
-number-at-requires-4 c κs = search needs
+cast-name-of : tie.Need-cast-name-of
+cast-name-of c = search needs
 
 name-of-requires : tie.Need-name-of-requires
 name-of-requires c κs = search needs
+
+name-of-requires-2 : tie.Need-name-of-requires-2
+name-of-requires-2 c κs = search needs
 
 slice-aggregate-put-between : tie.Need-slice-aggregate-put-between
 slice-aggregate-put-between c = search needs
@@ -69,14 +60,14 @@ returns c =
     let conn = name .before in
     added-as
     (path-owner _ _ _ _ _ _ _ _ (code .number-at2 .ensures) (conn .number-at .ensures) (name .connection-name .ensures)
-    _ _ _ (below .if1 .taken) (owner .number-at3 .ensures) (named .before .number-at4 .ensures) (named .name-of .ensures))
+    _ _ _ (below .if1 .taken) (owner .owner-of .ensures) (named .before .name-of .ensures) (named .name-of2 .ensures))
     (added-then (c .before .before .before .before .before .before .before .before .put-between .ensures) (c .before .before .put-between2 .ensures))
 
-number-at-requires-5 : tie.Need-number-at-requires-5
-number-at-requires-5 c κs = search needs
+number-at-requires-3 : tie.Need-number-at-requires-3
+number-at-requires-3 c κs = search needs
 
-name-of-requires-2 : tie.Need-name-of-requires-2
-name-of-requires-2 c κs = search needs
+name-of-requires-3 : tie.Need-name-of-requires-3
+name-of-requires-3 c κs = search needs
 
 slice-aggregate-put-between-5 : tie.Need-slice-aggregate-put-between-5
 slice-aggregate-put-between-5 c = search needs
@@ -108,7 +99,7 @@ returns-2 c =
     let conn = name .before in
     added-as
     (path-feature _ _ _ _ _ _ _ _ (code .number-at2 .ensures) (conn .number-at .ensures) (name .connection-name .ensures)
-    _ _ (other .if1 .left) (named .before .number-at5 .ensures) (named .name-of2 .ensures))
+    _ _ (other .if1 .left) (named .before .number-at3 .ensures) (named .name-of3 .ensures))
     (added-then (c .before .before .before .before .before .before .before .before .put-between3 .ensures) (c .before .before .put-between4 .ensures))
 
 pub put-path-names-spec : {M : Type 1} → statement M
@@ -118,14 +109,11 @@ put-path-names-spec =
     number-at-requires
     connection-name-requires
     number-at-requires-2
-    cast-row
-    mul-row
-    add-number-at
-    number-at-requires-3
-    cast-owner
-    mul-number-at
-    number-at-requires-4
+    cast-owner-of
+    owner-of-requires
+    cast-name-of
     name-of-requires
+    name-of-requires-2
     slice-aggregate-put-between
     slice-aggregate-put-between-2
     put-between-requires
@@ -134,8 +122,8 @@ put-path-names-spec =
     put-between-requires-2
     same-length
     returns
-    number-at-requires-5
-    name-of-requires-2
+    number-at-requires-3
+    name-of-requires-3
     slice-aggregate-put-between-5
     slice-aggregate-put-between-6
     put-between-requires-3

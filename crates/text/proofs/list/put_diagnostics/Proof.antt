@@ -5,7 +5,7 @@ use native.Mathlib.Nat.{sub-zero}
 use native.Mathlib.Omega.{arith}
 use borrow.Author.Needs.{needs}
 use lib.ListN.{drop}
-use Rattle.as5506.specs.Layout.{diagsBack}
+use Rattle.as5506.specs.Layout.{diagNumbers, diagsBack}
 use Rattle.as5506.specs.Lists.{each}
 use Rattle.as5506.specs.Text.{diagText}
 use Rattle.lent.specs.Lent.{wiringIn}
@@ -17,7 +17,7 @@ use Rattle.text.proofs.list.put_diagnostics.Tie as tie
 abbrev Inv-loop : tie.InvT-loop
 Inv-loop bytes n c x list count text₀ used z₀ i₀ text z i =
     Printing (each (diagText (wiringIn bytes n c x)) (diagsBack count list)) text₀ used text z
-    (each (diagText (wiringIn bytes n c x)) (diagsBack (count - i) (drop (i * 4) list)))
+    (each (diagText (wiringIn bytes n c x)) (diagsBack (count - i) (drop (i * diagNumbers) list)))
 
 abbrev μ-loop : tie.MeasureT-loop
 μ-loop bytes n c x list count text₀ used z₀ i₀ text z i = count - i
@@ -50,7 +50,7 @@ put-diagnostic-requires : tie.Need-put-diagnostic-requires Inv-loop μ-loop
 put-diagnostic-requires c κs =
     let l = c .before .before .before in
     let s = l .before .before .before .before .before .before .before in
-    part-length (s .args .list .now) (l .loop .i * 4) 4 (omega (arith, s .pre, c .before .before .loop-test .taken))
+    part-length (s .args .list .now) (l .loop .i * diagNumbers) diagNumbers (omega (arith, s .pre, c .before .before .loop-test .taken))
 
 add-i : tie.Need-add-i Inv-loop μ-loop
 add-i c = search needs

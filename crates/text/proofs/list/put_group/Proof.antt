@@ -5,7 +5,7 @@ use native.Mathlib.Nat.{sub-zero}
 use native.Mathlib.Omega.{arith}
 use borrow.Author.Needs.{needs}
 use lib.ListN.{drop}
-use Rattle.as5506.specs.Layout.{groupRowsBack}
+use Rattle.as5506.specs.Layout.{rowNumbers, groupRowsBack}
 use Rattle.as5506.specs.Lists.{each}
 use Rattle.as5506.specs.Text.{rowText}
 use Rattle.text.proofs.Added.{Printing, printing-start, printing-turn, printing-end}
@@ -16,7 +16,7 @@ use Rattle.text.proofs.list.put_group.Tie as tie
 abbrev Inv-loop : tie.InvT-loop
 Inv-loop rows count names text₀ used z₀ at₀ i₀ text z at i =
     Printing (each rowText (groupRowsBack count rows names)) text₀ used text z
-    (each rowText (groupRowsBack (count - i) (drop (i * 49) rows) (drop at names)))
+    (each rowText (groupRowsBack (count - i) (drop (i * rowNumbers) rows) (drop at names)))
 
 abbrev μ-loop : tie.MeasureT-loop
 μ-loop rows count names text₀ used z₀ at₀ i₀ text z at i = count - i
@@ -48,13 +48,13 @@ put-group-row-requires : tie.Need-put-group-row-requires Inv-loop μ-loop
 put-group-row-requires c κs =
     let l = c .before .before .before in
     let s = l .before .before .before .before in
-    part-length (s .args .rows .now) (l .loop .i * 49) 49 (omega (arith, s .pre, c .before .before .loop-test .taken))
+    part-length (s .args .rows .now) (l .loop .i * rowNumbers) rowNumbers (omega (arith, s .pre, c .before .before .loop-test .taken))
 
 names-behind-requires : tie.Need-names-behind-requires Inv-loop μ-loop
 names-behind-requires c κs =
     let l = c .before .before .before .before .before .before in
     let s = l .before .before .before .before in
-    part-length (s .args .rows .now) (l .loop .i * 49) 49 (omega (arith, s .pre, c .before .before .before .before .before .loop-test .taken))
+    part-length (s .args .rows .now) (l .loop .i * rowNumbers) rowNumbers (omega (arith, s .pre, c .before .before .before .before .before .loop-test .taken))
 
 add-i : tie.Need-add-i Inv-loop μ-loop
 add-i c = search needs

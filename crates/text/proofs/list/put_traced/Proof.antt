@@ -6,7 +6,7 @@ use native.Mathlib.Nat.{sub-zero}
 use native.Mathlib.Omega.{arith}
 use borrow.Author.Needs.{needs}
 use lib.ListN.{drop}
-use Rattle.as5506.specs.Layout.{rowsBack}
+use Rattle.as5506.specs.Layout.{rowNumbers, rowsBack}
 use Rattle.as5506.specs.Lists.{each}
 use Rattle.as5506.specs.Text.{rowText}
 use Rattle.lent.specs.Lent.{namesIn, wiringIn}
@@ -18,7 +18,7 @@ use Rattle.text.proofs.list.put_traced.Tie as tie
 abbrev Inv-loop : tie.InvT-loop
 Inv-loop bytes n rows count text₀ used z₀ i₀ text z i =
     Printing (each rowText (rowsBack (namesIn bytes n) count rows)) text₀ used text z
-    (each rowText (rowsBack (namesIn bytes n) (count - i) (drop (i * 49) rows)))
+    (each rowText (rowsBack (namesIn bytes n) (count - i) (drop (i * rowNumbers) rows)))
 
 abbrev μ-loop : tie.MeasureT-loop
 μ-loop bytes n rows count text₀ used z₀ i₀ text z i = count - i
@@ -50,7 +50,7 @@ put-traced-row-requires : tie.Need-put-traced-row-requires Inv-loop μ-loop
 put-traced-row-requires c κs =
     let l = c .before .before .before in
     let s = l .before .before .before .before .before in
-    part-length (s .args .rows .now) (l .loop .i * 49) 49 (omega (arith, s .pre, c .before .before .loop-test .taken))
+    part-length (s .args .rows .now) (l .loop .i * rowNumbers) rowNumbers (omega (arith, s .pre, c .before .before .loop-test .taken))
 
 add-i : tie.Need-add-i Inv-loop μ-loop
 add-i c = search needs

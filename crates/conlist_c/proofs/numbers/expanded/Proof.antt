@@ -1,0 +1,43 @@
+-- `conlist_c::numbers::expanded` meets its contract: by the answer's case. Assumes nothing.
+use mathlib.Core.Path.{sym, ap}
+use borrow.Author.Needs.{needs}
+use Rattle.conlist_c.specs.Numbers.{expandedNumbers}
+use Rattle.conlist_c.proofs.numbers.expanded.Statement.{statement}
+use Rattle.conlist_c.proofs.numbers.expanded.Tie as tie
+
+enum-known-answer : tie.Need-enum-known-answer
+enum-known-answer c = search needs
+
+cast-t7 : tie.Need-cast-t7
+cast-t7 c = search needs
+
+enum-known-answer-2 : tie.Need-enum-known-answer-2
+enum-known-answer-2 c = search needs
+
+cast-t8 : tie.Need-cast-t8
+cast-t8 c = search needs
+
+cast-t9 : tie.Need-cast-t9
+cast-t9 c = search needs
+
+cast-t10 : tie.Need-cast-t10
+cast-t10 c = search needs
+
+returns : tie.Need-returns
+returns c = ap expandedNumbers (sym (c .before .answer .given .1))
+
+returns-2 : tie.Need-returns-2
+returns-2 c = ap expandedNumbers (sym (c .before .before .before .before .answer2 .given .1))
+
+pub expanded-spec : {M : Type 1} → statement M
+expanded-spec =
+    tie.close
+    (tie.spec
+    enum-known-answer
+    cast-t7
+    enum-known-answer-2
+    cast-t8
+    cast-t9
+    cast-t10
+    returns
+    returns-2)

@@ -1,0 +1,4 @@
+-- What a case lends.
+--
+--     Ends   parts of the slices
+pub mod Ends
