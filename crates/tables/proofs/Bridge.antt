@@ -93,15 +93,15 @@ plus a b c d e = let h : a + b + c ≡ a + d = omega arith in h
 
 x-row : (m : Tables) (i : ℕ) → badRow (m .bytes) (m .n) (m .x) (lengths (tables m)) Ends 3 i ≡ badEnd m source i || badEnd m destination i
 unfolding badRow endsBad endBad
-x-row m i = rw (plus (i * 7) 3 1 4 refl, plus (i * 7) 5 1 6 refl)
+x-row m i = rw (plus (i * width letterX) 3 1 4 refl, plus (i * width letterX) 5 1 6 refl)
 
 u-row : (m : Tables) (i : ℕ) → badRow (m .bytes) (m .n) (m .u) (lengths (tables m)) Ends 8 i ≡ badRef (uExtends m i) || badRef (uInverseOf m i)
 unfolding badRow endsBad referenceBad
-u-row m i = rw (plus (i * 9) 3 1 4 refl, plus (i * 9) 3 2 5 refl, plus (i * 9) 6 1 7 refl, plus (i * 9) 6 2 8 refl)
+u-row m i = rw (plus (i * width letterU) 3 1 4 refl, plus (i * width letterU) 3 2 5 refl, plus (i * width letterU) 6 1 7 refl, plus (i * width letterU) 6 2 8 refl)
 
 e-row : (m : Tables) (i : ℕ) → badRow (m .bytes) (m .n) (m .e) (lengths (tables m)) Ends 9 i ≡ badRef (eClassifier m i)
 unfolding badRow endsBad referenceBad
-e-row m i = rw (plus (i * 8) 5 1 6 refl, plus (i * 8) 5 2 7 refl)
+e-row m i = rw (plus (i * width letterE) 5 1 6 refl, plus (i * width letterE) 5 2 7 refl)
 
 r-row : (m : Tables) (i : ℕ) → badRow (m .bytes) (m .n) (m .r) (lengths (tables m)) Ends 10 i ≡ badRename m i
 unfolding badRow endsBad renameBad
