@@ -331,11 +331,12 @@ mixed =
 abbrev filled : ℕ → List ℕ → List ℕ
 filled n l = l ++ zeros (n - length l)
 
--- connection, kind, two components, three name fields, path length, "places for 41 connections of its path": of a traced row the fields are name
--- numbers, of a group row the lengths of its names
+-- the numbers of a listing's row
 abbrev rowWidth : ℕ
 rowWidth = 49
 
+-- connection, kind, two components, three name fields, path length, "places for 41 connections of its path": of a traced row the fields are name
+-- numbers, of a group row the lengths of its names
 abbrev tracedRow : List ℕ
 tracedRow = filled rowWidth (1 ∷ 0 ∷ 1 ∷ 0 ∷ 11 ∷ 13 ∷ 14 ∷ 1 ∷ 1 ∷ [])
 

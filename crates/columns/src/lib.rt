@@ -1,5 +1,5 @@
-// The fields of the tables' rows, by name: which number of a row a field is stands here alone. A table is lent as one run of numbers, row behind row; a
-// row goes by its number, from 0. Every function takes any row number: past the end 0 is read.
+// The fields of the rows of C, F, X, U and E, by name; what a search by key reads of P, I, T, Q, U and R is in crate resolver. A table is lent as one
+// run of numbers, row behind row; a row goes by its number, from 0. Every function takes any row number: past the end 0 is read.
 pub mod component;
 pub mod connection;
 pub mod declared;

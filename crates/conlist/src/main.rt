@@ -7,7 +7,7 @@ use on_sheet::Task;
 ghost use Rattle.as5506.specs.Program.{conlist as written};
 ghost use Rattle.on_sheet.specs.Tasks.{Writes};
 
-// THE PROGRAM: the text for the bytes that were read. One byte more than a sheet may have is read, so that a longer input is refused and not read on.
+// THE PROGRAM: the text for the bytes that were read.
 fn conlist(read: &[u8; SHEET_LENT], got: usize, text: &mut [u8; TEXT_LENT]) -> usize
     ensures { λ z. ⌜ Writes written (now (read .entry)) got z (now (text .exit)) ⌝ }
 {

@@ -25,9 +25,9 @@ ghost use Rattle.group_list.specs.Answer.{listed, answerOf, GroupListedI
 ghost use Rattle.group_list.specs.Ready.{MatchRoom, ListReady};
 
 // The names, and the group types or features, that the small room is enough for: all that the program conlist can read.
-const SMALL_NAMES: usize = 256;
+const SMALL_NAMES: usize = as5506::N_ROWS_LENT;
 
-const SMALL_ROWS: usize = 96;
+const SMALL_ROWS: usize = as5506::ROWS_LENT;
 
 // How many rows and diagnostics were written, or why none were.
 pub enum GroupListed {

@@ -1,4 +1,4 @@
--- Tables of which a call is lent some. Where the others are empty, what the contract says of these tables holds of the whole model, since the
+-- The tables that contracts speak of: all of them, or those of which a call is lent some. Where the others are empty, what the contract says of these tables holds of the whole model, since the
 -- definition asks for no other table there. Assumes nothing.
 use mathlib.Core.List.{List, []}
 use Prim.Native.Nat.{ℕ}

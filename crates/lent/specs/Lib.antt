@@ -2,7 +2,7 @@
 --
 --     Append     pieces written one behind the other into an output, and how much of it is used
 --     Answered   what an output holds after an answer, before a refusal clears it
---     Lent       tables of which a call is lent some
+--     Lent       the tables that a contract speaks of, all or some
 pub mod Append
 pub mod Answered
 pub mod Lent

@@ -1,4 +1,4 @@
-// What a connection names: its owner, the children on each side, the pattern by which they are paired.
+// What a connection names: its shape, the children on each side, the pattern by which they are paired.
 ghost use mathlib.Core.Path.{_≡_};
 ghost use mathlib.Core.List.{[]};
 ghost use Prim.Native.Nat.{_≤_};
