@@ -895,11 +895,7 @@ def find_children_by_name(model, owner, wanted):
 
 # "`parse_connection_pattern` drops round brackets, commas, spaces, tabs, and compares
 # folded with the fixed bytes "one_to_one"; all else, and missing, is all to all."
-def is_one_to_one(model, component):
-    text = model.name(model.rows["C"][component][5])
-    if text is None:
-        mark("missing pattern is all to all")
-        return False
+def says_one_to_one(text):
     bare = bytes(byte for byte in text if byte not in b"(), \t")
     if fold(bare) != b"one_to_one":
         mark("other pattern is all to all")
@@ -908,6 +904,14 @@ def is_one_to_one(model, component):
     mark("pattern with dropped characters", bare != text)
     mark("pattern in another case", bare != b"one_to_one")
     return True
+
+
+def is_one_to_one(model, component):
+    text = model.name(model.rows["C"][component][5])
+    if text is None:
+        mark("missing pattern is all to all")
+        return False
+    return says_one_to_one(text)
 
 
 SOURCE, DESTINATION = "source", "destination"

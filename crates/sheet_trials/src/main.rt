@@ -5,11 +5,11 @@ ghost use mathlib.Core.Path.{_≡_};
 ghost use Prim.Native.Nat.{_≤_};
 ghost use lib.ListN.{length};
 ghost use Rattle.sheet_trials.specs.Ends.{Ends};
-use libc::STDIN_FILENO;
 use libc::STDOUT_FILENO;
 use sheet::Counts;
 use sheet::SheetRead;
 
+// The most cases of a file.
 const CASES: usize = 100000;
 // How long the slices are of which parts are lent.
 const BYTES: usize = 16400;
@@ -189,38 +189,36 @@ fn replay(
 }
 
 // A case's sheet, with what the case lends.
-fn replay_sheet(sheet: &[u8], lent: [u32; 13]) {
+fn replay_sheet(sheet: &[u8], lengths: [u32; 12]) {
     replay(
         sheet,
-        end_of(lent[1], BYTES),
-        end_of(lent[2], NAMES),
-        end_of(lent[3], OTHERS),
-        end_of(lent[4], OTHERS),
-        end_of(lent[5], OTHERS),
-        end_of(lent[6], OTHERS),
-        end_of(lent[7], OTHERS),
-        end_of(lent[8], OTHERS),
-        end_of(lent[9], OTHERS),
-        end_of(lent[10], OTHERS),
-        end_of(lent[11], OTHERS),
-        end_of(lent[12], OTHERS),
+        end_of(lengths[0], BYTES),
+        end_of(lengths[1], NAMES),
+        end_of(lengths[2], OTHERS),
+        end_of(lengths[3], OTHERS),
+        end_of(lengths[4], OTHERS),
+        end_of(lengths[5], OTHERS),
+        end_of(lengths[6], OTHERS),
+        end_of(lengths[7], OTHERS),
+        end_of(lengths[8], OTHERS),
+        end_of(lengths[9], OTHERS),
+        end_of(lengths[10], OTHERS),
+        end_of(lengths[11], OTHERS),
     );
 }
 
 // Reads a case and replays it; false where there is none.
 fn next_case() -> bool {
-    let mut header = [0u8; 79];
-    let mut line_feed = [0u8; 1];
-    io::read_full(STDIN_FILENO, &mut header);
-    if io::read_full(STDIN_FILENO, &mut line_feed) == 0 {
+    if !cases::begins() {
         return false;
     }
-    let mut lent = [0u32; 13];
-    fields::put_fields(&header, 13, &mut lent, 0);
-    let mut sheet = sevens_of_bytes();
-    let end = end_of(lent[0], BYTES);
-    io::read_full(STDIN_FILENO, &mut sheet[..end]);
-    replay_sheet(&sheet[..end], lent);
+    let length = cases::number();
+    let mut lengths = [0u32; 12];
+    cases::numbers(&mut lengths);
+    cases::byte();
+    let mut sheet = [0u8; BYTES];
+    let end = cases::bytes(&mut sheet, length);
+    replay_sheet(lent::part(&sheet, 0, end), lengths);
     true
 }
 
