@@ -93,6 +93,11 @@ pub after-same : (g h : ℕ → List ℕ) (q : Child) → ((i : ℕ) → g i ≡
 after-same g h Nothing t = refl
 after-same g h (At i) t = ap (λ (r : List ℕ). i ∷ r) (t (i + 1))
 
+-- an answer over names and components alone
+pub found-after : (m : Tables) (p : ℕ) (w : List ℕ) (i : ℕ) (q : Child)
+    → foundFrom (componentsIn (m .bytes) (m .n) (m .c)) p w i ≡ afterChild (foundFrom (componentsIn (m .bytes) (m .n) (m .c)) p w) q → foundFrom m p w i ≡ afterChild (foundFrom m p w) q
+found-after m p w i q e = sym (found-same m p w i) ∙ e ∙ after-same _ _ q (found-same m p w)
+
 pub inside-at : (c : List ℕ) (q : Child) (i : ℕ) → Inside c q → q ≡ At i → Inside c (At i)
 inside-at c q i h e = subst (Inside c) e h
 

@@ -2,6 +2,7 @@
 use mathlib.Core.Bool.{Bool, true, false, not, _&&_, _||_}
 use mathlib.Core.Path.{_≡_, refl, ap, _∙_}
 use mathlib.Core.List.{List, [], _∷_}
+use mathlib.Core.Option.{Option}
 use Prim.Native.Nat.{ℕ, _-_}
 use native.Mathlib.Nat.{sub-zero}
 use lib.Dec.{eqb}
@@ -38,9 +39,12 @@ module _ (m : Tables) (c : ℕ) (k : List ℕ) where
       ∙ ap some-of (keep-both (λ f. eqb (fKind m f) featureKindGroup && sameBytes (key m (fName m f)) k) (λ f. eqb (fOwner m f) c) (upTo (count m letterF))))
 
 -- no other table is asked
-pub feature-same : (m : Tables) (c f : ℕ) → let l : Tables = featuresIn (m .bytes) (m .n) (m .f) in isGroupFeature l c (key l f) ≡ isGroupFeature m c (key m f)
+feature-same : (m : Tables) (c f : ℕ) → let l : Tables = featuresIn (m .bytes) (m .n) (m .f) in isGroupFeature l c (key l f) ≡ isGroupFeature m c (key m f)
 unfolding isGroupFeature rowsNaming key
 feature-same m c f = refl
+
+pub feature-asked : (m : Tables) (c f : ℕ) (r : Bool) → let l : Tables = featuresIn (m .bytes) (m .n) (m .f) in r ≡ isGroupFeature l c (key l f) → r ≡ isGroupFeature m c (key m f)
+feature-asked m c f r e = e ∙ feature-same m c f
 
 -- ---- E
 
@@ -54,6 +58,9 @@ module _ (m : Tables) (t : ℕ) (k : List ℕ) where
       ∙ keep-both (λ e. eqb (eHolderKind m e) 0 && (eqb (eKind m e) featureKindGroup && sameBytes (key m (eName m e)) k)) (λ e. eqb (eHolder m e) t) (upTo (count m letterE))))
 
 -- no other table is asked
-pub declared-same : (m : Tables) (t f : ℕ) → let l : Tables = declaredIn (m .bytes) (m .n) (m .e) in declaredGroup l t (key l f) ≡ declaredGroup m t (key m f)
+declared-same : (m : Tables) (t f : ℕ) → let l : Tables = declaredIn (m .bytes) (m .n) (m .e) in declaredGroup l t (key l f) ≡ declaredGroup m t (key m f)
 unfolding declaredGroup rowsNaming key
 declared-same m t f = refl
+
+pub declared-asked : (m : Tables) (t f : ℕ) (z : Option ℕ) → let l : Tables = declaredIn (m .bytes) (m .n) (m .e) in z ≡ declaredGroup l t (key l f) → z ≡ declaredGroup m t (key m f)
+declared-asked m t f z e = e ∙ declared-same m t f

@@ -2,6 +2,7 @@
 use mathlib.Core.Bool.{Bool, _&&_}
 use mathlib.Core.Path.{_≡_, refl, sym, ap, _∙_}
 use mathlib.Core.List.{List}
+use mathlib.Core.Option.{Option}
 use Prim.Native.Nat.{ℕ, _-_, _/_}
 use native.Mathlib.Nat.{sub-zero}
 use lib.Dec.{eqb}
@@ -88,5 +89,8 @@ module _ (m : Tables) where
   unfolding rowHasKey hasKey hasPart
   import-key g i = and-true (eqb (iPackage m i) g)
 
-  pub import-rows : (g start : ℕ) → rowsWithKey (m .bytes) (m .n) (m .i) 2 start (Number g, Any, Any) ≡ keep (λ i. eqb (iPackage m i) g) (span start (count m letterI - start))
+  import-rows : (g start : ℕ) → rowsWithKey (m .bytes) (m .n) (m .i) 2 start (Number g, Any, Any) ≡ keep (λ i. eqb (iPackage m i) g) (span start (count m letterI - start))
   import-rows g start = rows-by (m .bytes) (m .n) (m .i) 2 (Number g, Any, Any) (λ i. eqb (iPackage m i) g) (import-key g) start
+
+  pub import-found : (g start : ℕ) (z : Option ℕ) → z ≡ firstOf (rowsWithKey (m .bytes) (m .n) (m .i) 2 start (Number g, Any, Any)) → z ≡ firstOf (keep (λ i. eqb (iPackage m i) g) (span start (count m letterI - start)))
+  import-found g start z e = e ∙ ap firstOf (import-rows g start)

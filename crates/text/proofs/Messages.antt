@@ -92,7 +92,7 @@ pub connection-named : (bytes n x : List ℕ) (i k : ℕ) (r : List ℕ) → k �
     → r ≡ nameOf (connectionsIn bytes n x) (xName (connectionsIn bytes n x) i)
 connection-named bytes n x i k r e f = f ∙ ap (nameIn bytes n) e
 
-abbrev atLine : List ℕ → List ℕ
+abbrev pub atLine : List ℕ → List ℕ
 atLine s = bytesOf "@ " ++ s ++ bytesOf "\n"
 
 two-lines : (s t : List ℕ) → each (textLine (bytesOf "@")) (s ∷ t ∷ []) ≡ atLine s ++ atLine t

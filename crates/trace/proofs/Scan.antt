@@ -22,9 +22,12 @@ use Rattle.trace.specs.declared.Step.the-variants.{At, Done}
 use Rattle.trace.specs.Steps.{isStep, listIf, leadsTo, stepsAt, stepsFrom, step, afterStep, Within}
 
 -- whether a connection is a step asks for no component
-pub step-same : (bytes n c x : List ℕ) (s : Side) (p f i : ℕ) → isStep (connectionsIn bytes n x) s p f i ≡ isStep (wiringIn bytes n c x) s p f i
+step-same : (bytes n c x : List ℕ) (s : Side) (p f i : ℕ) → isStep (connectionsIn bytes n x) s p f i ≡ isStep (wiringIn bytes n c x) s p f i
 unfolding isStep leads
 step-same bytes n c x s p f i = refl
+
+pub step-wired : (bytes n c x : List ℕ) (s : Side) (p f i : ℕ) (b : Bool) → b ≡ isStep (connectionsIn bytes n x) s p f i → b ≡ isStep (wiringIn bytes n c x) s p f i
+step-wired bytes n c x s p f i b e = e ∙ step-same bytes n c x s p f i
 
 -- ---- one connection
 

@@ -1,5 +1,5 @@
 -- `endpoint::endpoint` meets its contract. What each call tells of the tables, then one law of Steps for each return. Assumes nothing.
-use mathlib.Core.Path.{_≡_, refl, _∙_}
+use mathlib.Core.Path.{_≡_, refl}
 use mathlib.Core.Option.{none}
 use borrow.Author.Tests.{not-true, not-false}
 use borrow.Author.Needs.{needs}
@@ -11,7 +11,7 @@ use Rattle.resolver.proofs.Answers.{meant}
 use Rattle.resolver.specs.declared.Resolved.{Resolved}
 use Rattle.resolver.specs.Found.{rowOf}
 use Rattle.resolver.proofs.Scan.{at-row, no-row}
-use Rattle.endpoint.proofs.Scan.{feature-same, declared-same}
+use Rattle.endpoint.proofs.Scan.{feature-asked, declared-asked}
 use Rattle.endpoint.proofs.Steps.{type-is, no-feature, no-type, not-declared, by-classifier}
 use Rattle.endpoint.proofs.endpoint.Statement.{statement}
 use Rattle.endpoint.proofs.endpoint.Tie as tie
@@ -25,7 +25,7 @@ model s o =
 -- what each call tells of them
 module _ (c : tie.After-has-group-feature) (o : Tables) where
   asked : let s = c .before .before .before .before .before .before .before .before .before .before .before .before in c .has-group-feature .result ≡ isGroupFeature (model s o) (s .args .component) (key (model s o) (s .args .feature))
-  asked = let s = c .before .before .before .before .before .before .before .before .before .before .before .before in c .has-group-feature .ensures ∙ feature-same (model s o) (s .args .component) (s .args .feature)
+  asked = let s = c .before .before .before .before .before .before .before .before .before .before .before .before in feature-asked (model s o) (s .args .component) (s .args .feature) (c .has-group-feature .result) (c .has-group-feature .ensures)
 
 module _ (c : tie.After-resolve-classifier) (o : Tables) (y : Resolved) (q : c .resolve-classifier .result ≡ y) where
   typed : let s = c .before .before .before .before .before .before .before .before .before .before .before .before .before .before .before .before in typeOf (model s o) (s .args .component) ≡ meant y
@@ -39,7 +39,7 @@ module _ (c : tie.After-resolve-classifier) (o : Tables) (y : Resolved) (q : c .
 
 module _ (c : tie.After-declared-group) (o : Tables) where
   declared : let s = c .before .before .before .before .before .before .before .before .before .before .before .before .before .before .before .before .before .before .before .before in rowOf (c .declared-group .result) ≡ declaredGroup (model s o) (c .before .before .found .given .0 .1 .0) (key (model s o) (s .args .feature))
-  declared = let s = c .before .before .before .before .before .before .before .before .before .before .before .before .before .before .before .before .before .before .before .before in c .declared-group .ensures ∙ declared-same (model s o) (c .before .before .found .given .0 .1 .0) (s .args .feature)
+  declared = let s = c .before .before .before .before .before .before .before .before .before .before .before .before .before .before .before .before .before .before .before .before in declared-asked (model s o) (c .before .before .found .given .0 .1 .0) (s .args .feature) (rowOf (c .declared-group .result)) (c .declared-group .ensures)
 
 has-group-feature-requires : tie.Need-has-group-feature-requires
 has-group-feature-requires c κs = search needs

@@ -87,7 +87,11 @@ returns-2 c =
     let a = Start·returns-2 c .args in
     let m = tablesOf (a .bytes .now) (a .n .now) (a .c .now) (a .f .now) (a .x .now) (a .p .now) (a .i .now) (a .t .now) (a .q .now) (a .u .now) (a .e .now) (a .r .now) in
     let ok = accepted-is m _ (check-tables·returns-2 c .check-tables .ensures) (c .before .before .before .before .before .before .before .before .before .before .before .before .before .before .before .enum-told .given .1) in
-    expands m (a .from) (a .type-name) (a .inverse) (a .out .now) ok _ _ _ (c .before .before .before .before .before .before .before .before .before .before .before .link-groups .ensures m) _ (c .before .before .before .before .before .before .before .link .ensures m) _ _ (c .before .before .write-features .ensures)
+    let g = c .before .before .before .before .before .before .before .before .before .before .before .link-groups in
+    let l = g .last .1 .1 .1 .1 .1 .1 .1 .1 .1 in
+    let to = c .before .before .before .before .before .before .before .link in
+    let w = c .before .before .write-features in
+    expands m (a .from) (a .type-name) (a .inverse) (a .out .now) ok (l .0) (l .1 .0) (l .1 .1 .0) (g .ensures m) (to .result) (to .ensures m) (w .result) (w .last .1 .1 .1 .1 .1 .1 .0) (w .ensures)
 
 pub expand-spec : {M : Type 1} → statement M
 expand-spec =

@@ -39,7 +39,9 @@ returns : tie.Need-returns
 returns c =
     let a = Start·returns c .args in
     let m = tablesOf (a .bytes .now) (a .n .now) (a .c .now) (a .f .now) (a .x .now) (a .p .now) (a .i .now) (a .t .now) (a .q .now) (a .u .now) (a .e .now) (a .r .now) in
-    given-call m (a .out .now) (a .from) (a .type-name) (a .inverse) _ _ _ (c .before .before .before .before .before .before .before .before .clear-numbers .ensures) (c .before .before .before .before .expand .ensures) _ _ (c .enum-told .given .1)
+    let z = c .before .before .before .before .before .before .before .before .clear-numbers in
+    let x = c .before .before .before .before .expand in
+    given-call m (a .out .now) (a .from) (a .type-name) (a .inverse) (z .last .0) (x .last .1 .1 .1 .1 .1 .1 .1 .1 .1 .1 .1 .1 .0) (x .result) (z .ensures) (x .ensures) _ _ (c .enum-told .given .1)
 
 same-length-2 : tie.Need-same-length-2
 same-length-2 c = search needs
@@ -49,7 +51,8 @@ returns-2 c =
     let a = Start·returns-2 c .args in
     let m = tablesOf (a .bytes .now) (a .n .now) (a .c .now) (a .f .now) (a .x .now) (a .p .now) (a .i .now) (a .t .now) (a .q .now) (a .u .now) (a .e .now) (a .r .now) in
     let x = c .before .before .before .before .before .before .before .before .expand in
-    refused-call m (a .out .now) (a .from) (a .type-name) (a .inverse) _ (x .last .1 .1 .1 .1 .1 .1 .1 .1 .1 .1 .1 .1 .0) _ (clear-numbers·returns-2 c .clear-numbers .ensures) (x .ensures) _ (c .before .before .before .before .enum-told2 .given .1) (x .kept .1 .1 .1 .1 .1 .1 .1 .1 .1 .1 .1 .1 .0) _ (c .before .before .clear-numbers2 .ensures)
+    let z = clear-numbers·returns-2 c .clear-numbers in
+    refused-call m (a .out .now) (a .from) (a .type-name) (a .inverse) (z .last .0) (x .last .1 .1 .1 .1 .1 .1 .1 .1 .1 .1 .1 .1 .0) (x .result) (z .ensures) (x .ensures) _ (c .before .before .before .before .enum-told2 .given .1) (x .kept .1 .1 .1 .1 .1 .1 .1 .1 .1 .1 .1 .1 .0) _ (c .before .before .clear-numbers2 .ensures)
 
 pub expand-feature-group-spec : {M : Type 1} → statement M
 expand-feature-group-spec =

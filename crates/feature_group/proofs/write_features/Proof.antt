@@ -3,10 +3,16 @@ use Rattle.feature_group.proofs.Answers.{ready-all, writes-13, writes-1
 use Rattle.group_walk.proofs.Calm.{passable-zeros}
 use Rattle.links.specs.Walk.{groupsIn}
 use mathlib.Core.Path.{refl}
+use mathlib.Core.List.{List, [], _∷_}
+use Prim.Native.Nat.{ℕ}
 use native.Mathlib.Omega.{arith}
 use borrow.Author.Needs.{needs}
 use Rattle.feature_group.proofs.write_features.Statement.{statement}
 use Rattle.feature_group.proofs.write_features.Tie as tie
+
+-- what a walk asks for and this purpose does not use: one place of an array
+abbrev unused : List ℕ
+unused = 0 ∷ []
 
 slice-aggregate-visit : tie.Need-slice-aggregate-visit
 slice-aggregate-visit c = search needs
@@ -43,7 +49,8 @@ returns c =
     let a = c .before .before .before .before .before .before .before .before .before .before .before .before .before .before .before .before .before .before .before .before .before .before .before .before .args in
     let w = c .before .before .before .before .before .before .before .before .before .before .before .visit in
     let d = c .before .before .before .before .tally .given in
-    writes-11 (groupsIn (a .e .now) (a .nested .now) (a .extends .now) (a .inverses .now)) (a .to) (a .inverse) _ _ _ _ (a .out .now) _ _ _ _ (w .result) _ (w .ensures .0) refl (d .0 .0) (d .0 .1 .0) (d .1) (c .before .if1 .taken) _ (c .unplaced2 .ensures) _
+    let l = w .last .1 .1 .1 .1 .1 .1 .1 in
+    writes-11 (groupsIn (a .e .now) (a .nested .now) (a .extends .now) (a .inverses .now)) (a .to) (a .inverse) (a .bytes .now) (a .n .now) unused unused (a .out .now) unused (l .0) (l .1 .0) (l .1 .1 .0) (w .result) 11 (w .ensures .0) (refl {a = 11}) (d .0 .0) (d .0 .1 .0) (d .1) (c .before .if1 .taken) _ (c .unplaced2 .ensures) _
 
 same-length-2 : tie.Need-same-length-2
 same-length-2 c = search needs
@@ -52,7 +59,8 @@ returns-2 : tie.Need-returns-2
 returns-2 c =
     let a = c .before .before .before .before .before .before .before .before .before .before .before .before .before .before .before .before .before .before .before .before .before .args in
     let w = c .before .before .before .before .before .before .before .before .visit in
-    writes-13 (groupsIn (a .e .now) (a .nested .now) (a .extends .now) (a .inverses .now)) (a .to) (a .inverse) _ _ _ _ (a .out .now) _ _ _ _ (w .result) _ (w .ensures .0) refl (c .before .enum-told .given .1) _ (c .unplaced .ensures) _
+    let l = w .last .1 .1 .1 .1 .1 .1 .1 in
+    writes-13 (groupsIn (a .e .now) (a .nested .now) (a .extends .now) (a .inverses .now)) (a .to) (a .inverse) (a .bytes .now) (a .n .now) unused unused (a .out .now) unused (l .0) (l .1 .0) (l .1 .1 .0) (w .result) 11 (w .ensures .0) (refl {a = 11}) (c .before .enum-told .given .1) _ (c .unplaced .ensures) _
 
 same-length-3 : tie.Need-same-length-3
 same-length-3 c = search needs
@@ -62,7 +70,8 @@ returns-3 c =
     let a = c .before .before .before .before .before .before .before .before .before .before .before .before .before .before .before .before .before .before .before .before .before .before .before .before .args in
     let w = c .before .before .before .before .before .before .before .before .before .before .before .visit in
     let d = c .before .before .before .before .tally .given in
-    writes-all (groupsIn (a .e .now) (a .nested .now) (a .extends .now) (a .inverses .now)) (a .to) (a .inverse) _ _ _ _ (a .out .now) _ _ _ _ (w .result) _ (w .ensures .0) refl (d .0 .0) (d .0 .1 .0) (d .1) (c .before .if1 .left)
+    let l = w .last .1 .1 .1 .1 .1 .1 .1 in
+    writes-all (groupsIn (a .e .now) (a .nested .now) (a .extends .now) (a .inverses .now)) (a .to) (a .inverse) (a .bytes .now) (a .n .now) unused unused (a .out .now) unused (l .0) (l .1 .0) (l .1 .1 .0) (w .result) 11 (w .ensures .0) (refl {a = 11}) (d .0 .0) (d .0 .1 .0) (d .1) (c .before .if1 .left)
 
 pub write-features-spec : {M : Type 1} → statement M
 write-features-spec =

@@ -101,7 +101,10 @@ returns-2 : tie.Need-returns-2
 returns-2 c =
     let a = Start·returns-2 c .args in
     let m = tablesOf (a .bytes .now) (a .n .now) (a .c .now) (a .f .now) (a .x .now) (a .p .now) (a .i .now) (a .t .now) (a .q .now) (a .u .now) (a .e .now) (a .r .now) in
-    given-call m (a .rows .now) (a .names .now) (a .diagnostics .now) _ _ _ (clear·returns-2 c .clear .ensures .0) (clear·returns-2 c .clear .ensures .1 .0) (clear·returns-2 c .clear .ensures .1 .1) (accepted-is m _ (c .before .before .before .before .before .before .before .before .before .before .before .before .before .before .check-tables .ensures) (c .before .before .before .before .before .before .before .before .before .before .before .before .enum-told .given .1)) _ (list-accepted·returns-2 c .list-accepted .ensures .0) _ _ _ _ _ (c .enum-told2 .given .1) (list-accepted·returns-2 c .list-accepted .ensures .1 .0) (list-accepted·returns-2 c .list-accepted .ensures .1 .1 .0) (list-accepted·returns-2 c .list-accepted .ensures .1 .1 .1)
+    let z = clear·returns-2 c .clear in
+    let w = list-accepted·returns-2 c .list-accepted in
+    let l = w .last .1 .1 .1 .1 .1 .1 .1 .1 .1 .1 .1 .1 in
+    given-call m (a .rows .now) (a .names .now) (a .diagnostics .now) (z .last .0) (z .last .1 .0) (z .last .1 .1 .0) (z .ensures .0) (z .ensures .1 .0) (z .ensures .1 .1) (accepted-is m _ (c .before .before .before .before .before .before .before .before .before .before .before .before .before .before .check-tables .ensures) (c .before .before .before .before .before .before .before .before .before .before .before .before .enum-told .given .1)) (w .result) (w .ensures .0) (l .0) (l .1 .0) (l .1 .1 .0) _ _ (c .enum-told2 .given .1) (w .ensures .1 .0) (w .ensures .1 .1 .0) (w .ensures .1 .1 .1)
 
 same-length-7 : tie.Need-same-length-7
 same-length-7 c = clear2·returns-3 c .clear2 .kept .0 ∙ list-accepted·returns-3 c .list-accepted .kept .1 .1 .1 .1 .1 .1 .1 .1 .1 .1 .1 .1 .0 ∙ clear·returns-3 c .clear .kept .0
@@ -116,7 +119,12 @@ returns-3 : tie.Need-returns-3
 returns-3 c =
     let a = Start·returns-3 c .args in
     let m = tablesOf (a .bytes .now) (a .n .now) (a .c .now) (a .f .now) (a .x .now) (a .p .now) (a .i .now) (a .t .now) (a .q .now) (a .u .now) (a .e .now) (a .r .now) in
-    refused-call m (a .rows .now) (a .names .now) (a .diagnostics .now) _ _ _ (clear·returns-3 c .clear .ensures .0) (clear·returns-3 c .clear .ensures .1 .0) (clear·returns-3 c .clear .ensures .1 .1) (accepted-is m _ (check-tables·returns-3 c .check-tables .ensures) (enum-told·returns-3 c .enum-told .given .1)) _ (list-accepted·returns-3 c .list-accepted .ensures .0) (list-accepted·returns-3 c .list-accepted .last .1 .1 .1 .1 .1 .1 .1 .1 .1 .1 .1 .1 .0) (list-accepted·returns-3 c .list-accepted .last .1 .1 .1 .1 .1 .1 .1 .1 .1 .1 .1 .1 .1 .0) (list-accepted·returns-3 c .list-accepted .last .1 .1 .1 .1 .1 .1 .1 .1 .1 .1 .1 .1 .1 .1 .0) _ (c .before .before .before .before .before .before .before .before .before .before .enum-told3 .given .1) (list-accepted·returns-3 c .list-accepted .kept .1 .1 .1 .1 .1 .1 .1 .1 .1 .1 .1 .1 .0) (list-accepted·returns-3 c .list-accepted .kept .1 .1 .1 .1 .1 .1 .1 .1 .1 .1 .1 .1 .1 .0) (list-accepted·returns-3 c .list-accepted .kept .1 .1 .1 .1 .1 .1 .1 .1 .1 .1 .1 .1 .1 .1 .0) _ _ _ (clear2·returns-3 c .clear2 .ensures .0) (clear2·returns-3 c .clear2 .ensures .1 .0) (clear2·returns-3 c .clear2 .ensures .1 .1)
+    let z = clear·returns-3 c .clear in
+    let w = list-accepted·returns-3 c .list-accepted in
+    let l = w .last .1 .1 .1 .1 .1 .1 .1 .1 .1 .1 .1 .1 in
+    let s = w .kept .1 .1 .1 .1 .1 .1 .1 .1 .1 .1 .1 .1 in
+    let y = clear2·returns-3 c .clear2 in
+    refused-call m (a .rows .now) (a .names .now) (a .diagnostics .now) (z .last .0) (z .last .1 .0) (z .last .1 .1 .0) (z .ensures .0) (z .ensures .1 .0) (z .ensures .1 .1) (accepted-is m _ (check-tables·returns-3 c .check-tables .ensures) (enum-told·returns-3 c .enum-told .given .1)) (w .result) (w .ensures .0) (l .0) (l .1 .0) (l .1 .1 .0) _ (c .before .before .before .before .before .before .before .before .before .before .enum-told3 .given .1) (s .0) (s .1 .0) (s .1 .1 .0) (y .last .0) (y .last .1 .0) (y .last .1 .1 .0) (y .ensures .0) (y .ensures .1 .0) (y .ensures .1 .1)
 
 pub expand-feature-group-connections-spec : {M : Type 1} → statement M
 expand-feature-group-connections-spec =

@@ -192,13 +192,14 @@ returns-4 c =
     let j = b·returns-4 c .b .given in
     let f = feature-of·returns-4 c .feature-of in
     let g = feature-of2·returns-4 c .feature-of2 in
+    let w = match-groups·returns-4 c .match-groups in
     row-matched (model s) (s .args .row) (lists (filled (s .args .rows .now) (s .args .tally .used)) (filled (s .args .notes .now) (s .args .tally .noted))) (r .result) (r .ensures) (Else1·returns-4 c .if1 .left) (i .0 .0) (j .0 .0)
     (end-means (model s) source (s .args .row) (a .result) (At (i .0 .0)) (a .ensures) (i .1))
     (end-means (model s) destination (s .args .row) (b .result) (At (j .0 .0)) (b .ensures) (j .1))
     (f .result) (g .result) (f .ensures) (g .ensures) (groupAt (groups s) (group-link·returns-4 c .group-link .result)) (groupAt (groups s) (group-link2·returns-4 c .group-link2 .result))
     (group-link·returns-4 c .group-link .ensures (model s) (s .args .nested .now) (s .args .extends .now) (s .args .inverses .now) (s .pre .linked))
     (group-link2·returns-4 c .group-link2 .ensures (model s) (s .args .nested .now) (s .args .extends .now) (s .args .inverses .now) (s .pre .linked))
-    _ (match-groups·returns-4 c .match-groups .ensures)
+    (listsOf (w .result) (w .last .1 .1 .1 .1 .1 .1 .1 .1 .1 .0) (w .last .1 .1 .1 .1 .1 .1 .1 .1 .1 .1 .0)) (w .ensures)
 
 pub match-connection-spec : {M : Type 1} → statement M
 match-connection-spec =

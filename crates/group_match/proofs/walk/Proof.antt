@@ -4,7 +4,9 @@ use native.Mathlib.Omega.{arith}
 use lib.ListN.{length}
 use Rattle.group_walk.proofs.Calm.{passable-zeros}
 use Rattle.links.specs.Walk.{Groups, groupsIn}
+use Rattle.as5506.specs.Lists.{zeros}
 use Rattle.sink.specs.Dull.{Dull}
+use Rattle.sink.specs.Take.{held}
 use Rattle.group_walk.specs.Calm.{Dullness}
 use Rattle.group_match.proofs.Groups.{cleared-ready, cleared-passable, cleared-run}
 use Rattle.group_match.proofs.walk.Statement.{statement}
@@ -38,11 +40,14 @@ clear-numbers·returns c = visit·returns c .before .before .before .before .bef
 visit-requires : tie.Need-visit-requires
 visit-requires c κs =
     let s = Start·visit-requires c in
+    let z = c .before .before .before .before .before .before .before .before .before .before .clear-numbers in
+    let y = c .before .before .before .before .before .before .clear-numbers2 in
+    let h = held (s .args .tally) (z .last .0) (s .args .out .now) (s .args .notes .now) in
     record {
-      ready = cleared-ready _ _ _ _ _ _ (c .before .before .before .before .before .before .before .before .before .before .clear-numbers .ensures) (s .pre .0);
+      ready = cleared-ready _ _ _ _ _ _ (z .ensures) (s .pre .0);
       places = refl {a = 11};
       deep = omega arith;
-      passable = cleared-passable (groups s) (dulls s) _ _ _ (c .before .before .before .before .before .before .clear-numbers2 .ensures) (passable-zeros (groups s) (dulls s) _ (length (s .args .calm .now)) (s .pre .1, s .pre .2));
+      passable = cleared-passable (groups s) (dulls s) h (zeros (length (s .args .calm .now))) (y .last .0) (y .ensures) (passable-zeros (groups s) (dulls s) h (length (s .args .calm .now)) (s .pre .1, s .pre .2));
     }
 
 same-length : tie.Need-same-length

@@ -2,7 +2,7 @@
 use mathlib.Core.Path.{_∙_, ap}
 use borrow.Author.Needs.{needs}
 use Rattle.as5506.specs.Tables.{nameIn}
-use Rattle.lent.specs.Append.{append, appendAll}
+use Rattle.lent.specs.Append.{filled, append, appendAll}
 use Rattle.group_names.proofs.put_dotted.Statement.{statement}
 use Rattle.group_names.proofs.put_dotted.Tie as tie
 
@@ -22,7 +22,9 @@ returns : tie.Need-returns
 unfolding appendAll
 returns c =
     let s = c .before .before .before .before .before .before .before .before .before .before .before .before .args in
-    c .before .before .put-name .ensures ∙ ap (append (nameIn (s .bytes .now) (s .n .now) (s .k))) (c .before .before .before .before .before .before .append-bytes .ensures)
+    let name = nameIn (s .bytes .now) (s .n .now) (s .k) in
+    let dot = c .before .before .before .before .before .before .append-bytes in
+    _∙_ {b = append name (filled (dot .last .0) (dot .result))} (c .before .before .put-name .ensures) (ap (append name) (dot .ensures))
 
 pub put-dotted-spec : {M : Type 1} → statement M
 put-dotted-spec =

@@ -6,7 +6,7 @@ use Prim.Native.Nat.{ℕ, _-_, _<_, _≤_}
 use native.Mathlib.Omega.{arith}
 use borrow.Author.Needs.{needs}
 use lib.ListN.{length, drop}
-use Rattle.lent.specs.Append.{filled, appendAll}
+use Rattle.lent.specs.Append.{Filled, filled, appendAll}
 use Rattle.group_names.specs.Pieces.{dotPieces, prefixLength, featureBack}
 use Rattle.group_names.proofs.Blocks.{prefix-length, prefix-at, name-at}
 use Rattle.group_names.proofs.Joining.{Joining, joining-start, joining-turn, joining-all}
@@ -55,12 +55,11 @@ loop-again c =
     let s = q .before .before .before .before .before in
     let rows : List ℕ = s .args .rows .now in
     let place : ℕ = s .args .place in
+    let dotted : ℕ → Filled = λ j. appendAll (dotPieces (s .args .bytes .now) (s .args .n .now) j) (filled (l .names) (l .after)) in
     let few : l .k < prefixLength (drop place rows) = omega (arith, c .before .before .before .before .before .loop-test .taken, q .prefix-length .ensures) in (
       search needs,
       joining-turn (s .args .bytes .now) (s .args .n .now) (featureBack (drop place rows) .prefix) _ _ _ _ (l .inv .1) (rw (prefix-length rows place (s .pre)) few)
-          (c .before .before .put-dotted .ensures
-          ∙ ap (λ (j : ℕ). appendAll (dotPieces (s .args .bytes .now) (s .args .n .now) j) (filled (l .names) (l .after)))
-          (c .before .before .before .number-at .ensures ∙ sym (prefix-at rows place (l .k) few))),
+          (_∙_ {b = dotted (c .before .before .before .number-at .result)} (c .before .before .put-dotted .ensures) (ap dotted (c .before .before .before .number-at .ensures ∙ sym (prefix-at rows place (l .k) few)))),
     )
 
 number-at-requires-2 : tie.Need-number-at-requires-2 Inv-loop μ-loop
@@ -80,12 +79,11 @@ returns c =
     let s = q .before .before .before .before .before in
     let rows : List ℕ = s .args .rows .now in
     let place : ℕ = s .args .place in
+    let dotted : ℕ → Filled = λ j. appendAll (dotPieces (s .args .bytes .now) (s .args .n .now) j) (filled (l .names) (l .after)) in
     let all : length (featureBack (drop place rows) .prefix) ≤ l .k
     = omega (arith, c .before .before .before .before .before .loop-test .left, q .prefix-length .ensures, prefix-length rows place (s .pre)) in
     joining-all (s .args .bytes .now) (s .args .n .now) (featureBack (drop place rows) .prefix) _ _ _ _ _ _ _ (t .before .before .before .put-name .ensures) (l .inv .1) all
-    (c .before .before .put-dotted2 .ensures
-    ∙ ap (λ (j : ℕ). appendAll (dotPieces (s .args .bytes .now) (s .args .n .now) j) (filled (l .names) (l .after)))
-    (c .before .before .before .number-at2 .ensures ∙ name-at rows place))
+    (_∙_ {b = dotted (c .before .before .before .number-at2 .result)} (c .before .before .put-dotted2 .ensures) (ap dotted (c .before .before .before .number-at2 .ensures ∙ name-at rows place)))
 
 pub put-full-name-spec : {M : Type 1} → statement M
 put-full-name-spec =

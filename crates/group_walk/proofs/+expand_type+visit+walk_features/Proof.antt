@@ -1,7 +1,7 @@
 -- The cycle `visit`, `expand_type` and `walk_features` meets its contracts: levels left fall from visit to visit, and a visit that is known is
 -- passed over. Assumes nothing.
 use mathlib.Core.Bool.{true, false, not}
-use mathlib.Core.Logic.{⊎-elim}
+use mathlib.Core.Logic.{inl, inr}
 use mathlib.Core.Path.{_≡_, refl, sym, ap, subst, _∙_}
 use mathlib.Core.List.{List, [], _∷_, _++_}
 use Prim.Native.Nat.{ℕ, _+_, _*_, _-_, _/_, _≤_, _<_}
@@ -858,35 +858,34 @@ walk-features-loop-again t c =
     let k = c .before .before .before in
     let s = Start·walk-features-loop-again t c in
     let f = c .before in
-    ⊎-elim
-    (λ w. left-there (Next t f) (w .17) (w .18) (w .19) (w .20) (w .21) (w .22) (
-      omega (arith, c .before .before .loop-test .taken),
-      w .10 .kept .1 .1 .1 .0 ∙ k .loop .inv .1,
-      w .10 .kept .1 .1 .1 .1 .0 ∙ k .loop .inv .2,
-      w .10 .kept .1 .1 .1 .1 .1 .0 ∙ k .loop .inv .3,
-      k .loop .inv .4,
-      listed-ready t f (w .0 .taken) (w .2 .result) (w .2 .ensures) (held (w .10 .result) (w .10 .last .1 .1 .1 .0) (w .10 .last .1 .1 .1 .1 .0) (w .10 .last .1 .1 .1 .1 .1 .0)) _ (feature-is (s .args .e .now) (s .args .inverse) (take (s .args .len) (s .args .prefix)) (k .loop .i) (w .1 .result) (w .4 .result) (w .5 .result) (w .6 .result) (w .1 .ensures) (w .4 .ensures) (w .5 .ensures) (w .6 .ensures)) (w .10 .ensures),
-      k .loop .inv .6,
-      listed t f (w .0 .taken) (w .2 .result) (w .2 .ensures) (held (w .10 .result) (w .10 .last .1 .1 .1 .0) (w .10 .last .1 .1 .1 .1 .0) (w .10 .last .1 .1 .1 .1 .1 .0)) _ (feature-is (s .args .e .now) (s .args .inverse) (take (s .args .len) (s .args .prefix)) (k .loop .i) (w .1 .result) (w .4 .result) (w .5 .result) (w .6 .result) (w .1 .ensures) (w .4 .ensures) (w .5 .ensures) (w .6 .ensures)) (w .10 .ensures) (w .3 .taken) ∙ k .loop .inv .7,
-      listed-passable t f (w .0 .taken) (w .2 .result) (w .2 .ensures) (held (w .10 .result) (w .10 .last .1 .1 .1 .0) (w .10 .last .1 .1 .1 .1 .0) (w .10 .last .1 .1 .1 .1 .1 .0)) _ (feature-is (s .args .e .now) (s .args .inverse) (take (s .args .len) (s .args .prefix)) (k .loop .i) (w .1 .result) (w .4 .result) (w .5 .result) (w .6 .result) (w .1 .ensures) (w .4 .ensures) (w .5 .ensures) (w .6 .ensures)) (w .10 .ensures),
-    ))
-    (⊎-elim
-    (λ w.
-    let m = nested-good t f (w .0 .taken) (w .2 .result) (w .2 .ensures) (w .3 .left) (w .1 .result) (w .1 .ensures) (w .8 .result) (w .8 .last .1 .1 .1 .1 .1 .1 .1 .0) (w .8 .last .1 .1 .1 .1 .1 .1 .1 .1 .0) (w .8 .last .1 .1 .1 .1 .1 .1 .1 .1 .1 .0) (w .8 .last .1 .1 .1 .1 .1 .1 .1 .1 .1 .1 .0) (w .8 .ensures) (w .18 .given .0 .0) (w .18 .given .0 .1 .0) (w .18 .given .1) in
-    left-there (Next t f) (w .20) (w .21) (w .22) (w .23) (w .24) (w .25) (
-      omega (arith, c .before .before .loop-test .taken),
-      w .8 .kept .1 .1 .1 .1 .1 .1 .1 .0 ∙ k .loop .inv .1,
-      w .8 .kept .1 .1 .1 .1 .1 .1 .1 .1 .0 ∙ k .loop .inv .2,
-      w .8 .kept .1 .1 .1 .1 .1 .1 .1 .1 .1 .0 ∙ k .loop .inv .3,
-      w .8 .kept .1 .1 .1 .1 .1 .1 .1 .1 .1 .1 .0 ∙ k .loop .inv .4,
-      m .0,
-      m .1,
-      nested t f (w .0 .taken) (w .2 .result) (w .2 .ensures) (w .3 .left) (w .1 .result) (w .1 .ensures) (w .8 .result) (w .8 .last .1 .1 .1 .1 .1 .1 .1 .0) (w .8 .last .1 .1 .1 .1 .1 .1 .1 .1 .0) (w .8 .last .1 .1 .1 .1 .1 .1 .1 .1 .1 .0) (w .8 .last .1 .1 .1 .1 .1 .1 .1 .1 .1 .1 .0) (w .8 .ensures) (w .18 .given .0 .0) (w .18 .given .0 .1 .0) (w .18 .given .1) ∙ k .loop .inv .7,
-      nested-passable t f (w .0 .taken) (w .2 .result) (w .2 .ensures) (w .3 .left) (w .1 .result) (w .1 .ensures) (w .8 .result) (w .8 .last .1 .1 .1 .1 .1 .1 .1 .0) (w .8 .last .1 .1 .1 .1 .1 .1 .1 .1 .0) (w .8 .last .1 .1 .1 .1 .1 .1 .1 .1 .1 .0) (w .8 .last .1 .1 .1 .1 .1 .1 .1 .1 .1 .1 .0) (w .8 .ensures) (w .18 .given .0 .0) (w .18 .given .0 .1 .0) (w .18 .given .1),
-    ))
-    (λ w. left-there (Next t f) (w .1) (w .2) (w .3) (w .4) (w .5) (w .6)
-    (omega (arith, c .before .before .loop-test .taken), k .loop .inv .1, k .loop .inv .2, k .loop .inv .3, k .loop .inv .4, k .loop .inv .5, k .loop .inv .6, passed t f (w .0 .left) ∙ k .loop .inv .7, k .loop .inv .8)))
-    (c .if1 .came)
+    elim (c .if1 .came) [
+      | inl w ↦ left-there (Next t f) (w .17) (w .18) (w .19) (w .20) (w .21) (w .22) (
+        omega (arith, c .before .before .loop-test .taken),
+        w .10 .kept .1 .1 .1 .0 ∙ k .loop .inv .1,
+        w .10 .kept .1 .1 .1 .1 .0 ∙ k .loop .inv .2,
+        w .10 .kept .1 .1 .1 .1 .1 .0 ∙ k .loop .inv .3,
+        k .loop .inv .4,
+        listed-ready t f (w .0 .taken) (w .2 .result) (w .2 .ensures) (held (w .10 .result) (w .10 .last .1 .1 .1 .0) (w .10 .last .1 .1 .1 .1 .0) (w .10 .last .1 .1 .1 .1 .1 .0)) _ (feature-is (s .args .e .now) (s .args .inverse) (take (s .args .len) (s .args .prefix)) (k .loop .i) (w .1 .result) (w .4 .result) (w .5 .result) (w .6 .result) (w .1 .ensures) (w .4 .ensures) (w .5 .ensures) (w .6 .ensures)) (w .10 .ensures),
+        k .loop .inv .6,
+        listed t f (w .0 .taken) (w .2 .result) (w .2 .ensures) (held (w .10 .result) (w .10 .last .1 .1 .1 .0) (w .10 .last .1 .1 .1 .1 .0) (w .10 .last .1 .1 .1 .1 .1 .0)) _ (feature-is (s .args .e .now) (s .args .inverse) (take (s .args .len) (s .args .prefix)) (k .loop .i) (w .1 .result) (w .4 .result) (w .5 .result) (w .6 .result) (w .1 .ensures) (w .4 .ensures) (w .5 .ensures) (w .6 .ensures)) (w .10 .ensures) (w .3 .taken) ∙ k .loop .inv .7,
+        listed-passable t f (w .0 .taken) (w .2 .result) (w .2 .ensures) (held (w .10 .result) (w .10 .last .1 .1 .1 .0) (w .10 .last .1 .1 .1 .1 .0) (w .10 .last .1 .1 .1 .1 .1 .0)) _ (feature-is (s .args .e .now) (s .args .inverse) (take (s .args .len) (s .args .prefix)) (k .loop .i) (w .1 .result) (w .4 .result) (w .5 .result) (w .6 .result) (w .1 .ensures) (w .4 .ensures) (w .5 .ensures) (w .6 .ensures)) (w .10 .ensures),
+      )
+      | inr (inl w) ↦
+          let m = nested-good t f (w .0 .taken) (w .2 .result) (w .2 .ensures) (w .3 .left) (w .1 .result) (w .1 .ensures) (w .8 .result) (w .8 .last .1 .1 .1 .1 .1 .1 .1 .0) (w .8 .last .1 .1 .1 .1 .1 .1 .1 .1 .0) (w .8 .last .1 .1 .1 .1 .1 .1 .1 .1 .1 .0) (w .8 .last .1 .1 .1 .1 .1 .1 .1 .1 .1 .1 .0) (w .8 .ensures) (w .18 .given .0 .0) (w .18 .given .0 .1 .0) (w .18 .given .1) in
+          left-there (Next t f) (w .20) (w .21) (w .22) (w .23) (w .24) (w .25) (
+            omega (arith, c .before .before .loop-test .taken),
+            _∙_ {b = length (k .loop .memo)} (w .8 .kept .1 .1 .1 .1 .1 .1 .1 .0) (k .loop .inv .1),
+            _∙_ {b = length (k .loop .out)} (w .8 .kept .1 .1 .1 .1 .1 .1 .1 .1 .0) (k .loop .inv .2),
+            _∙_ {b = length (k .loop .notes)} (w .8 .kept .1 .1 .1 .1 .1 .1 .1 .1 .1 .0) (k .loop .inv .3),
+            _∙_ {b = length (k .loop .calm)} (w .8 .kept .1 .1 .1 .1 .1 .1 .1 .1 .1 .1 .0) (k .loop .inv .4),
+            m .0,
+            m .1,
+            nested t f (w .0 .taken) (w .2 .result) (w .2 .ensures) (w .3 .left) (w .1 .result) (w .1 .ensures) (w .8 .result) (w .8 .last .1 .1 .1 .1 .1 .1 .1 .0) (w .8 .last .1 .1 .1 .1 .1 .1 .1 .1 .0) (w .8 .last .1 .1 .1 .1 .1 .1 .1 .1 .1 .0) (w .8 .last .1 .1 .1 .1 .1 .1 .1 .1 .1 .1 .0) (w .8 .ensures) (w .18 .given .0 .0) (w .18 .given .0 .1 .0) (w .18 .given .1) ∙ k .loop .inv .7,
+            nested-passable t f (w .0 .taken) (w .2 .result) (w .2 .ensures) (w .3 .left) (w .1 .result) (w .1 .ensures) (w .8 .result) (w .8 .last .1 .1 .1 .1 .1 .1 .1 .0) (w .8 .last .1 .1 .1 .1 .1 .1 .1 .1 .0) (w .8 .last .1 .1 .1 .1 .1 .1 .1 .1 .1 .0) (w .8 .last .1 .1 .1 .1 .1 .1 .1 .1 .1 .1 .0) (w .8 .ensures) (w .18 .given .0 .0) (w .18 .given .0 .1 .0) (w .18 .given .1),
+          )
+      | inr (inr w) ↦ left-there (Next t f) (w .1) (w .2) (w .3) (w .4) (w .5) (w .6)
+          (omega (arith, c .before .before .loop-test .taken), k .loop .inv .1, k .loop .inv .2, k .loop .inv .3, k .loop .inv .4, k .loop .inv .5, k .loop .inv .6, passed t f (w .0 .left) ∙ k .loop .inv .7, k .loop .inv .8)
+    ]
 
 walk-features-same-length-5 : (t : ℕ) → walk-features-lts.Need-same-length-5 (walk-claims t) (walk-features-at t) walk-features.Post walk-features-Inv-loop walk-features-μ-loop
 walk-features-same-length-5 t c = c .before .loop .inv .1

@@ -20,6 +20,10 @@ Inv-loop bytes n p i t q u r extends₀ inverse₀ count row₀ extends inverse 
 abbrev μ-loop : tie.MeasureT-loop
 μ-loop bytes n p i t q u r extends₀ inverse₀ count row₀ extends inverse row = length u / width letterU - row
 
+-- the tables that are asked, whatever the others are
+abbrev model : tie.Start Inv-loop μ-loop → Tables → Tables
+model s o = withPackages (s .args .bytes .now) (s .args .n .now) (s .args .p .now) (s .args .i .now) (s .args .t .now) (s .args .q .now) (s .args .u .now) (s .args .r .now) o
+
 -- places: the way back from where an answer stands to what it uses
 abbrev Start·link-at-requires : tie.In-loop Inv-loop μ-loop → tie.Start Inv-loop μ-loop
 Start·link-at-requires c = c .before .before .before .before .before .before .before .before .before .before .before .before
@@ -76,16 +80,17 @@ loop-less c = omega (arith, In-loop·loop-again c .loop-test .taken)
 
 loop-again : tie.Need-loop-again Inv-loop μ-loop
 loop-again c =
+    let s = Start·loop-again c in
     let l = c .before .before .before .before .before .before .before .before .before .before .before .before .before .before .before .before .before .loop in
     let below = In-loop·loop-again c .loop-test .taken in
     let put = c .before .before .before .before .before .before .before .before .before .before .put-number .ensures in
     let put2 = c .before .before .put-number2 .ensures in
-    let room : l .row < length (l .extends) = omega (arith, below, Start·loop-again c .pre .fits-extends, l .inv .0) in
-    let room2 : l .row < length (l .inverse) = omega (arith, below, Start·loop-again c .pre .fits-inverse, l .inv .1) in (
+    let room : l .row < length (l .extends) = omega (arith, below, s .pre .fits-extends, l .inv .0) in
+    let room2 : l .row < length (l .inverse) = omega (arith, below, s .pre .fits-inverse, l .inv .1) in (
       ap length put ∙ length-set (l .extends) (l .row) _ ∙ l .inv .0,
       ap length put2 ∙ length-set (l .inverse) (l .row) _ ∙ l .inv .1,
-      λ o. holds-turn _ _ _ _ _ room (extends-at _ _ _ _ _ _ (c .before .before .before .before .before .before .before .before .before .before .before .before .before .before .before .extends-package-of .ensures) (c .before .before .before .before .before .before .before .before .before .before .before .before .before .before .extends-type-of .ensures) (c .before .before .before .before .before .before .before .before .before .before .before .before .before .extends-implementation-of .ensures) (c .before .before .before .before .before .before .before .before .before .before .before .before .link-at .ensures o)) put (l .inv .2 o),
-      λ o. holds-turn _ _ _ _ _ room2 (inverse-at _ _ _ _ _ _ (c .before .before .before .before .before .before .before .inverse-package-of .ensures) (c .before .before .before .before .before .before .inverse-type-of .ensures) (c .before .before .before .before .before .inverse-implementation-of .ensures) (c .before .before .before .before .link-at2 .ensures o)) put2 (l .inv .3 o),
+      λ o. holds-turn _ _ _ _ _ room (extends-at (model s o) (l .row) _ _ _ _ (c .before .before .before .before .before .before .before .before .before .before .before .before .before .before .before .extends-package-of .ensures) (c .before .before .before .before .before .before .before .before .before .before .before .before .before .before .extends-type-of .ensures) (c .before .before .before .before .before .before .before .before .before .before .before .before .before .extends-implementation-of .ensures) (c .before .before .before .before .before .before .before .before .before .before .before .before .link-at .ensures o)) put (l .inv .2 o),
+      λ o. holds-turn _ _ _ _ _ room2 (inverse-at (model s o) (l .row) _ _ _ _ (c .before .before .before .before .before .before .before .inverse-package-of .ensures) (c .before .before .before .before .before .before .inverse-type-of .ensures) (c .before .before .before .before .before .inverse-implementation-of .ensures) (c .before .before .before .before .link-at2 .ensures o)) put2 (l .inv .3 o),
     )
 
 same-length : tie.Need-same-length Inv-loop μ-loop

@@ -2,6 +2,7 @@
 use borrow.Author.Needs.{needs}
 use mathlib.Core.Path.{refl}
 use native.Mathlib.Omega.{arith}
+use lib.ListN.{length}
 use Rattle.as5506.specs.Tables.{Tables, tablesOf}
 use Rattle.shown.proofs.Fits.{shown-as}
 use Rattle.listing.specs.Answer.{Outputs, outputs}
@@ -10,10 +11,14 @@ use Rattle.list_text.proofs.Listed.{text-refused, text-listed}
 use Rattle.list_text.proofs.list_tables.Statement.{statement}
 use Rattle.list_text.proofs.list_tables.Tie as tie
 
+-- the call's start, from behind the listings
+abbrev begin : tie.After-list-connections → tie.Start
+begin c = c .before .before .before .before .before .before .before .before .before .before .before .before .before .before .before .before .before .before .before
+
 -- the tables, and what the listings leave in their outputs
 abbrev tables : tie.After-list-connections → Tables
 tables c =
-    let a = c .before .before .before .before .before .before .before .before .before .before .before .before .before .before .before .before .before .before .before .args in
+    let a = begin c .args in
     tablesOf (a .bytes .now) (a .n .now) (a .c .now) (a .f .now) (a .x .now) (a .p .now) (a .i .now) (a .t .now) (a .q .now) (a .u .now) (a .e .now) (a .r .now)
 
 abbrev left : tie.After-list-connections → Outputs
@@ -80,8 +85,9 @@ returns : tie.Need-returns
 returns c =
     let p = c .before .before .before .before .before .before .before .before .before .before .before .before in
     let t = c .before .before .tell in
-    shown-as _ _ _ _ (t .result) (t .last .1 .0)
-    (text-refused (tables p) (p .list-connections .result) (left p) (p .list-connections .ensures) _ _ (c .before .before .before .before .before .reason .given .1)) refl (t .ensures)
+    let a = begin p .args in
+    shown-as _ _ (a .text .now) (a .text .now) (t .result) (t .last .1 .0)
+    (text-refused (tables p) (p .list-connections .result) (left p) (p .list-connections .ensures) (length (a .text .now)) _ (c .before .before .before .before .before .reason .given .1)) refl (t .ensures)
 
 same-length-2 : tie.Need-same-length-2
 same-length-2 c = c .before .before .print-both .kept .1 .1 .1 .1 .1 .1 .1 .1 .1 .1 .1 .1 .1 .0
@@ -90,8 +96,9 @@ returns-2 : tie.Need-returns-2
 returns-2 c =
     let p = c .before .before .before .before .before .before .before .before .before .before .before .before .before .before .before .before .before in
     let t = c .before .before .print-both in
-    shown-as _ _ _ _ (t .result) (t .last .1 .1 .1 .1 .1 .1 .1 .1 .1 .1 .1 .1 .1 .0)
-    (text-listed (tables p) (p .list-connections .result) (left p) (p .list-connections .ensures) _ _ _ _ _ (c .before .before .before .before .before .before .before .before .before .before .k .given .1)) refl (t .ensures)
+    let a = begin p .args in
+    shown-as _ _ (a .text .now) (a .text .now) (t .result) (t .last .1 .1 .1 .1 .1 .1 .1 .1 .1 .1 .1 .1 .1 .0)
+    (text-listed (tables p) (p .list-connections .result) (left p) (p .list-connections .ensures) (length (a .text .now)) _ _ _ _ (c .before .before .before .before .before .before .before .before .before .before .k .given .1)) refl (t .ensures)
 
 pub list-tables-spec : {M : Type 1} → statement M
 list-tables-spec =

@@ -11,6 +11,16 @@ use Rattle.on_sheet.proofs.Tables.{counted, rows-within, rows-small, by
 use Rattle.on_sheet.proofs.on_sheet.Statement.{statement}
 use Rattle.on_sheet.proofs.on_sheet.Tie as tie
 
+-- the call's start, from behind the reader
+abbrev begin : tie.After-read-sheet → tie.Start
+begin r = r .before .before .before .before .before .before .before .before .before .before .before .before .before .before .before
+
+-- the slices as the reader leaves them
+abbrev left : tie.After-read-sheet → Tables
+left r =
+    let l = r .read-sheet .last in
+    tablesOf (l .1 .0) (l .1 .1 .0) (l .1 .1 .1 .0) (l .1 .1 .1 .1 .0) (l .1 .1 .1 .1 .1 .0) (l .1 .1 .1 .1 .1 .1 .0) (l .1 .1 .1 .1 .1 .1 .1 .0) (l .1 .1 .1 .1 .1 .1 .1 .1 .0) (l .1 .1 .1 .1 .1 .1 .1 .1 .1 .0) (l .1 .1 .1 .1 .1 .1 .1 .1 .1 .1 .0) (l .1 .1 .1 .1 .1 .1 .1 .1 .1 .1 .1 .0) (l .1 .1 .1 .1 .1 .1 .1 .1 .1 .1 .1 .1 .0)
+
 -- places: the way back from where an answer stands to what it uses
 abbrev read-sheet·after : tie.After-k → tie.After-read-sheet
 read-sheet·after c = c .before .before .before .before .before .before .before .before .before .before .before .before .before .before
@@ -59,21 +69,19 @@ read-sheet·returns-2 c = k·returns-2 c .before .before .before .before .before
 
 -- end of places
 
--- the slices after the reader
+-- the slices after the reader, from where they are handed on
 abbrev after : tie.After-k → Tables
-after c =
-    let l = read-sheet·after c .read-sheet .last in
-    tablesOf (l .1 .0) (l .1 .1 .0) (l .1 .1 .1 .0) (l .1 .1 .1 .1 .0) (l .1 .1 .1 .1 .1 .0) (l .1 .1 .1 .1 .1 .1 .0) (l .1 .1 .1 .1 .1 .1 .1 .0) (l .1 .1 .1 .1 .1 .1 .1 .1 .0) (l .1 .1 .1 .1 .1 .1 .1 .1 .1 .0) (l .1 .1 .1 .1 .1 .1 .1 .1 .1 .1 .0) (l .1 .1 .1 .1 .1 .1 .1 .1 .1 .1 .1 .0) (l .1 .1 .1 .1 .1 .1 .1 .1 .1 .1 .1 .1 .0)
+after c = left (read-sheet·after c)
 
 -- what is handed on lies within them
 in-bytes : (c : tie.After-k) → c .k .given .0 .0 .bytes ≤ length (after c .bytes)
-in-bytes c = let r = read-sheet·after c .read-sheet in bytes-within _ (r .result) (after c) (r .ensures) _ (c .k .given .1)
+in-bytes c = let r = read-sheet·after c in bytes-within (begin r .args .sheet .now) (r .read-sheet .result) (left r) (r .read-sheet .ensures) _ (c .k .given .1)
 
 within : (c : tie.After-k) (l : Letter) → counted (c .k .given .0 .0) l * width l ≤ length (table (after c) l)
-within c l = let r = read-sheet·after c .read-sheet in rows-within _ (r .result) (after c) (r .ensures) _ (c .k .given .1) l
+within c l = let r = read-sheet·after c in rows-within (begin r .args .sheet .now) (r .read-sheet .result) (left r) (r .read-sheet .ensures) _ (c .k .given .1) l
 
 small : (c : tie.After-k) (l : Letter) → counted (c .k .given .0 .0) l * width l ≤ 65536
-small c l = let r = read-sheet·after c .read-sheet in rows-small _ (r .result) (after c) (r .ensures) _ (c .k .given .1) l
+small c l = let r = read-sheet·after c in rows-small (begin r .args .sheet .now) (r .read-sheet .result) (left r) (r .read-sheet .ensures) _ (c .k .given .1) l
 
 slice-aggregate-read-sheet : tie.Need-slice-aggregate-read-sheet
 slice-aggregate-read-sheet c = search needs
@@ -236,18 +244,20 @@ same-length c = c .before .before .tell .kept .1 .0
 
 returns : tie.Need-returns
 returns c =
-    let r = read-sheet·returns c .read-sheet in
+    let r = read-sheet·returns c in
+    let a = begin r .args in
     let t = c .before .before .tell in
-    shown-as _ _ _ _ (t .result) (t .last .1 .0) (text-refused _ (r .result) _ (r .ensures) _ _ _ (c .before .before .before .before .before .reason .given .1)) refl (t .ensures)
+    shown-as _ _ (a .text .now) (a .text .now) (t .result) (t .last .1 .0) (text-refused (a .sheet .now) (r .read-sheet .result) (left r) (r .read-sheet .ensures) (a .task) (length (a .text .now)) _ (c .before .before .before .before .before .reason .given .1)) refl (t .ensures)
 
 same-length-2 : tie.Need-same-length-2
 same-length-2 c = c .before .before .do-task .kept .1 .1 .1 .1 .1 .1 .1 .1 .1 .1 .1 .1 .1 .0
 
 returns-2 : tie.Need-returns-2
 returns-2 c =
-    let r = read-sheet·returns-2 c .read-sheet in
+    let r = read-sheet·returns-2 c in
+    let a = begin r .args in
     let t = c .before .before .do-task in
-    shown-as _ _ _ _ (t .result) (t .last .1 .1 .1 .1 .1 .1 .1 .1 .1 .1 .1 .1 .1 .0) (text-read _ (r .result) (after (k·returns-2 c)) (r .ensures) _ (k·returns-2 c .k .given .1) _ _) refl (t .ensures)
+    shown-as _ _ (a .text .now) (a .text .now) (t .result) (t .last .1 .1 .1 .1 .1 .1 .1 .1 .1 .1 .1 .1 .1 .0) (text-read (a .sheet .now) (r .read-sheet .result) (left r) (r .read-sheet .ensures) _ (k·returns-2 c .k .given .1) (a .task) (length (a .text .now))) refl (t .ensures)
 
 pub on-sheet-spec : {M : Type 1} → statement M
 on-sheet-spec =

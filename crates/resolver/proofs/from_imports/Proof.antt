@@ -10,11 +10,11 @@ use borrow.Author.Needs.{needs}
 use Rattle.as5506.specs.Names.{key}
 use Rattle.as5506.specs.Lists.{firstOf}
 use Rattle.as5506.specs.Tables.{Tables, Ref, ref}
-use Rattle.as5506.specs.Resolve.{packageNamed, inFound, firstFound, fromImports}
+use Rattle.as5506.specs.Resolve.{Resolved as Meant, packageNamed, inFound, firstFound, fromImports}
 use Rattle.lent.specs.Lent.{withNames, withP, withI, withTypes, namesIn}
 use Rattle.resolver.specs.declared.Resolved.{Resolved}
 use Rattle.resolver.specs.Found.{rowOf, found}
-use Rattle.resolver.proofs.Keys.{import-rows}
+use Rattle.resolver.proofs.Keys.{import-found}
 use Rattle.resolver.proofs.Scan.{at-row, no-row}
 use Rattle.resolver.proofs.Steps.{imported, importsFrom, imports-start, imports-end, import-row, import-hit, import-miss}
 use Rattle.resolver.proofs.from_imports.Statement.{statement}
@@ -37,13 +37,17 @@ model s o = withNames (s .args .bytes .now) (s .args .n .now) (withP (s .args .p
 abbrev reference : tie.Start Inv-loop μ-loop → ℕ → Ref
 reference s name = ref name (s .args .type-name) (s .args .implementation)
 
+-- what the imports from a row on give
+abbrev left : tie.Start Inv-loop μ-loop → Tables → ℕ → ℕ → Meant
+left s o name start = firstFound (map (imported (model s o) (reference s name)) (importsFrom (model s o) (s .args .asking) start))
+
 abbrev entry : tie.At-loop Inv-loop μ-loop → tie.Start Inv-loop μ-loop
 entry c = c .before .before .before .before .before .before .before .before
 
 -- the scan for the next import
 module _ (c : tie.After-find-row Inv-loop μ-loop) (o : Tables) where
   scanned : let s = entry (c .before) in rowOf (c .find-row .result) ≡ firstOf (importsFrom (model s o) (s .args .asking) (c .before .loop .start))
-  scanned = let s = entry (c .before) in c .find-row .ensures ∙ ap firstOf (import-rows (model s o) (s .args .asking) (c .before .loop .start))
+  scanned = let s = entry (c .before) in import-found (model s o) (s .args .asking) (c .before .loop .start) (rowOf (c .find-row .result)) (c .find-row .ensures)
 
 -- its row
 module _ (c : tie.After-known-told Inv-loop μ-loop) where
@@ -85,8 +89,9 @@ enum-told c = search needs
 returns : tie.Need-returns Inv-loop μ-loop
 returns c =
     let s = c .before .before .before .before .before .before .before .before .before .before .before in
-    λ o name. sym (ap (found (model s o)) (c .before .before .before .loop .inv o name
-    ∙ imports-end (model s o) (s .args .asking) (reference s name) (c .before .before .before .loop .start) (no-row _ _ (c .enum-told .given .1) (scanned (c .before .before) o))))
+    let g = c .before .before .before .loop in
+    λ o name. sym (ap (found (model s o)) (_∙_ {b = left s o name (g .start)} (g .inv o name)
+    (imports-end (model s o) (s .args .asking) (reference s name) (g .start) (no-row _ _ (c .enum-told .given .1) (scanned (c .before .before) o)))))
 
 field-requires : tie.Need-field-requires Inv-loop μ-loop
 field-requires c κs = (omega arith, omega arith, row-bound c .1)
@@ -109,9 +114,10 @@ Start·loop-again c = c .before .before .before .before .before .before .before 
 returns-2 : tie.Need-returns-2 Inv-loop μ-loop
 returns-2 c =
     let s = Start·returns-2 c in
-    λ o name. import-hit (model s o) (s .args .asking) (reference s name) (c .before .before .before .before .before .before .before .before .loop .start) _ (row-at (c .before .before .before .before) o) _
+    let g = c .before .before .before .before .before .before .before .before .loop in
+    λ o name. import-hit (model s o) (s .args .asking) (reference s name) (g .start) _ (row-at (c .before .before .before .before) o) _
     (imports (c .before .before) o name) (sym (c .before .is-found .ensures) ∙ c .if1 .taken)
-    ∙ sym (ap (found (model s o)) (c .before .before .before .before .before .before .before .before .loop .inv o name))
+    ∙ sym (ap (found (model s o)) {y = left s o name (g .start)} (g .inv o name))
 
 add-start : tie.Need-add-start Inv-loop μ-loop
 add-start c = omega (arith, Start·loop-again c .good, row-bound (c .before .before .before .before) .1)
@@ -122,9 +128,10 @@ loop-less c = omega (arith, row-bound (c .before .before .before .before) .0, ro
 loop-again : tie.Need-loop-again Inv-loop μ-loop
 loop-again c =
     let s = Start·loop-again c in
-    λ o name. c .before .before .before .before .before .before .before .before .loop .inv o name
-    ∙ import-miss (model s o) (s .args .asking) (reference s name) (c .before .before .before .before .before .before .before .before .loop .start) _ (row-at (c .before .before .before .before) o) _
-    (imports (c .before .before) o name) (sym (c .before .is-found .ensures) ∙ c .if1 .left)
+    let g = c .before .before .before .before .before .before .before .before .loop in
+    λ o name. _∙_ {b = left s o name (g .start)} (g .inv o name)
+    (import-miss (model s o) (s .args .asking) (reference s name) (g .start) _ (row-at (c .before .before .before .before) o) _
+    (imports (c .before .before) o name) (sym (c .before .is-found .ensures) ∙ c .if1 .left))
 
 pub from-imports-spec : {M : Type 1} → statement M
 from-imports-spec =

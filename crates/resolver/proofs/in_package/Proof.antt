@@ -1,7 +1,7 @@
 -- `resolver::in_package` meets its contract. One law of Steps for each return. Assumes nothing.
 use mathlib.Core.Path.{_≡_}
 use mathlib.Core.List.{[]}
-use mathlib.Core.Option.{some}
+use mathlib.Core.Option.{Option, some}
 use Prim.Native.Nat.{ℕ}
 use native.Mathlib.Omega.{arith}
 use borrow.Author.Needs.{needs}
@@ -22,6 +22,16 @@ model s o = withNames (s .args .bytes .now) (s .args .n .now) (withTypes (s .arg
 abbrev reference : tie.Start → ℕ → Ref
 reference s name = ref name (s .args .type-name) (s .args .implementation)
 
+-- the row of Q that the definition finds, of T, of U
+abbrev implOf : tie.Start → Tables → Option ℕ
+implOf s o = implNamed (model s o) (s .args .«package») (key (model s o) (s .args .type-name)) (key (model s o) (s .args .implementation))
+
+abbrev typeOf : tie.Start → Tables → Option ℕ
+typeOf s o = typeNamed (model s o) (s .args .«package») (key (model s o) (s .args .type-name))
+
+abbrev groupOf : tie.Start → Tables → Option ℕ
+groupOf s o = groupNamed (model s o) (s .args .«package») (key (model s o) (s .args .type-name))
+
 abbrev entry : tie.After-shared-slice-known5 → tie.Start
 entry c = c .before .before .before .before .before
 
@@ -30,19 +40,19 @@ module _ (c : tie.After-known-told) (o : Tables) where
   impl-at : let s = entry (c .before .before .before .before .before) in let m = model s o in some (c .before .row .given .0 .0) ≡ implNamed m (s .args .«package») (key m (s .args .type-name)) (key m (s .args .implementation))
   impl-at =
       let s = entry (c .before .before .before .before .before) in
-      at-row _ _ _ (c .before .row .given .1) (c .before .before .before .find-impl .ensures (model s o))
+      at-row _ _ (implOf s o) (c .before .row .given .1) (c .before .before .before .find-impl .ensures (model s o))
 
 module _ (c : tie.After-known-told2) (o : Tables) where
   type-at : let s = entry (c .before .before .before .before .before) in let m = model s o in some (c .before .row2 .given .0 .0) ≡ typeNamed m (s .args .«package») (key m (s .args .type-name))
   type-at =
       let s = entry (c .before .before .before .before .before) in
-      at-row _ _ _ (c .before .row2 .given .1) (c .before .before .before .find-type .ensures (model s o))
+      at-row _ _ (typeOf s o) (c .before .row2 .given .1) (c .before .before .before .find-type .ensures (model s o))
 
 module _ (c : tie.After-known-told3) (o : Tables) where
   group-at : let s = entry (c .before .before .before .before .before .before .before .before) in let m = model s o in some (c .before .row3 .given .0 .0) ≡ groupNamed m (s .args .«package») (key m (s .args .type-name))
   group-at =
       let s = entry (c .before .before .before .before .before .before .before .before) in
-      at-row _ _ _ (c .before .row3 .given .1) (c .before .before .before .find-group .ensures (model s o))
+      at-row _ _ (groupOf s o) (c .before .row3 .given .1) (c .before .before .before .find-group .ensures (model s o))
 
 find-impl-requires : tie.Need-find-impl-requires
 find-impl-requires c κs = search needs
@@ -57,7 +67,7 @@ returns : tie.Need-returns
 returns c =
     let s = c .before .before .before .before .before .before .before .before .before in
     λ o name. impl-none (model s o) (s .args .own) (s .args .«package») (reference s name) (c .before .before .before .if1 .taken)
-    (no-row _ _ (c .enum-told .given .1) (c .before .before .find-impl .ensures (model s o)))
+    (no-row _ (implOf s o) (c .enum-told .given .1) (c .before .before .find-impl .ensures (model s o)))
 
 field-requires : tie.Need-field-requires
 field-requires c κs =
@@ -105,8 +115,8 @@ returns-3 : tie.Need-returns-3
 returns-3 c =
     let s = c .before .before .before .before .before .before .before .before .before .before .before .before in
     λ o name. group-none (model s o) (s .args .own) (s .args .«package») (reference s name) (c .before .before .before .before .before .before .if1 .left)
-    (no-row _ _ (c .before .before .before .enum-told2 .given .1) (c .before .before .before .before .before .find-type .ensures (model s o)))
-    (no-row _ _ (c .enum-told3 .given .1) (c .before .before .find-group .ensures (model s o)))
+    (no-row _ (typeOf s o) (c .before .before .before .enum-told2 .given .1) (c .before .before .before .before .before .find-type .ensures (model s o)))
+    (no-row _ (groupOf s o) (c .enum-told3 .given .1) (c .before .before .find-group .ensures (model s o)))
 
 private-of-requires : tie.Need-private-of-requires
 private-of-requires c κs = search needs
@@ -128,7 +138,7 @@ returns-5 c =
     λ o name.
     let h = group-at (c .before .before) o in
     group-some (model s o) (s .args .own) (s .args .«package») (reference s name) (c .before .before .before .before .before .before .before .before .before .if1 .left)
-    (no-row _ _ (c .before .before .before .before .before .before .enum-told2 .given .1) (c .before .before .before .before .before .before .before .before .find-type .ensures (model s o))) _ _ _ h
+    (no-row _ (typeOf s o) (c .before .before .before .before .before .before .enum-told2 .given .1) (c .before .before .before .before .before .before .before .before .find-type .ensures (model s o))) _ _ _ h
     (group-row (model s o) (s .args .«package») _ _ h .1) (c .before .private-of .ensures) (c .if-visible3 .ensures)
 
 pub in-package-spec : {M : Type 1} → statement M

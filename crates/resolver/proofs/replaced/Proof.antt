@@ -1,7 +1,8 @@
 -- `resolver::replaced` meets its contract. One law of Steps for each return. Assumes nothing.
 use mathlib.Core.Path.{_≡_}
 use mathlib.Core.List.{[]}
-use mathlib.Core.Option.{some}
+use mathlib.Core.Option.{Option, some}
+use Prim.Native.Nat.{ℕ}
 use native.Mathlib.Omega.{arith}
 use borrow.Author.Needs.{needs}
 use Rattle.as5506.specs.Names.{key}
@@ -18,6 +19,10 @@ use Rattle.resolver.proofs.replaced.Tie as tie
 -- the tables that are asked, whatever the others are
 abbrev model : tie.Start → Tables → Tables
 model s o = withNames (s .args .bytes .now) (s .args .n .now) (withR (s .args .r .now) o)
+
+-- the rename of the package that package g asks for
+abbrev renamesOf : tie.Start → Tables → ℕ → Option ℕ
+renamesOf s o g = firstOf (renamesNamed (model s o) g 0 (key (model s o) (s .args .«package»)))
 
 -- the rename that is found, of the package that asks
 module _ (c : tie.After-known-told2) (o : Tables) where
@@ -51,7 +56,7 @@ returns-2 c =
     let s = c .before .before .before .before .before .before .before .before .before in
     λ o. rw (c .before .before .before .before .asking .given .1)
     (not-renamed (model s o) (s .args .«package») (c .before .before .before .before .asking .given .0 .0)
-    (no-row _ _ (c .enum-told2 .given .1) (c .before .before .find-rename .ensures o)))
+    (no-row _ (renamesOf s o (c .before .before .before .before .asking .given .0 .0)) (c .enum-told2 .given .1) (c .before .before .find-rename .ensures o)))
 
 field-requires : tie.Need-field-requires
 field-requires c κs =

@@ -1,8 +1,10 @@
 -- `resolver::resolve_in_package` meets its contract. One law of Steps for each return. Assumes nothing.
 use Prim.Native.Nat.{ℕ}
 use borrow.Author.Needs.{needs}
+use mathlib.Core.Option.{Option}
 use Rattle.as5506.specs.Names.{key}
 use Rattle.as5506.specs.Tables.{Tables, Ref, ref}
+use Rattle.as5506.specs.Resolve.{packageNamed}
 use Rattle.lent.specs.Lent.{withNames, withP, withTypes}
 use Rattle.resolver.proofs.Scan.{at-row, no-row}
 use Rattle.resolver.proofs.Steps.{package-none, package-some}
@@ -15,6 +17,10 @@ model s o = withNames (s .args .bytes .now) (s .args .n .now) (withP (s .args .p
 
 abbrev reference : tie.Start → ℕ → Ref
 reference s name = ref name (s .args .type-name) (s .args .implementation)
+
+-- the row of P that the definition finds
+abbrev packageOf : tie.Start → Tables → Option ℕ
+packageOf s o = packageNamed (model s o) (key (model s o) (s .args .«package»))
 
 find-package-requires : tie.Need-find-package-requires
 find-package-requires c κs = search needs
@@ -29,7 +35,7 @@ returns : tie.Need-returns
 returns c =
     let s = c .before .before .before .before .before .before .before .before .before in
     λ o name. package-none (model s o) (s .args .own) (reference s name) (key (model s o) (s .args .«package»))
-    (no-row _ _ (c .enum-told .given .1) (c .before .before .find-package .ensures (model s o)))
+    (no-row _ (packageOf s o) (c .enum-told .given .1) (c .before .before .find-package .ensures (model s o)))
 
 in-package-requires : tie.Need-in-package-requires
 in-package-requires c κs = search needs
@@ -38,7 +44,7 @@ returns-2 : tie.Need-returns-2
 returns-2 c =
     let s = c .before .before .before .before .before .before .before .before .before .before .before in
     λ o name. package-some (model s o) (s .args .own) (reference s name) (key (model s o) (s .args .«package»)) _ _
-    (at-row _ _ _ (c .before .before .row .given .1) (c .before .before .before .before .find-package .ensures (model s o)))
+    (at-row _ _ (packageOf s o) (c .before .before .row .given .1) (c .before .before .before .before .find-package .ensures (model s o)))
     (c .in-package .ensures (model s o) name)
 
 pub resolve-in-package-spec : {M : Type 1} → statement M

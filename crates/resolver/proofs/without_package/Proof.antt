@@ -2,7 +2,7 @@
 use mathlib.Core.Bool.{true}
 use mathlib.Core.Path.{_≡_, sym, _∙_}
 use mathlib.Core.List.{[]}
-use mathlib.Core.Option.{some}
+use mathlib.Core.Option.{Option, some}
 use Prim.Native.Nat.{ℕ, _/_, _<_}
 use native.Mathlib.Omega.{arith}
 use lib.ListN.{length}
@@ -25,13 +25,17 @@ model s o = withPackages (s .args .bytes .now) (s .args .n .now) (s .args .p .no
 abbrev reference : tie.Start → ℕ → Ref
 reference s name = ref name (s .args .type-name) (s .args .implementation)
 
+-- the rename that the definition finds
+abbrev renameOf : tie.Start → Tables → ℕ → Option ℕ
+renameOf s o name = firstOf (renamesFor (model s o) (s .args .asking) (reference s name))
+
 -- the rename that is found
 module _ (c : tie.After-known-told) (o : Tables) (name : ℕ) where
   abbrev from : tie.Start
   from = c .before .before .before .before .before .before .before .before .before .before .before .before .before .before .before
 
   rename-at : some (c .before .rename .given .0 .0) ≡ firstOf (renamesFor (model from o) (from .args .asking) (reference from name))
-  rename-at = at-row _ _ _ (c .before .rename .given .1) (c .before .before .before .rename-for .ensures (model from o) name)
+  rename-at = at-row _ _ (renameOf from o name) (c .before .rename .given .1) (c .before .before .before .rename-for .ensures (model from o) name)
 
   within : c .before .rename .given .0 .0 < length (from .args .r .now) / 5
   within = rename-for-row (model from o) (from .args .asking) (reference from name) _ rename-at .0
@@ -71,7 +75,7 @@ returns-2 : tie.Need-returns-2
 returns-2 c =
     let s = c .before .before .before .before .before .before .before .before .before .before .before .before .before .before .before in
     λ o name asks. by-imports (model s o) (s .args .from) (s .args .asking) (reference s name) _ (own (c .before .before .before .before .before) o name) (sym (c .before .before .before .before .before .is-found .ensures) ∙ c .before .before .before .before .if1 .left) _
-    (no-row _ _ (c .before .enum-told .given .1) (c .before .before .before .rename-for .ensures (model s o) name))
+    (no-row _ (renameOf s o name) (c .before .enum-told .given .1) (c .before .before .before .rename-for .ensures (model s o) name))
     (c .from-imports .ensures (model s o) name)
 
 field-requires : tie.Need-field-requires

@@ -1,12 +1,17 @@
 -- `sink::partner` meets its contract: an answer that the memory has is the search's. Assumes nothing.
-use mathlib.Core.Path.{sym, ap, _∙_}
-use Prim.Native.Nat.{_<_}
+use mathlib.Core.Option.{Option}
+use Prim.Native.Nat.{ℕ, _<_}
 use native.Mathlib.Omega.{arith}
 use borrow.Author.Needs.{needs}
-use Rattle.sink.specs.Place.{placeOf}
-use Rattle.sink.proofs.Search.{partner-below, known-none, known-at, asked-none, asked-at}
+use Rattle.sink.specs.Take.{partnerOf}
+use Rattle.sink.proofs.Search.{known-none, known-at, asked-none, asked-at}
+use Rattle.sink.proofs.Purposes.{match-below}
 use Rattle.sink.proofs.partner.Statement.{statement}
 use Rattle.sink.proofs.partner.Tie as tie
+
+-- the partner that the definition finds
+abbrev answer : tie.Start → Option ℕ
+answer s = partnerOf (s .args .bytes .now) (s .args .n .now) (s .args .kept .now) (s .args .count) (s .args .name)
 
 number-at-requires : tie.Need-number-at-requires
 number-at-requires c κs = search needs
@@ -47,13 +52,13 @@ Start·returns-3 c = Start·put-number-requires (c .before .before .before)
 cast-put-number : tie.Need-cast-put-number
 cast-put-number c =
     let s = Start·put-number-requires c in
-    let i : c .before .before .place .given .0 .0 < s .args .count = partner-below _ _ _ _ _ _ (ap placeOf (sym (c .before .before .place .given .1)) ∙ c .before .before .before .before .find-partner .ensures) in
+    let i : c .before .before .place .given .0 .0 < s .args .count = match-below (s .args .bytes .now) (s .args .n .now) (s .args .kept .now) (s .args .count) (s .args .name) _ _ (c .before .before .before .before .find-partner .ensures) (c .before .before .place .given .1) in
     omega (arith, i, s .pre .0)
 
 add-put-number : tie.Need-add-put-number
 add-put-number c =
     let s = Start·put-number-requires c in
-    let i : c .before .before .place .given .0 .0 < s .args .count = partner-below _ _ _ _ _ _ (ap placeOf (sym (c .before .before .place .given .1)) ∙ c .before .before .before .before .find-partner .ensures) in
+    let i : c .before .before .place .given .0 .0 < s .args .count = match-below (s .args .bytes .now) (s .args .n .now) (s .args .kept .now) (s .args .count) (s .args .name) _ _ (c .before .before .before .before .find-partner .ensures) (c .before .before .place .given .1) in
     omega (arith, i, s .pre .0)
 
 put-number-requires : tie.Need-put-number-requires
@@ -71,7 +76,7 @@ same-length-3 c = search needs
 returns-3 : tie.Need-returns-3
 returns-3 c =
     let s = Start·returns-3 c in
-    asked-at _ _ (s .args .memo .now) _ (s .args .name) (c .before .before .before .before .before .before .before .find-partner .ensures) _ (c .before .before .before .before .before .place .given .1) (c .before .before .put-number .ensures)
+    asked-at (answer s) _ (s .args .memo .now) _ (s .args .name) (c .before .before .before .before .before .before .before .find-partner .ensures) _ (c .before .before .before .before .before .place .given .1) (c .before .before .put-number .ensures)
 
 same-length-4 : tie.Need-same-length-4
 same-length-4 c = search needs
@@ -79,7 +84,7 @@ same-length-4 c = search needs
 returns-4 : tie.Need-returns-4
 returns-4 c =
     let s = c .before .before .before .before .before .before .before .before .before .before .before .before .before .before .before in
-    asked-none _ _ (s .args .memo .now) _ (s .args .name) (c .before .before .before .before .before .before .find-partner .ensures) (c .before .before .before .before .enum-told .given .1) (c .before .before .put-number2 .ensures)
+    asked-none (answer s) _ (s .args .memo .now) _ (s .args .name) (c .before .before .before .before .before .before .find-partner .ensures) (c .before .before .before .before .enum-told .given .1) (c .before .before .put-number2 .ensures)
 
 pub partner-spec : {M : Type 1} → statement M
 partner-spec =

@@ -4,6 +4,7 @@ use mathlib.Core.Bool.{Bool}
 use Prim.Native.Nat.{_-_, _≤_, ℕ}
 use native.Mathlib.Omega.{arith}
 use Rattle.tables.specs.Order.{badRow}
+use Rattle.as5506.proofs.Laws.{answered}
 use Rattle.tables.proofs.Scans.{refused-stays, accepted-goes, left, table-refused, table-passes}
 use Rattle.as5506.proofs.Scans.{keep-miss}
 use Rattle.tables.proofs.check_table.Statement.{statement}
@@ -46,9 +47,10 @@ array-read-letter c = c .before .before .before .before .before .before .before 
 returns-2 : tie.Need-returns-2 Inv-loop μ-loop
 returns-2 c =
     let s = c .before .before .before .before .before .before .before .before .before .before .before in
+    let g = c .before .before .before .before .loop in
     accepted-goes (s .args .before) _ _ (sym (c .before .before .before .before .before .before .before .is-refused .ensures) ∙ c .before .before .before .before .before .before .if1 .left)
-    (table-refused (s .args .bytes .now) (s .args .n .now) (s .args .t .now) (s .args .lens) (s .args .rule) (s .args .k) (c .number-of .result) (c .before .before .before .before .loop .i) (c .before .before .before .before .before .span-of .result)
-    (c .number-of .ensures) (c .before .before .before .before .before .span-of .ensures .0) (c .before .before .before .loop-test .taken) (sym (c .before .before .bad-row .ensures) ∙ c .before .if2 .taken) (c .before .before .before .before .loop .inv .1))
+    (table-refused (s .args .bytes .now) (s .args .n .now) (s .args .t .now) (s .args .lens) (s .args .rule) (s .args .k) (c .number-of .result) (g .i) (c .before .before .before .before .before .span-of .result)
+    (c .number-of .ensures) (c .before .before .before .before .before .span-of .ensures .0) (c .before .before .before .loop-test .taken) (answered (bad s (g .i)) (c .before .before .bad-row .ensures) (c .before .if2 .taken)) (g .inv .1))
 
 add-i : tie.Need-add-i Inv-loop μ-loop
 add-i c = omega (arith, c .before .before .loop-test .taken, c .before .before .before .before .span-of .ensures .1)
@@ -59,7 +61,8 @@ loop-less c = omega (arith, c .before .before .loop-test .taken)
 loop-again : tie.Need-loop-again Inv-loop μ-loop
 loop-again c =
     let s = c .before .before .before .before .before .before .before .before .before .before in
-    (omega (arith, c .before .before .loop-test .taken), sym (keep-miss (bad s) (c .before .before .before .loop .i) (c .before .before .before .before .span-of .result) (c .before .before .loop-test .taken) (sym (c .before .bad-row .ensures) ∙ c .if2 .left)) ∙ c .before .before .before .loop .inv .1)
+    let g = c .before .before .before .loop in
+    (omega (arith, c .before .before .loop-test .taken), sym (keep-miss (bad s) (g .i) (c .before .before .before .before .span-of .result) (c .before .before .loop-test .taken) (answered (bad s (g .i)) (c .before .bad-row .ensures) (c .if2 .left))) ∙ g .inv .1)
 
 returns-3 : tie.Need-returns-3 Inv-loop μ-loop
 returns-3 c =

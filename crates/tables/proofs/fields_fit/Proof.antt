@@ -8,6 +8,7 @@ use borrow.Author.Needs.{needs}
 use borrow.Author.Tests.{not-true, not-false}
 use Rattle.as5506.specs.Lists.{span, upTo, allOf}
 use Rattle.tables.specs.Tests.{widths, fieldFits, fieldsFit}
+use Rattle.as5506.proofs.Laws.{answered}
 use Rattle.tables.proofs.Scans.{whole-left, all-hit, all-miss, all-end}
 use Rattle.tables.proofs.Tests.{width-cap}
 use Rattle.tables.proofs.fields_fit.Statement.{statement}
@@ -43,7 +44,8 @@ returns : tie.Need-returns Inv-loop μ-loop
 unfolding fieldsFit
 returns c =
     let s = c .before .before .before .before .before in
-    sym (all-miss (fits s) (c .before .before .before .loop .j) (getD widths (s .args .k) 0) (c .before .before .loop-test .taken) (sym (c .before .field-fits .ensures) ∙ not-true _ (c .if1 .taken))) ∙ c .before .before .before .loop .inv .1
+    let g = c .before .before .before .loop in
+    sym (all-miss (fits s) (g .j) (getD widths (s .args .k) 0) (c .before .before .loop-test .taken) (answered (fits s (g .j)) (c .before .field-fits .ensures) (not-true _ (c .if1 .taken)))) ∙ g .inv .1
 
 add-j : tie.Need-add-j Inv-loop μ-loop
 add-j c =
@@ -56,7 +58,8 @@ loop-less c = omega (arith, c .before .before .loop-test .taken)
 loop-again : tie.Need-loop-again Inv-loop μ-loop
 loop-again c =
     let s = c .before .before .before .before .before in
-    (omega (arith, c .before .before .loop-test .taken), sym (all-hit (fits s) (c .before .before .before .loop .j) (getD widths (s .args .k) 0) (c .before .before .loop-test .taken) (sym (c .before .field-fits .ensures) ∙ not-false _ (c .if1 .left))) ∙ c .before .before .before .loop .inv .1)
+    let g = c .before .before .before .loop in
+    (omega (arith, c .before .before .loop-test .taken), sym (all-hit (fits s) (g .j) (getD widths (s .args .k) 0) (c .before .before .loop-test .taken) (answered (fits s (g .j)) (c .before .field-fits .ensures) (not-false _ (c .if1 .left)))) ∙ g .inv .1)
 
 returns-2 : tie.Need-returns-2 Inv-loop μ-loop
 unfolding fieldsFit

@@ -6,6 +6,7 @@ use native.Mathlib.Omega.{arith}
 use borrow.Author.Needs.{needs}
 use Rattle.as5506.specs.Lists.{span, upTo, anyOf}
 use Rattle.tables.specs.Tests.{sameKeys, keyTaken}
+use Rattle.as5506.proofs.Laws.{answered}
 use Rattle.tables.proofs.Scans.{whole-left, any-hit, any-miss, any-end}
 use Rattle.tables.proofs.Tests.{row-start}
 use Rattle.tables.proofs.key_taken.Statement.{statement}
@@ -51,7 +52,8 @@ returns : tie.Need-returns Inv-loop μ-loop
 unfolding keyTaken sameKeys
 returns c =
     let s = c .before .before .before .before .before .before .before in
-    sym (any-hit (same s) (c .before .before .before .loop .j) (s .args .i) (c .before .before .loop-test .taken) (sym (c .before .same-key .ensures) ∙ c .if1 .taken)) ∙ c .before .before .before .loop .inv .1
+    let g = c .before .before .before .loop in
+    sym (any-hit (same s) (g .j) (s .args .i) (c .before .before .loop-test .taken) (answered (same s (g .j)) (c .before .same-key .ensures) (c .if1 .taken))) ∙ g .inv .1
 
 add-j : tie.Need-add-j Inv-loop μ-loop
 add-j c =
@@ -65,7 +67,8 @@ loop-again : tie.Need-loop-again Inv-loop μ-loop
 unfolding sameKeys
 loop-again c =
     let s = c .before .before .before .before .before .before .before in
-    (omega (arith, c .before .before .loop-test .taken), sym (any-miss (same s) (c .before .before .before .loop .j) (s .args .i) (c .before .before .loop-test .taken) (sym (c .before .same-key .ensures) ∙ c .if1 .left)) ∙ c .before .before .before .loop .inv .1)
+    let g = c .before .before .before .loop in
+    (omega (arith, c .before .before .loop-test .taken), sym (any-miss (same s) (g .j) (s .args .i) (c .before .before .loop-test .taken) (answered (same s (g .j)) (c .before .same-key .ensures) (c .if1 .left))) ∙ g .inv .1)
 
 returns-2 : tie.Need-returns-2 Inv-loop μ-loop
 unfolding keyTaken

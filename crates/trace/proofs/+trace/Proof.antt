@@ -8,6 +8,7 @@ use Rattle.columns.specs.Side.{sideOf}
 use Rattle.trace.specs.Steps.{stepsFrom}
 use Rattle.as5506.specs.Layout.{tracedBlock, rowNumbers}
 use Rattle.as5506.specs.Tracing.{chains}
+use Rattle.as5506.specs.Tables.{Tables}
 use Rattle.lent.specs.Lent.{wiringIn}
 use lib.ListN.{length, take, length-set}
 use borrow.Author.Needs.{needs}
@@ -45,6 +46,10 @@ trace-Inv-loop bytes n c x out₀ side conn left other limit count component fea
 abbrev trace-μ-loop : trace-lts.MeasureT-loop
 trace-μ-loop bytes n c x out₀ side conn left other limit count component feature len so-far done₀ i₀ j₀ out done i j =
     length (stepsFrom (wiringIn bytes n c x) (sideOf side) component feature i j)
+
+-- the tables that the call is lent
+abbrev model : (t : ℕ) → trace-lts.Start (claims t) (trace-at t) trace.Post trace-Inv-loop trace-μ-loop → Tables
+model t s = wiringIn (s .args .bytes .now) (s .args .n .now) (s .args .c .now) (s .args .x .now)
 
 trace-first-step-requires : (t : ℕ) → trace-lts.Need-first-step-requires (claims t) (trace-at t) trace.Post trace-Inv-loop trace-μ-loop
 trace-first-step-requires t c κs = tt
@@ -93,8 +98,8 @@ trace-enum-told-4 t c = search needs
 trace-loop-holds : (t : ℕ) → trace-lts.Need-loop-holds (claims t) (trace-at t) trace.Post trace-Inv-loop trace-μ-loop
 trace-loop-holds t c =
     let s = c .before .before .before .before .before .before .before .before .before in
-    let b = begins-at _ _ _ _ _ _ (c .before .before .before .first-step .ensures) _ _ _ (c .before .enum-told4 .given .1) in
-    trace-start _ _ _ _ _ _ _ _ _ _ _ _ _ _ (s .pre .1 .0 .room) b
+    let b = begins-at (model t s) _ _ _ _ _ (c .before .before .before .first-step .ensures) _ _ _ (c .before .enum-told4 .given .1) in
+    trace-start (model t s) _ _ _ _ _ _ _ _ _ _ _ _ _ (s .pre .1 .0 .room) b
 
 trace-next-step-requires : (t : ℕ) → trace-lts.Need-next-step-requires (claims t) (trace-at t) trace.Post trace-Inv-loop trace-μ-loop
 trace-next-step-requires t c κs = tt
@@ -141,13 +146,13 @@ trace-cast-path t c =
 trace-mul-path : (t : ℕ) → trace-lts.Need-mul-path (claims t) (trace-at t) trace.Post trace-Inv-loop trace-μ-loop
 trace-mul-path t c =
     let s = Start·trace-add-trace t c in
-    let b = begins-at _ _ _ _ _ _ (first-step·trace-add-trace t c .first-step .ensures) _ _ _ (c .before .before .before .before .before .before .enum-told4 .given .1) in
+    let b = begins-at (model t s) _ _ _ _ _ (first-step·trace-add-trace t c .first-step .ensures) _ _ _ (c .before .before .before .before .before .before .enum-told4 .given .1) in
     omega (arith, fit-room _ _ _ _ _ (s .pre .1 .1 .steps) (b .0))
 
 trace-array-write-path : (t : ℕ) → trace-lts.Need-array-write-path (claims t) (trace-at t) trace.Post trace-Inv-loop trace-μ-loop
 trace-array-write-path t c =
     let s = Start·trace-add-trace t c in
-    let b = begins-at _ _ _ _ _ _ (first-step·trace-add-trace t c .first-step .ensures) _ _ _ (c .before .before .before .before .before .before .enum-told4 .given .1) in
+    let b = begins-at (model t s) _ _ _ _ _ (first-step·trace-add-trace t c .first-step .ensures) _ _ _ (c .before .before .before .before .before .before .enum-told4 .given .1) in
     omega (arith, s .pre .1 .1 .places, fit-room _ _ _ _ _ (s .pre .1 .1 .steps) (b .0))
 
 trace-cast-t33 : (t : ℕ) → trace-lts.Need-cast-t33 (claims t) (trace-at t) trace.Post trace-Inv-loop trace-μ-loop
@@ -159,7 +164,7 @@ trace-cast-t33 t c =
 trace-add-trace : (t : ℕ) → trace-lts.Need-add-trace (claims t) (trace-at t) trace.Post trace-Inv-loop trace-μ-loop
 trace-add-trace t c =
     let s = Start·trace-add-trace t c in
-    let b = begins-at _ _ _ _ _ _ (first-step·trace-add-trace t c .first-step .ensures) _ _ _ (c .before .before .before .before .before .before .enum-told4 .given .1) in
+    let b = begins-at (model t s) _ _ _ _ _ (first-step·trace-add-trace t c .first-step .ensures) _ _ _ (c .before .before .before .before .before .before .enum-told4 .given .1) in
     omega (arith, fit-room _ _ _ _ _ (s .pre .1 .1 .steps) (b .0))
 
 trace-sub-trace : (t : ℕ) → trace-lts.Need-sub-trace (claims t) (trace-at t) trace.Post trace-Inv-loop trace-μ-loop
@@ -171,7 +176,7 @@ trace-trace-requires-2 : (t : ℕ) → trace-lts.Need-trace-requires-2 (claims t
 trace-trace-requires-2 t c κs =
     let s = c .before .before .before .before .before .before .before .before .before .before .before .before .before .before .before in
     let g = c .before .before .before .before .before .loop in
-    let b = begins-at _ _ _ _ _ _ (c .before .before .before .before .before .before .before .before .before .first-step .ensures) _ _ _ (c .before .before .before .before .before .before .before .enum-told4 .given .1) in (
+    let b = begins-at (model t s) _ _ _ _ _ (c .before .before .before .before .before .before .before .before .before .first-step .ensures) _ _ _ (c .before .before .before .before .before .before .before .enum-told4 .given .1) in (
       omega (arith, s .pre .0, b .0),
       (
         record { tables = s .pre .1 .0 .tables; room = rw (g .inv .size) (g .inv .room) },
@@ -189,9 +194,9 @@ trace-returns-4 : (t : ℕ) → trace-lts.Need-returns-4 (claims t) (trace-at t)
 trace-returns-4 t c =
     let s = Start·trace-returns-4 t c in
     let g = c .before .before .before .before .before .before .before .before .before .before .loop in
-    let b = begins-at _ _ _ _ _ _ (c .before .before .before .before .before .before .before .before .before .before .before .before .before .before .first-step .ensures) _ _ _ (c .before .before .before .before .before .before .before .before .before .before .before .before .enum-told4 .given .1) in
-    let e = step-at _ _ _ _ _ _ _ (c .before .before .before .before .before .before .before .before .before .next-step .ensures .0) _ _ _ (c .before .before .before .before .before .before .before .row .given .1) in
-    trace-full _ _ _ _ _ _ _ _ (s .args .here .path) (s .args .here .len) (s .args .out .now) (s .args .count) (g .out) (g .done) _ _ _ (g .inv) e
+    let b = begins-at (model t s) _ _ _ _ _ (c .before .before .before .before .before .before .before .before .before .before .before .before .before .before .first-step .ensures) _ _ _ (c .before .before .before .before .before .before .before .before .before .before .before .before .enum-told4 .given .1) in
+    let e = step-at (model t s) _ _ _ _ _ _ (c .before .before .before .before .before .before .before .before .before .next-step .ensures .0) _ _ _ (c .before .before .before .before .before .before .before .row .given .1) in
+    trace-full (model t s) _ _ _ _ _ _ _ (s .args .here .path) (s .args .here .len) (s .args .out .now) (s .args .count) (g .out) (g .done) _ _ _ (g .inv) e
     (omega (arith, s .pre .1 .1 .places, fit-room _ _ _ _ _ (s .pre .1 .1 .steps) (b .0))) (c .before .before .before .before .trace2 .result) _ (c .before .before .before .before .trace2 .ensures) (c .enum-told6 .given .1) _
 
 trace-enum-known-r : (t : ℕ) → trace-lts.Need-enum-known-r (claims t) (trace-at t) trace.Post trace-Inv-loop trace-μ-loop
@@ -212,9 +217,9 @@ trace-loop-again : (t : ℕ) → trace-lts.Need-loop-again (claims t) (trace-at 
 trace-loop-again t c =
     let s = Start·trace-loop-again t c in
     let g = c .before .before .before .before .before .before .before .before .before .before .before .loop in
-    let b = begins-at _ _ _ _ _ _ (c .before .before .before .before .before .before .before .before .before .before .before .before .before .before .before .first-step .ensures) _ _ _ (c .before .before .before .before .before .before .before .before .before .before .before .before .before .enum-told4 .given .1) in
-    let e = step-at _ _ _ _ _ _ _ (next-step·trace-loop-again t c .next-step .ensures .0) _ _ _ (row·trace-loop-again t c .row .given .1) in
-    trace-turn _ _ _ _ _ _ _ _ (s .args .here .path) (s .args .here .len) (s .args .out .now) (s .args .count) (g .out) (g .done) _ _ _ (g .inv) e
+    let b = begins-at (model t s) _ _ _ _ _ (c .before .before .before .before .before .before .before .before .before .before .before .before .before .before .before .first-step .ensures) _ _ _ (c .before .before .before .before .before .before .before .before .before .before .before .before .before .enum-told4 .given .1) in
+    let e = step-at (model t s) _ _ _ _ _ _ (next-step·trace-loop-again t c .next-step .ensures .0) _ _ _ (row·trace-loop-again t c .row .given .1) in
+    trace-turn (model t s) _ _ _ _ _ _ _ (s .args .here .path) (s .args .here .len) (s .args .out .now) (s .args .count) (g .out) (g .done) _ _ _ (g .inv) e
     (omega (arith, s .pre .1 .1 .places, fit-room _ _ _ _ _ (s .pre .1 .1 .steps) (b .0))) (c .before .before .before .before .before .trace2 .result) _ (c .before .before .before .before .before .trace2 .ensures) _ (c .before .r .given .1)
 
 pub +trace-spec : {M : Type 1} → statement M

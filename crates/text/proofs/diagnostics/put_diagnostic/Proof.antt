@@ -1,5 +1,11 @@
 -- `text::diagnostics::put_diagnostic` meets its contract: its pieces, one behind the other, are the diagnostic's text. Assumes nothing.
 use borrow.Author.Needs.{needs}
+use lib.ListN.{getD}
+use lib.Dec.{ltb}
+use Rattle.as5506.specs.Lists.{each, bytesOf}
+use Rattle.as5506.specs.Layout.{diagBack}
+use Rattle.as5506.specs.Text.{textLine, message, pathNames}
+use Rattle.lent.specs.Lent.{namesIn, wiringIn}
 use Rattle.text.proofs.Added.{added-as, added-piece, added-then}
 use Rattle.text.proofs.Messages.{diag-pieces}
 use Rattle.text.proofs.diagnostics.put_diagnostic.Statement.{statement}
@@ -60,10 +66,14 @@ returns c =
     let marked = numbered .before .before .before .before in
     let name = marked .before .before .before in
     let s = name .before .before .before .before .before .before .before .before in
-    added-as (diag-pieces _ _ _ _ _ _ (s .pre) (name .connection-name .ensures))
+    let a = s .args in
+    let b = a .block .now in
+    let called = name .connection-name .result .now in
+    let m = wiringIn (a .bytes .now) (a .n .now) (a .c .now) (a .x .now) in
+    added-as (diag-pieces (a .bytes .now) (a .n .now) (a .c .now) (a .x .now) b called (s .pre) (name .connection-name .ensures))
+    (added-then {t = each (textLine (bytesOf "@")) (pathNames m (diagBack b) (ltb (getD b 0 0) 5))}
     (added-then
-    (added-then
-    (added-then
+    (added-then {t = message (namesIn (a .bytes .now) (a .n .now)) called (getD b 0 0) (getD b 2 0) (getD b 3 0)}
     (added-then (added-then (added-piece (marked .append-bytes .ensures)) (numbered .put-columns .ensures)) (added-piece (begun .append-bytes2 .ensures)))
     (told .put-message .ensures))
     (added-piece (ended .append-bytes3 .ensures)))

@@ -1,7 +1,7 @@
 -- `text::diagnostics::put_path_names` meets its contract: by the code, the two lines are the path names'. Assumes nothing.
 use borrow.Author.Needs.{needs}
 use Rattle.text.proofs.Added.{added-as, added-then}
-use Rattle.text.proofs.Messages.{path-owner, path-feature}
+use Rattle.text.proofs.Messages.{atLine, path-owner, path-feature}
 use Rattle.text.proofs.diagnostics.put_path_names.Statement.{statement}
 use Rattle.text.proofs.diagnostics.put_path_names.Tie as tie
 
@@ -61,7 +61,7 @@ returns c =
     added-as
     (path-owner _ _ _ _ _ _ _ _ (code .number-at2 .ensures) (conn .number-at .ensures) (name .connection-name .ensures)
     _ _ _ (below .if1 .taken) (owner .owner-of .ensures) (named .before .name-of .ensures) (named .name-of2 .ensures))
-    (added-then (c .before .before .before .before .before .before .before .before .put-between .ensures) (c .before .before .put-between2 .ensures))
+    (added-then {s = atLine (named .name-of2 .result .now)} (c .before .before .before .before .before .before .before .before .put-between .ensures) (c .before .before .put-between2 .ensures))
 
 number-at-requires-3 : tie.Need-number-at-requires-3
 number-at-requires-3 c κs = search needs
@@ -100,7 +100,7 @@ returns-2 c =
     added-as
     (path-feature _ _ _ _ _ _ _ _ (code .number-at2 .ensures) (conn .number-at .ensures) (name .connection-name .ensures)
     _ _ (other .if1 .left) (named .before .number-at3 .ensures) (named .name-of3 .ensures))
-    (added-then (c .before .before .before .before .before .before .before .before .put-between3 .ensures) (c .before .before .put-between4 .ensures))
+    (added-then {s = atLine (name .connection-name .result .now)} (c .before .before .before .before .before .before .before .before .put-between3 .ensures) (c .before .before .put-between4 .ensures))
 
 pub put-path-names-spec : {M : Type 1} → statement M
 put-path-names-spec =

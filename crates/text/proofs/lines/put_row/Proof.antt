@@ -1,10 +1,12 @@
 -- `text::lines::put_row` meets its contract: its pieces, one behind the other, are the row's text. Assumes nothing.
 use mathlib.Core.Path.{sym}
+use mathlib.Core.List.{_++_}
 use Prim.Native.Nat.{_≤_}
 use native.Mathlib.Omega.{arith}
 use borrow.Author.Needs.{needs}
 use lib.ListN.{length}
 use lib.Seq.{length-take-le}
+use Rattle.as5506.specs.Lists.{bytesOf}
 use Rattle.text.proofs.Added.{added-as, added-piece, added-then}
 use Rattle.text.proofs.Blocks.{row-pieces}
 use Rattle.text.proofs.lines.put_row.Statement.{statement}
@@ -82,8 +84,8 @@ returns c =
     let h : 4 ≤ length (s .args .block .now) = omega (arith, s .pre) in
     added-as (row-pieces (s .args .block .now) _ _ _ _ h (path .path-of .ensures))
     (added-then
-    (added-then
-    (added-then
+    (added-then {t = bytesOf "< " ++ s .args .source .now ++ bytesOf "\n"}
+    (added-then {t = bytesOf "= " ++ s .args .name .now ++ bytesOf "\n"}
     (added-then
     (added-then
     (added-then (added-then (added-piece (marked .append-bytes .ensures)) (numbered .put-columns .ensures)) (counted .put-column .ensures))

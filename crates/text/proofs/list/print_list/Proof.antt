@@ -1,5 +1,9 @@
 -- `text::list::print_list` meets its contract: its five parts, one behind the other, are the list. Assumes nothing.
 use borrow.Author.Needs.{needs}
+use Rattle.as5506.specs.Lists.{each}
+use Rattle.as5506.specs.Layout.{rowsBack, groupRowsBack, diagsBack}
+use Rattle.as5506.specs.Text.{rowText, diagText}
+use Rattle.lent.specs.Lent.{namesIn, wiringIn}
 use Rattle.text.proofs.Added.{added-as, added-then, added-printed}
 use Rattle.text.proofs.Blocks.{list-pieces}
 use Rattle.text.proofs.list.print_list.Statement.{statement}
@@ -30,10 +34,17 @@ returns c =
     let diags = groupDiags .before .before .before .before in
     let group = diags .before .before .before .before in
     let traced = group .before .before .before .before in
+    let s = traced .before .before .before .before .before .before .before .before .before .before .before .before in
+    let a = s .args in
+    let m = wiringIn (a .bytes .now) (a .n .now) (a .c .now) (a .x .now) in
+    let ds = diagsBack (a .diagnostic-count) (a .diagnostics .now) in
+    let gs = diagsBack (a .group-diagnostic-count) (a .group-diagnostics .now) in
     added-printed
-    (added-as (list-pieces _ _ _ _ _ _ _ _ _ _ _)
+    (added-as (list-pieces (a .bytes .now) (a .n .now) (a .c .now) (a .x .now) (a .traced .now) (a .group .now) (a .names .now) (a .traced-count) (a .group-count) ds gs)
     (added-then
-    (added-then (added-then (added-then (traced .put-traced .ensures) (group .put-group .ensures)) (diags .put-diagnostics .ensures)) (groupDiags .put-diagnostics2 .ensures))
+    (added-then {t = each (diagText m) gs}
+    (added-then {t = each (diagText m) ds}
+    (added-then {s = each rowText (rowsBack (namesIn (a .bytes .now) (a .n .now)) (a .traced-count) (a .traced .now))} {t = each rowText (groupRowsBack (a .group-count) (a .group .now) (a .names .now))} (traced .put-traced .ensures) (group .put-group .ensures)) (diags .put-diagnostics .ensures)) (groupDiags .put-diagnostics2 .ensures))
     (counts .put-counts .ensures)))
 
 pub print-list-spec : {M : Type 1} → statement M

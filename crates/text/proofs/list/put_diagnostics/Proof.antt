@@ -1,11 +1,11 @@
 -- `text::list::put_diagnostics` meets its contract: the loop's invariant is `Printing`: the diagnostics from i on are still to be printed. Assumes nothing.
 use mathlib.Core.Path.{sym, ap}
-use Prim.Native.Nat.{ℕ, _-_, _*_}
+use Prim.Native.Nat.{ℕ, _+_, _-_, _*_}
 use native.Mathlib.Nat.{sub-zero}
 use native.Mathlib.Omega.{arith}
 use borrow.Author.Needs.{needs}
-use lib.ListN.{drop}
-use Rattle.as5506.specs.Layout.{diagNumbers, diagsBack}
+use lib.ListN.{take, drop}
+use Rattle.as5506.specs.Layout.{diagNumbers, diagBack, diagsBack}
 use Rattle.as5506.specs.Lists.{each}
 use Rattle.as5506.specs.Text.{diagText}
 use Rattle.lent.specs.Lent.{wiringIn}
@@ -63,8 +63,10 @@ loop-again c =
     let inside = c .before .before .before .before .before in
     let l = inside .before in
     let s = l .before .before .before .before .before .before .before in
-    printing-turn (l .loop .inv)
-    (diag-text-next (s .args .bytes .now) (s .args .n .now) (s .args .c .now) (s .args .x .now) (s .args .list .now) (s .args .count) (l .loop .i) (inside .loop-test .taken))
+    let a = s .args in
+    let i : ℕ = l .loop .i in
+    printing-turn {s = diagText (wiringIn (a .bytes .now) (a .n .now) (a .c .now) (a .x .now)) (diagBack (take (i * diagNumbers + diagNumbers - i * diagNumbers) (drop (i * diagNumbers) (a .list .now))))} (l .loop .inv)
+    (diag-text-next (a .bytes .now) (a .n .now) (a .c .now) (a .x .now) (a .list .now) (a .count) i (inside .loop-test .taken))
     (c .before .before .put-diagnostic .ensures)
 
 same-length : tie.Need-same-length Inv-loop μ-loop
