@@ -343,8 +343,8 @@ def text_bytes(connection_bytes):
     return sheet
 
 
-def full_table(letter):
-    """One group connection, and as many rows of this letter as conlist lends."""
+def full_table(letter, more=0):
+    """One group connection, and as many rows of this letter as conlist lends, or so many more."""
     sheet = group_features([2])
     add = {
         "N": lambda number: sheet.name("y%d" % number),
@@ -360,7 +360,7 @@ def full_table(letter):
         "R": lambda number: sheet.rename(0, 0, "y%d" % number, "p"),
     }[letter]
     rows, places = (sheet.names, 256) if letter == "N" else (sheet.rows[letter], 96)
-    while len(rows) < places:
+    while len(rows) < places + more:
         add(len(rows))
     return sheet
 
