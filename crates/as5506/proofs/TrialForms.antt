@@ -225,16 +225,17 @@ pub data Trial : Type 0 where
   -- tables, and their refusal or none; the same of refusal 10 alone
   checks : Tables → Option Refusal → Trial
   checks10 : Tables → Option Refusal → Trial
-  -- a question and a model, and what is found
+  -- a question and an accepted model, and what is found
   resolves : List String → Resolved → Trial
-  -- tables, the names of the asking package and of the group: the features and the number of visits
+  -- an accepted model, the names of the asking package and of the group: the features and the number of visits
   expands : Tables → ℕ → ℕ → List String → ℕ → Trial
   -- room for features and an expansion: 13, 11 or neither, and what is left of it
   stops : ℕ → Expansion → Option Refusal → ℕ → ℕ → Trial
   -- tables, the names of the asking package and of the group, the inverse flag: the refusal or none, and the output of features afterwards
   expandsInto : Tables → ℕ → ℕ → Bool → Option Refusal → List ℕ → Trial
+  -- an accepted model, a component and a name: the children that are found
   children : Tables → ℕ → String → List ℕ → Trial
-  -- the rows of at most 20 steps are the rows without a limit; they are not
+  -- of an accepted model the rows of at most 20 steps are the rows without a limit; they are not
   whole : Tables → Trial
   cut : Tables → Trial
   -- tables, the refusal of a listing or none, its outputs afterwards: rows and diagnostics; of the group listing also composed names; of both, all five
@@ -259,8 +260,8 @@ Means (reads sheet r used m) =
     (refusalOf (readSheet (lentOf m) sheet) ≡ r) × (counts (readSheet (lentOf m) sheet) ≡ used) × (lentAfter m (readSheet (lentOf m) sheet) ≡ lentTables m)
 Means (checks m r) = firstOf (faults m) ≡ r
 Means (checks10 m r) = firstOf (faults10 m) ≡ r
-Means (resolves ls r) = resolve (model ls) (askedFrom (question ls)) (askedFor (question ls)) ≡ r
-Means (expands m g u fs visits) = (featureTexts m (expand m g u) ≡ map bytesOf fs) × (expand m g u .visits ≡ visits)
+Means (resolves ls r) = T (accepted (model ls)) × (resolve (model ls) (askedFrom (question ls)) (askedFor (question ls)) ≡ r)
+Means (expands m g u fs visits) = T (accepted m) × (featureTexts m (expand m g u) ≡ map bytesOf fs) × (expand m g u .visits ≡ visits)
 Means (stops room x r fs visits) =
     (refusalOf (expansionWithin room x) ≡ r)
     × (featureCount (expansionWithin room x) ≡ fs)
@@ -268,7 +269,7 @@ Means (stops room x r fs visits) =
 Means (expandsInto m g u inverse r out) =
     (refusalOf (expandAnswer (length out / featureNumbers) m g u inverse) ≡ r)
     × (output (length out) expansionNumbers (expandAnswer (length out / featureNumbers) m g u inverse) ≡ out)
-Means (children m c s l) = foundChildren m c (bytesOf s) ≡ l
+Means (children m c s l) = T (accepted m) × (foundChildren m c (bytesOf s) ≡ l)
 Means (whole m) = T (accepted m) × (rows stepLimit m ≡ unlimited m)
 Means (cut m) = T (accepted m) × (rows stepLimit m ≡ unlimited m → ⊥)
 Means (traces m r rs ds) =
@@ -453,15 +454,15 @@ passes (reads sheet r used m) =
     && (sameBytes (counts (readSheet (lentOf m) sheet)) used && sameLists (lentAfter m (readSheet (lentOf m) sheet)) (lentTables m))
 passes (checks m r) = sameRefusal (firstOf (faults m)) r
 passes (checks10 m r) = sameRefusal (firstOf (faults10 m)) r
-passes (resolves ls r) = sameFound (resolve (model ls) (askedFrom (question ls)) (askedFor (question ls))) r
-passes (expands m g u fs visits) = sameLists (featureTexts m (expand m g u)) (map bytesOf fs) && eqb (expand m g u .visits) visits
+passes (resolves ls r) = accepted (model ls) && sameFound (resolve (model ls) (askedFrom (question ls)) (askedFor (question ls))) r
+passes (expands m g u fs visits) = accepted m && (sameLists (featureTexts m (expand m g u)) (map bytesOf fs) && eqb (expand m g u .visits) visits)
 passes (stops room x r fs visits) =
     sameRefusal (refusalOf (expansionWithin room x)) r
     && (eqb (featureCount (expansionWithin room x)) fs && eqb (visitCount (expansionWithin room x)) visits)
 passes (expandsInto m g u inverse r out) =
     sameRefusal (refusalOf (expandAnswer (length out / featureNumbers) m g u inverse)) r
     && sameBytes (output (length out) expansionNumbers (expandAnswer (length out / featureNumbers) m g u inverse)) out
-passes (children m c s l) = sameBytes (foundChildren m c (bytesOf s)) l
+passes (children m c s l) = accepted m && sameBytes (foundChildren m c (bytesOf s)) l
 passes (whole m) = accepted m && sameRows (rows stepLimit m) (unlimited m)
 passes (cut m) = accepted m && not (sameRows (rows stepLimit m) (unlimited m))
 passes (traces m r rs ds) =
@@ -494,12 +495,15 @@ meant (reads sheet r used m) t = (
 )
 meant (checks m r) t = same-refusal (firstOf (faults m)) r t
 meant (checks10 m r) t = same-refusal (firstOf (faults10 m)) r t
-meant (resolves ls r) t = same-found (resolve (model ls) (askedFrom (question ls)) (askedFor (question ls))) r t
-meant (expands m g u fs visits) t = (same-lists _ (map bytesOf fs) (search and-left), eqb→eq _ visits (search (and-left, and-right)))
+meant (resolves ls r) t = (
+  and-left (accepted (model ls)) _ t,
+  same-found (resolve (model ls) (askedFrom (question ls)) (askedFor (question ls))) r (and-right (accepted (model ls)) _ t),
+)
+meant (expands m g u fs visits) t = (and-left (accepted m) _ t, same-lists _ (map bytesOf fs) (search (and-left, and-right)), eqb→eq _ visits (search (and-left, and-right)))
 meant (stops room x r fs visits) t =
     (same-refusal _ r (search and-left), eqb→eq _ fs (search (and-left, and-right)), eqb→eq _ visits (search (and-left, and-right)))
 meant (expandsInto m g u inverse r out) t = (same-refusal _ r (search and-left), same-bytes _ out (search and-right))
-meant (children m c s l) t = same-bytes (foundChildren m c (bytesOf s)) l t
+meant (children m c s l) t = (and-left (accepted m) _ t, same-bytes (foundChildren m c (bytesOf s)) l (and-right (accepted m) _ t))
 meant (whole m) t = (and-left (accepted m) _ t, same-rows (rows stepLimit m) (unlimited m) (and-right (accepted m) _ t))
 meant (cut m) t = (
   and-left (accepted m) (not (sameRows (rows stepLimit m) (unlimited m))) t,

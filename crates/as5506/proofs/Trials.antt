@@ -1,9 +1,11 @@
 -- THE TABLE OF TRIALS of document 01: the starred ones and its three traps, then further ones, so that each rule is touched; ONE list, and one proof
 -- that antt computes. What a trial is stands in TrialForms, the further ones in TrialsRead, TrialsFind and TrialsList. Assumes nothing.
 use mathlib.Core.Bool.{true, false}
+use mathlib.Core.Path.{_≡_, refl}
 use mathlib.Core.List.{List, [], _∷_, _++_, map}
 use Prim.Native.Nat.{ℕ, zero, suc, _+_}
 use lib.Dec.{T}
+use lib.ListN.{length}
 use Rattle.as5506.specs.Lists.{each, bytesOf, upTo, padded}
 use Rattle.as5506.specs.Tables.{Tables, missing, rowsNaming, nameIn}
 use Rattle.as5506.specs.Names.{goodName, folded, key, sameFolded, baseName, isOneToOne}
@@ -86,7 +88,7 @@ extending k (suc n) = (0 ∷ k ∷ 0 ∷ missing ∷ suc k ∷ missing ∷ missi
 abbrev extensions : ℕ → Tables
 extensions n =
     made (map bytesOf ("p" ∷ "f" ∷ []) ++ map (λ i. (97 + i) ∷ []) (upTo (suc n)))
-    [] [] (0 ∷ []) (extending 2 n) ((1 ∷ n ∷ 1 ∷ 0 ∷ missing ∷ missing ∷ missing ∷ missing ∷ []) ∷ [])
+    (comp 0 missing missing ∷ []) [] (0 ∷ []) (extending 2 n) ((1 ∷ n ∷ 1 ∷ 0 ∷ missing ∷ missing ∷ missing ∷ missing ∷ []) ∷ [])
 
 -- ---- the sheets
 
@@ -193,6 +195,10 @@ further =
 
 abbrev pub trialTable : List Trial
 trialTable = starred ++ traps ++ further
+
+-- how many there are
+trials-counted : length trialTable ≡ 530
+trials-counted = refl
 
 -- ---- THE PROOF
 
