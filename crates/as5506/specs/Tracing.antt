@@ -31,14 +31,14 @@ foundChildren m c w = orElements (has bracket w) m c w (keep (isNamed m w) (chil
 
 -- ---- steps
 
--- a step over connection `conn` leads to (child, feat)
+-- "It leads to (child, source feature)", over connection `conn`
 pub record Step : Type 0 where
   pub conn : ℕ
   pub child : ℕ
   pub feat : ℕ
 
 -- "a connection of that component with a source subcomponent, no destination subcomponent, its destination feature byte-equal"; "Towards the
--- destination, its mirror image": connection x, from the feature of name w towards side s
+-- destination, its mirror image"; "AS5506 names ignore case, tracing doesn't": connection x, from the feature of name w towards side s
 unfoldable pub leads : Tables → Side → List ℕ → ℕ → Bool
 leads m s w x =
     present (xSub m s x) && (not (present (xSub m (other s) x)) && (present (xFeat m (other s) x) && sameBytes (nameOf m (xFeat m (other s) x)) w))
@@ -46,7 +46,7 @@ leads m s w x =
 abbrev pub stepTo : Tables → Side → ℕ → ℕ → Step
 stepTo m s x i = record { conn = x; child = i; feat = xFeat m s x }
 
--- "and one found child. It leads to (child, source feature)": each found child is a step
+-- "and one found child": each found child is a step
 unfoldable pub stepsOver : Tables → Side → ℕ → ℕ → List Step
 stepsOver m s c x = map (stepTo m s x) (foundChildren m c (nameOf m (xSub m s x)))
 
@@ -145,7 +145,7 @@ abbrev pub pairsEdge : Bool → (ℕ → Pair) → List ℕ → List Pair
 pairsEdge true g l = []
 pairsEdge false g l = map g l
 
--- the pairs by what the row is
+-- the pairs by what the row is. "Neither: nothing"
 unfoldable pub pairsBy : Tables → ℕ → Shape → List Pair
 pairsBy m x faulty = []
 pairsBy m x across = pairsAcross (oneToOne m (xOwner m x)) (pairAcross m x) (named m source x) (named m destination x)
@@ -188,7 +188,7 @@ reach m s k (owner c f) = stop c f ∷ []
 unfoldable pub pairRows : Tables → ℕ → ℕ → Pair → List Traced
 pairRows m k x p = each (λ s. map (rowOf m x s) (reach m destination k (p .to))) (reach m source k (p .from))
 
--- the rows of X row x
+-- "`compute_semantic_connections`, per X row": the rows of X row x
 unfoldable pub rowsAt : Tables → ℕ → ℕ → List Traced
 rowsAt m k x = each (pairRows m k x) (pairs m x)
 
