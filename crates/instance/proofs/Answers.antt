@@ -33,6 +33,7 @@ use Rattle.tables.proofs.Facts.{facts}
 use Rattle.trace.specs.declared.Wrote.{Wrote as Blocks}
 use Rattle.trace.specs.declared.Wrote.the-variants.{Count, Full}
 use Rattle.trace.specs.Writing.{Written}
+use Rattle.trace.proofs.Writing.{overs, counts, whole-all, holds-all}
 use Rattle.trace.specs.Ready.{Traceable}
 use Rattle.instance.specs.declared.Listed.{Listed}
 use Rattle.instance.specs.declared.Listed.the-variants.{Rows, Refused}
@@ -81,16 +82,19 @@ module _ (room : Room) (l : TracedList) where
 
 module _ {A : Type 0} (w : ℕ) (block : A → List ℕ) (l : List A) (out : List ℕ) (q : Blocks) (out′ : List ℕ) (v : Written w block l out 0 q out′) where
   over : q ≡ Full → length out / w < length l
-  unfolding Written
-  over e = subst (λ (n : ℕ). length out / w < n) (zero-add (length l)) (subst (λ (t : Blocks). Written w block l out 0 t out′) e v)
+  over e = subst (λ (n : ℕ). length out / w < n) (zero-add (length l)) (overs w block l out 0 out′ (subst (λ (t : Blocks). Written w block l out 0 t out′) e v))
 
   fit : (k : ℕ) → q ≡ Count k → (k ≡ length l) × (length l ≤ length out / w) × (length (each block l) ≤ length out) × (out′ ≡ sets out 0 (each block l))
-  unfolding Written
   fit k e =
       let u = subst (λ (t : Blocks). Written w block l out 0 t out′) e v in
-      let number : k ≡ length l = u .0 ∙ zero-add (length l) in
-      let room : length l ≤ length out / w = subst (λ (n : ℕ). n ≤ length out / w) number (u .1) in
-      (number, room, rw (u .2) (le-trans (mul-le-mul-right w room) (div-mul-le-self (length out) w)), u .3 ∙ ap (λ (n : ℕ). sets out n (each block l)) (zero-mul w))
+      let c = counts w block l out 0 k out′ u in
+      let number : k ≡ length l = c .0 ∙ zero-add (length l) in
+      let room : length l ≤ length out / w = subst (λ (n : ℕ). n ≤ length out / w) number (c .1) in (
+        number,
+        room,
+        rw (whole-all w block l out 0 k out′ u) (le-trans (mul-le-mul-right w room) (div-mul-le-self (length out) w)),
+        holds-all w block l out 0 k out′ u ∙ ap (λ (n : ℕ). sets out n (each block l)) (zero-mul w),
+      )
 
 -- ---- the call before it clears: rows and diags are the outputs at entry
 

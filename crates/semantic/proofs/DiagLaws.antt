@@ -20,7 +20,7 @@ use Rattle.as5506.proofs.Scans.{span-next, span-done}
 use Rattle.trace.specs.declared.Wrote.{Wrote}
 use Rattle.trace.specs.declared.Wrote.the-variants.{Count, Full}
 use Rattle.trace.specs.Writing.{Written}
-use Rattle.trace.proofs.Writing.{Remains, remains-start, remains-turn, remains-full, remains-end, written-none, written-room, written-as}
+use Rattle.trace.proofs.Writing.{Remains, remains-start, remains-turn, remains-full, remains-end, written-all, written-none, written-room, written-as}
 use Rattle.lent.specs.Lent.{componentsIn}
 use Rattle.semantic.specs.Rows.{edgeOf}
 use Rattle.semantic.specs.Diagnostics.{Room, WrittenAfter, noChildCode, diagsFrom}
@@ -30,13 +30,14 @@ use Rattle.semantic.proofs.Naming.{pattern-is}
 
 pub diag-written : (code conn one two : ℕ) (out : List ℕ) (count : ℕ) (out′ : List ℕ) → count < length out / diagNumbers → out′ ≡ sets out (count * diagNumbers) (code ∷ conn ∷ one ∷ two ∷ [])
     → Written diagNumbers diagBlock (diag code conn one two ∷ []) out count (Count (count + 1)) out′
-unfolding Written diagBlock
-diag-written code conn one two out count out′ h e = (refl, omega arith, refl, e)
+unfolding diagBlock
+diag-written code conn one two out count out′ h e =
+    written-all diagNumbers diagBlock (diag code conn one two ∷ []) out count (count + 1) refl (omega arith) out′ refl e
 
 none-after : (out : List ℕ) (q : Wrote) → Room out q → WrittenAfter [] out q q out
 unfolding Room WrittenAfter
 none-after out (Count k) h = written-none diagNumbers diagBlock out k h
-none-after out Full h = refl
+none-after out Full h = (refl, refl)
 
 module _ (test : Bool) (d : Diag) (out : List ℕ) (q : Wrote) where
   pub if-not : test ≡ false → Room out q → WrittenAfter (when test d) out q q out
@@ -46,9 +47,9 @@ module _ (test : Bool) (d : Diag) (out : List ℕ) (q : Wrote) where
   unfolding WrittenAfter
   if-count k r out′ e f w = rw (e, f) w
 
-  pub if-full : (out′ : List ℕ) → q ≡ Full → WrittenAfter (when test d) out q Full out′
+  pub if-full : q ≡ Full → WrittenAfter (when test d) out q Full out
   unfolding WrittenAfter
-  if-full out′ f = rw f refl
+  if-full f = rw f (refl, refl)
 
 -- ---- one after the other
 
@@ -75,9 +76,9 @@ after-append : (a b : List Diag) (out : List ℕ) (count : ℕ) (q : Wrote) (out
     → Written diagNumbers diagBlock a out count q out₁ → WrittenAfter b out₁ q r out₂ → Written diagNumbers diagBlock (a ++ b) out count r out₂
 unfolding WrittenAfter
 after-append a b out count Full out₁ r out₂ h w v =
-    rw v (remains-full diagNumbers diagBlock (a ++ b) out count out count (a ++ b) (remains-start diagNumbers diagBlock (a ++ b) out count h) a b refl Full out₁ w refl out₂)
+    rw (v .0, v .1) (remains-full diagNumbers diagBlock (a ++ b) out count out count (a ++ b) (remains-start diagNumbers diagBlock (a ++ b) out count h) a b refl Full out₁ w refl)
 after-append a b out count (Count k) out₁ Full out₂ h w v =
-    remains-full diagNumbers diagBlock (a ++ b) out count out₁ k b (after-first a b out count k out₁ h w) b [] (sym (append-nil b)) Full out₂ v refl out₂
+    remains-full diagNumbers diagBlock (a ++ b) out count out₁ k b (after-first a b out count k out₁ h w) b [] (sym (append-nil b)) Full out₂ v refl
 after-append a b out count (Count k) out₁ (Count n) out₂ h w v =
     remains-end diagNumbers diagBlock (a ++ b) out count out₂ n []
     (remains-turn diagNumbers diagBlock (a ++ b) out count out₁ k b (after-first a b out count k out₁ h w) b [] (sym (append-nil b)) (Count n) out₂ v n refl) refl
@@ -172,5 +173,5 @@ module _ (m : Tables) (out₀ out : List ℕ) (done i : ℕ) (r : Remains diagNu
     pub diags-turn : (n : ℕ) → q ≡ Count n → Remains diagNumbers diagBlock (diagsFrom m 0) out₀ 0 out′ n (diagsFrom m (i + 1))
     diags-turn = remains-turn diagNumbers diagBlock _ out₀ 0 out done _ r _ _ (diags-next m i h) q out′ w
 
-    pub diags-full : q ≡ Full → (o : List ℕ) → Written diagNumbers diagBlock (tracedDiags m) out₀ 0 Full o
-    diags-full e o = written-as diagNumbers diagBlock _ _ out₀ 0 Full o (sym (diags-from-start m)) (remains-full diagNumbers diagBlock _ out₀ 0 out done _ r _ _ (diags-next m i h) q out′ w e o)
+    pub diags-full : q ≡ Full → Written diagNumbers diagBlock (tracedDiags m) out₀ 0 Full out′
+    diags-full e = written-as diagNumbers diagBlock _ _ out₀ 0 Full out′ (sym (diags-from-start m)) (remains-full diagNumbers diagBlock _ out₀ 0 out done _ r _ _ (diags-next m i h) q out′ w e)

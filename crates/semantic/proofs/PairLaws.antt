@@ -123,7 +123,7 @@ module _ (m : Tables) (x : ℕ) where
       pub beside-turn : (n : ℕ) → q ≡ Count n → Remains rowNumbers (tracedBlock m) (rowsBeside m x s b (namedFrom m s x 0)) out₀ count out′ n (rowsBeside m x s b (namedFrom m s x (i + 1)))
       beside-turn = remains-turn rowNumbers (tracedBlock m) _ out₀ count out done _ r _ _ (beside-next m x s b _ _ i (after-at _ _ p i e h)) q out′ w
 
-      pub beside-full : q ≡ Full → (o : List ℕ) → Written rowNumbers (tracedBlock m) (rowsBeside m x s b (namedFrom m s x 0)) out₀ count Full o
+      pub beside-full : q ≡ Full → Written rowNumbers (tracedBlock m) (rowsBeside m x s b (namedFrom m s x 0)) out₀ count Full out′
       beside-full = remains-full rowNumbers (tracedBlock m) _ out₀ count out done _ r _ _ (beside-next m x s b _ _ i (after-at _ _ p i e h)) q out′ w
 
   module _ (out₀ : List ℕ) (count : ℕ) (out : List ℕ) (done j : ℕ)
@@ -137,7 +137,7 @@ module _ (m : Tables) (x : ℕ) where
       pub all-turn : (n : ℕ) → q ≡ Count n → Remains rowNumbers (tracedBlock m) (rowsAll m x (namedFrom m source x 0)) out₀ count out′ n (rowsAll m x (namedFrom m source x (i + 1)))
       all-turn = remains-turn rowNumbers (tracedBlock m) _ out₀ count out done _ r _ _ (all-next m x _ _ i (after-at _ _ p i e h)) q out′ w
 
-      pub all-full : q ≡ Full → (o : List ℕ) → Written rowNumbers (tracedBlock m) (rowsAll m x (namedFrom m source x 0)) out₀ count Full o
+      pub all-full : q ≡ Full → Written rowNumbers (tracedBlock m) (rowsAll m x (namedFrom m source x 0)) out₀ count Full out′
       all-full = remains-full rowNumbers (tracedBlock m) _ out₀ count out done _ r _ _ (all-next m x _ _ i (after-at _ _ p i e h)) q out′ w
 
   -- pair by pair: p is the next source child, p′ the next destination child
@@ -159,7 +159,7 @@ module _ (m : Tables) (x : ℕ) where
         pub zip-turn : (n : ℕ) → q ≡ Count n → Remains rowNumbers (tracedBlock m) zipped out₀ count out′ n (rowsZip m x (namedFrom m source x (a + 1)) (namedFrom m destination x (b + 1)))
         zip-turn = remains-turn rowNumbers (tracedBlock m) _ out₀ count out done _ r _ _ (zip-next m x _ _ _ _ a b (after-at _ _ p a e h) (after-at _ _ p′ b e′ h′)) q out′ w
 
-        pub zip-full : q ≡ Full → (o : List ℕ) → Written rowNumbers (tracedBlock m) zipped out₀ count Full o
+        pub zip-full : q ≡ Full → Written rowNumbers (tracedBlock m) zipped out₀ count Full out′
         zip-full = remains-full rowNumbers (tracedBlock m) _ out₀ count out done _ r _ _ (zip-next m x _ _ _ _ a b (after-at _ _ p a e h) (after-at _ _ p′ b e′ h′)) q out′ w
 
 -- ---- the pairs of an X row
@@ -248,6 +248,6 @@ module _ (m : Tables) (out₀ out : List ℕ) (done i : ℕ) (r : Remains rowNum
     pub rows-turn : (n : ℕ) → q ≡ Count n → Remains rowNumbers (tracedBlock m) (rowsFrom m 0) out₀ 0 out′ n (rowsFrom m (i + 1))
     rows-turn = remains-turn rowNumbers (tracedBlock m) _ out₀ 0 out done _ r _ _ (rows-next m i h) q out′ w
 
-    pub rows-full : q ≡ Full → (o : List ℕ) → Written rowNumbers (tracedBlock m) (traced stepLimit m) out₀ 0 Full o
-    rows-full e o =
-        written-as rowNumbers (tracedBlock m) _ _ out₀ 0 Full o (sym (rows-from-start m)) (remains-full rowNumbers (tracedBlock m) _ out₀ 0 out done _ r _ _ (rows-next m i h) q out′ w e o)
+    pub rows-full : q ≡ Full → Written rowNumbers (tracedBlock m) (traced stepLimit m) out₀ 0 Full out′
+    rows-full e =
+        written-as rowNumbers (tracedBlock m) _ _ out₀ 0 Full out′ (sym (rows-from-start m)) (remains-full rowNumbers (tracedBlock m) _ out₀ 0 out done _ r _ _ (rows-next m i h) q out′ w e)

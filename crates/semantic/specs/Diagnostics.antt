@@ -18,10 +18,10 @@ unfoldable pub Room : List ℕ → Wrote → Type 0
 Room out (Count k) = k ≤ length out / diagNumbers
 Room out Full = Unit {0}
 
--- the diagnostics l are written behind those that were counted before; where there was no room for those, there is none
+-- the diagnostics l are written behind those that were counted before; where there was no room for those, there is none, and nothing is written
 unfoldable pub WrittenAfter : List Diag → List ℕ → Wrote → Wrote → List ℕ → Type 0
 WrittenAfter l out (Count k) r out′ = Written diagNumbers diagBlock l out k r out′
-WrittenAfter l out Full r out′ = r ≡ Full
+WrittenAfter l out Full r out′ = (r ≡ Full) × (out′ ≡ out)
 
 -- "diagnostic 2 for no source child, 3 for no destination child"
 abbrev pub noChildCode : TheSide → ℕ

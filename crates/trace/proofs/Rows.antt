@@ -22,7 +22,7 @@ use Rattle.trace.specs.Ends.{chainPlaces, theEnd, behind, rowAlong, rows
 use Rattle.trace.specs.Writing.{Written}
 use Rattle.as5506.proofs.Laws.{each-append, padded-length, each-one}
 use Rattle.lent.specs.Lent.{connectionsIn, wiringIn}
-use Rattle.trace.proofs.Writing.{Remains, remains-start, remains-turn, remains-full, remains-end}
+use Rattle.trace.proofs.Writing.{Remains, written-all, remains-start, remains-turn, remains-full, remains-end}
 use Rattle.trace.proofs.Chains.{via, chains-on}
 
 -- ---- one row
@@ -40,16 +40,13 @@ module _ (m : Tables) (x : ℕ) (s d : Chain) (kind name len : ℕ) (places : Li
   pub row-written : (out : List ℕ) (count : ℕ) (out₁ out₂ : List ℕ) → len ≤ pathPlaces → count < length out / rowNumbers
       → out₁ ≡ sets out (count * rowNumbers) (head x kind (s .comp) (d .comp) name (s .feat) (d .feat) len) → out₂ ≡ sets out₁ (count * rowNumbers + 8) places
       → Written rowNumbers (tracedBlock m) (rowAlong m x s d ∷ []) out count (Count (count + 1)) out₂
-  unfolding Written
   row-written out count out₁ out₂ h g e f =
       let b : each (tracedBlock m) (rowAlong m x s d ∷ []) ≡ head x kind (s .comp) (d .comp) name (s .feat) (d .feat) len ++ places = append-nil (tracedBlock m (rowAlong m x s d)) ∙ sym block-is in
-      let z : length places ≡ pathPlaces = ap length p ∙ padded-length pathPlaces (appendNew (s .path) (d .path)) (omega (arith, l)) in (
-        refl,
-        omega arith,
-        ap length b ∙ omega (arith, z),
-        f ∙ ap (λ (o : List ℕ). sets o (count * rowNumbers + 8) places) e
-            ∙ sym (sets-append (head x kind (s .comp) (d .comp) name (s .feat) (d .feat) len) places out (count * rowNumbers)) ∙ ap (sets out (count * rowNumbers)) (sym b),
-      )
+      let z : length places ≡ pathPlaces = ap length p ∙ padded-length pathPlaces (appendNew (s .path) (d .path)) (omega (arith, l)) in
+      written-all rowNumbers (tracedBlock m) (rowAlong m x s d ∷ []) out count (count + 1) refl (omega arith) out₂
+      (ap length b ∙ omega (arith, z))
+      (f ∙ ap (λ (o : List ℕ). sets o (count * rowNumbers + 8) places) e
+      ∙ sym (sets-append (head x kind (s .comp) (d .comp) name (s .feat) (d .feat) len) places out (count * rowNumbers)) ∙ ap (sets out (count * rowNumbers)) (sym b))
 
 pub row-same : (bytes n c x : List ℕ) (v : ℕ) (s d : Chain) (out : List ℕ) (count : ℕ) (q : Wrote) (out′ : List ℕ)
     → Written rowNumbers (tracedBlock (connectionsIn [] [] x)) (rowAlong (connectionsIn [] [] x) v s d ∷ []) out count q out′
@@ -132,7 +129,7 @@ module _ (m : Tables) (s : TheSide) (x k : ℕ) (o : Chain) (c f left : ℕ) whe
     pub trace-turn : (n : ℕ) → q ≡ Count n → Remains rowNumbers (tracedBlock m) (rowsBehind m s x k o (take len path) (chains m s left c f)) out₀ count out′ n (leftRows m s x k o (take len path) left l)
     trace-turn = remains-turn rowNumbers (tracedBlock m) _ out₀ count out done _ r _ _ split q out′ w
 
-    pub trace-full : q ≡ Full → (o′ : List ℕ) → Written rowNumbers (tracedBlock m) (rowsBehind m s x k o (take len path) (chains m s left c f)) out₀ count Full o′
+    pub trace-full : q ≡ Full → Written rowNumbers (tracedBlock m) (rowsBehind m s x k o (take len path) (chains m s left c f)) out₀ count Full out′
     trace-full = remains-full rowNumbers (tracedBlock m) _ out₀ count out done _ r _ _ split q out′ w
 
 -- ---- the tracer ends: the source's steps, then the destination's

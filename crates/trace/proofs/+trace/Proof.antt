@@ -197,7 +197,7 @@ trace-returns-4 t c =
     let b = begins-at (model t s) _ _ _ _ _ (c .before .before .before .before .before .before .before .before .before .before .before .before .before .before .first-step .ensures) _ _ _ (c .before .before .before .before .before .before .before .before .before .before .before .before .enum-told4 .given .1) in
     let e = step-at (model t s) _ _ _ _ _ _ (c .before .before .before .before .before .before .before .before .before .next-step .ensures .0) _ _ _ (c .before .before .before .before .before .before .before .row .given .1) in
     trace-full (model t s) _ _ _ _ _ _ _ (s .args .here .path) (s .args .here .len) (s .args .out .now) (s .args .count) (g .out) (g .done) _ _ _ (g .inv) e
-    (omega (arith, s .pre .1 .1 .places, fit-room _ _ _ _ _ (s .pre .1 .1 .steps) (b .0))) (c .before .before .before .before .trace2 .result) _ (c .before .before .before .before .trace2 .ensures) (c .enum-told6 .given .1) _
+    (omega (arith, s .pre .1 .1 .places, fit-room _ _ _ _ _ (s .pre .1 .1 .steps) (b .0))) (c .before .before .before .before .trace2 .result) _ (c .before .before .before .before .trace2 .ensures) (c .enum-told6 .given .1)
 
 trace-enum-known-r : (t : ℕ) → trace-lts.Need-enum-known-r (claims t) (trace-at t) trace.Post trace-Inv-loop trace-μ-loop
 trace-enum-known-r t c = search needs

@@ -1,14 +1,12 @@
 -- `trace::put_row` meets its contract. The two blocks that are written are the row's. Assumes nothing.
 use Rattle.trace.proofs.Rows.{row-written}
-use Rattle.trace.specs.Writing.{Written}
-use native.Mathlib.Omega.{arith}
+use Rattle.trace.proofs.Writing.{written-over}
 use borrow.Author.Needs.{needs}
 use Rattle.trace.proofs.put_row.Statement.{statement}
 use Rattle.trace.proofs.put_row.Tie as tie
 
 returns : tie.Need-returns
-unfolding Written
-returns c = omega arith
+returns c = written-over _ _ _ _ _ (c .if1 .taken)
 
 join-requires : tie.Need-join-requires
 join-requires c κs = let s = c .before .before .before .before .before in (s .pre .0 .taken, s .pre .1 .taken)

@@ -41,7 +41,7 @@ same-length c = c .before .before .before .before .diagnose-connection .kept .1 
 returns : tie.Need-returns Inv-loop μ-loop
 returns c =
     let m = wiring (c .before .before .before .before .before .before .before .before .before .before .before .before .before) in
-    diags-full m _ _ _ _ (c .before .before .before .before .before .before .before .loop .inv .1) (omega arith) (c .before .before .before .before .diagnose-connection .result) _ (c .before .before .before .before .diagnose-connection .ensures) (c .enum-told .given .1) _
+    diags-full m _ _ _ _ (c .before .before .before .before .before .before .before .loop .inv .1) (omega arith) (c .before .before .before .before .diagnose-connection .result) _ (c .before .before .before .before .diagnose-connection .ensures) (c .enum-told .given .1)
 
 enum-known-r : tie.Need-enum-known-r Inv-loop μ-loop
 enum-known-r c = search needs

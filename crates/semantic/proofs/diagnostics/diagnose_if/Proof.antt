@@ -27,7 +27,7 @@ returns-2 c =
     if-count (s .args .test) _ _ (s .args .earlier) _ _ _ (not-false _ (c .before .before .before .before .before .before .before .if1 .left)) (c .before .before .before .before .before .earlier .given .1) (c .before .before .put-diagnostic .ensures)
 
 returns-3 : tie.Need-returns-3
-returns-3 c = let s = c .before .before .before .before in if-full (s .args .test) _ _ (s .args .earlier) _ (c .enum-told .given .1)
+returns-3 c = let s = c .before .before .before .before in if-full (s .args .test) _ _ (s .args .earlier) (c .enum-told .given .1)
 
 pub diagnose-if-spec : {M : Type 1} → statement M
 diagnose-if-spec =

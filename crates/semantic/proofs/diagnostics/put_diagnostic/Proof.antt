@@ -1,14 +1,12 @@
 -- `semantic::diagnostics::put_diagnostic` meets its contract. The block that is written is the diagnostic's. Assumes nothing.
 use Rattle.semantic.proofs.DiagLaws.{diag-written}
-use Rattle.trace.specs.Writing.{Written}
-use native.Mathlib.Omega.{arith}
+use Rattle.trace.proofs.Writing.{written-over}
 use borrow.Author.Needs.{needs}
 use Rattle.semantic.proofs.diagnostics.put_diagnostic.Statement.{statement}
 use Rattle.semantic.proofs.diagnostics.put_diagnostic.Tie as tie
 
 returns : tie.Need-returns
-unfolding Written
-returns c = omega arith
+returns c = written-over _ _ _ _ _ (c .if1 .taken)
 
 mul-put-numbers : tie.Need-mul-put-numbers
 mul-put-numbers c = search needs

@@ -100,7 +100,7 @@ returns-3 c =
     let s = Start·returns-3 c in
     let a = s .args in
     let m = wiring s in
-    all-full m (a .i) _ _ _ _ _ (c .before .before .before .before .before .before .before .before .before .before .loop .inv) _ (c .before .before .before .before .before .before .before .before .before .next-named2 .ensures .0) _ (c .before .before .before .before .before .before .before .k .given .1) (c .before .before .before .before .trace-beside .result) _ (c .before .before .before .before .trace-beside .ensures) (c .enum-told4 .given .1) _
+    all-full m (a .i) _ _ _ _ _ (c .before .before .before .before .before .before .before .before .before .before .loop .inv) _ (c .before .before .before .before .before .before .before .before .before .next-named2 .ensures .0) _ (c .before .before .before .before .before .before .before .k .given .1) (c .before .before .before .before .trace-beside .result) _ (c .before .before .before .before .trace-beside .ensures) (c .enum-told4 .given .1)
 
 enum-known-r : tie.Need-enum-known-r Inv-loop μ-loop
 enum-known-r c = search needs

@@ -84,7 +84,7 @@ returns-2 c =
     let s = Start·returns-2 c in
     let a = s .args in
     let m = wiring s in
-    beside-full m (a .i) (sideOf (a .side)) (a .far) _ _ _ _ _ (c .before .before .before .before .before .before .before .before .before .before .loop .inv) _ (c .before .before .before .before .before .before .before .before .before .next-named .ensures .0) _ (c .before .before .before .before .before .before .before .k .given .1) (c .before .before .before .before .trace-on .result) _ (c .before .before .before .before .trace-on .ensures) (c .enum-told2 .given .1) _
+    beside-full m (a .i) (sideOf (a .side)) (a .far) _ _ _ _ _ (c .before .before .before .before .before .before .before .before .before .before .loop .inv) _ (c .before .before .before .before .before .before .before .before .before .next-named .ensures .0) _ (c .before .before .before .before .before .before .before .k .given .1) (c .before .before .before .before .trace-on .result) _ (c .before .before .before .before .trace-on .ensures) (c .enum-told2 .given .1)
 
 enum-known-r : tie.Need-enum-known-r Inv-loop μ-loop
 enum-known-r c = search needs

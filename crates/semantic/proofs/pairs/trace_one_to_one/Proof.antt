@@ -117,7 +117,7 @@ returns-3 c =
     let a = s .args in
     let m = wiring s in
     zip-full m (a .i) _ _ _ _ _ _ (At-loop·returns-3 c .loop .inv) _ (c .before .before .before .before .before .before .before .before .before .before .before .before .before .next-named .ensures .0) _ (c .before .before .before .before .before .before .before .before .before .before .before .a .given .1) _ (c .before .before .before .before .before .before .before .before .before .next-named2 .ensures .0) _ (c .before .before .before .before .before .before .before .b .given .1)
-    (c .before .before .before .before .trace-pair .result) _ (c .before .before .before .before .trace-pair .ensures) (c .enum-told3 .given .1) _
+    (c .before .before .before .before .trace-pair .result) _ (c .before .before .before .before .trace-pair .ensures) (c .enum-told3 .given .1)
 
 enum-known-r : tie.Need-enum-known-r Inv-loop μ-loop
 enum-known-r c = search needs
