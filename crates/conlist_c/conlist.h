@@ -17,6 +17,14 @@
 extern "C" {
 #endif
 
+/* A diagnostic: its code, its connection and two numbers. */
+struct conlist_diagnostic {
+    uint32_t code;
+    uint32_t connection;
+    uint32_t first;
+    uint32_t second;
+};
+
 /* The twelve tables, which most calls take first. */
 #define CONLIST_TABLES                                                                                                 \
     const uint8_t *bytes, size_t bytes_length, const uint32_t *n, size_t n_length, const uint32_t *c, size_t c_length, \
@@ -60,6 +68,25 @@ void conlist_list_connections(CONLIST_TABLES, uint32_t *rows, size_t rows_length
                               size_t diagnostics_length, uint32_t *group_rows, size_t group_rows_length, uint8_t *names,
                               size_t names_length, uint32_t *group_diagnostics, size_t group_diagnostics_length,
                               uint64_t told[5]);
+
+/* The same three with the diagnostics in records of the caller's, `out`. There is room for as many as there are records, and for no more than a quarter of
+   the `numbers`; beyond that the call refuses with 12. The numbers hold the diagnostics too. */
+void conlist_compute_semantic_connections_with_records(CONLIST_TABLES, uint32_t *rows, size_t rows_length,
+                                                       uint32_t *numbers, size_t numbers_length,
+                                                       struct conlist_diagnostic *out, size_t out_length,
+                                                       uint64_t told[3]);
+
+void conlist_expand_feature_group_connections_with_records(CONLIST_TABLES, uint32_t *rows, size_t rows_length,
+                                                           uint8_t *names, size_t names_length, uint32_t *numbers,
+                                                           size_t numbers_length, struct conlist_diagnostic *out,
+                                                           size_t out_length, uint64_t told[3]);
+
+void conlist_list_connections_with_records(CONLIST_TABLES, uint32_t *rows, size_t rows_length, uint32_t *numbers,
+                                           size_t numbers_length, struct conlist_diagnostic *out, size_t out_length,
+                                           uint32_t *group_rows, size_t group_rows_length, uint8_t *names,
+                                           size_t names_length, uint32_t *group_numbers, size_t group_numbers_length,
+                                           struct conlist_diagnostic *group_out, size_t group_out_length,
+                                           uint64_t told[5]);
 
 #undef CONLIST_TABLES
 

@@ -1,7 +1,6 @@
 /* Prints the connection list of a sheet on standard input, as conlist does; then reads the sheet into tables, and sees that the calls over tables
    agree with one another: the listings each by itself and both in one call, and diagnostics as numbers and as records. */
 #include "conlist.h"
-#include "diagnostics.h"
 #include <stdio.h>
 #include <stdlib.h>
 #include <string.h>
@@ -22,13 +21,41 @@ static uint32_t n[512], c[576], f[288], x[672], p[96], i[192], t[288], q[384], u
 static uint32_t rows[64 * 49], diagnostics[64 * 4], group_rows[64 * 49], group_diagnostics[64 * 4], features[64 * 14];
 static uint32_t both_rows[64 * 49], both_diagnostics[64 * 4], both_group_rows[64 * 49], both_group_diagnostics[64 * 4];
 static uint8_t names[4096], both_names[4096];
-static struct diagnostic records[64];
+static struct conlist_diagnostic records[64], group_records[64];
 
 static void expect(bool holds, const char *what) {
     if (!holds) {
         fprintf(stderr, "%s\n", what);
         exit(1);
     }
+}
+
+_Static_assert(sizeof(struct conlist_diagnostic) == 16, "a record is four numbers");
+
+/* Fills the outputs of the calls with records with what no call leaves. */
+static void spoil(void) {
+    memset(both_rows, 0xA5, sizeof both_rows);
+    memset(both_diagnostics, 0xA5, sizeof both_diagnostics);
+    memset(both_group_rows, 0xA5, sizeof both_group_rows);
+    memset(both_names, 0xA5, sizeof both_names);
+    memset(both_group_diagnostics, 0xA5, sizeof both_group_diagnostics);
+    memset(records, 0xA5, sizeof records);
+    memset(group_records, 0xA5, sizeof group_records);
+}
+
+/* They hold what the calls over numbers left, the diagnostics as numbers and as records. */
+static void expect_traced(void) {
+    expect(memcmp(both_rows, rows, sizeof rows) == 0, "another traced list with records");
+    expect(memcmp(both_diagnostics, diagnostics, sizeof diagnostics) == 0, "other numbers of traced diagnostics");
+    expect(memcmp(records, diagnostics, sizeof diagnostics) == 0, "another traced record");
+}
+
+static void expect_group(void) {
+    expect(memcmp(both_group_rows, group_rows, sizeof group_rows) == 0 && memcmp(both_names, names, sizeof names) == 0,
+           "another group list with records");
+    expect(memcmp(both_group_diagnostics, group_diagnostics, sizeof group_diagnostics) == 0,
+           "other numbers of group diagnostics");
+    expect(memcmp(group_records, group_diagnostics, sizeof group_diagnostics) == 0, "another group record");
 }
 
 int main(void) {
@@ -53,11 +80,23 @@ int main(void) {
                memcmp(both_group_diagnostics, group_diagnostics, sizeof group_diagnostics) == 0,
            "another group list");
 
-    diagnostics_fill(WHOLE(records), WHOLE(diagnostics));
-    for (size_t row = 0; row < COUNT(records); row++)
-        expect(records[row].code == diagnostics[row * 4] && records[row].connection == diagnostics[row * 4 + 1] &&
-                   records[row].first == diagnostics[row * 4 + 2] && records[row].second == diagnostics[row * 4 + 3],
-               "another record");
+    uint64_t recorded[5];
+    spoil();
+    conlist_list_connections_with_records(TABLES, WHOLE(both_rows), WHOLE(both_diagnostics), WHOLE(records),
+                                          WHOLE(both_group_rows), WHOLE(both_names), WHOLE(both_group_diagnostics),
+                                          WHOLE(group_records), recorded);
+    expect(memcmp(recorded, both, sizeof both) == 0, "other counts with records");
+    expect_traced();
+    expect_group();
+    spoil();
+    conlist_compute_semantic_connections_with_records(TABLES, WHOLE(both_rows), WHOLE(both_diagnostics), WHOLE(records),
+                                                      recorded);
+    expect(memcmp(recorded, traced, sizeof traced) == 0, "other counts with traced records");
+    expect_traced();
+    conlist_expand_feature_group_connections_with_records(TABLES, WHOLE(both_group_rows), WHOLE(both_names),
+                                                          WHOLE(both_group_diagnostics), WHOLE(group_records), recorded);
+    expect(memcmp(recorded, grouped, sizeof grouped) == 0, "other counts with group records");
+    expect_group();
 
     /* the first number of a package is its name; a group type begins with its package and its name */
     for (uint64_t row = 0; row < read[10]; row++) {

@@ -10,12 +10,13 @@ use Rattle.sheet.specs.Read.{sheetRead, ReadInto}
 use Rattle.feature_group.specs.declared.Expanded.{Expanded}
 use Rattle.feature_group.specs.Answer.{expanded, ExpandedInto, answerFor as expandedFor}
 use Rattle.instance.specs.declared.Listed.{Listed}
-use Rattle.instance.specs.Answer.{TracedInto, listed as tracedListed, answerFor as tracedFor}
+use Rattle.instance.specs.Answer.{TracedInto, answerFor as tracedFor}
 use Rattle.group_list.specs.declared.GroupListed.{GroupListed}
-use Rattle.group_list.specs.Answer.{GroupListedInto, listed as groupListed, answerFor as groupFor}
+use Rattle.group_list.specs.Answer.{GroupListedInto, answerFor as groupFor}
 use Rattle.listing.specs.declared.Both.{Both}
-use Rattle.listing.specs.Answer.{Outputs, BothInto, listed as bothListed, answerFor as bothFor}
+use Rattle.listing.specs.Answer.{Outputs, BothInto, answerFor as bothFor}
 use Rattle.conlist_c.specs.Numbers.{readNumbers, expandedNumbers, tracedNumbers, groupNumbers, bothNumbers}
+use Rattle.conlist_c.specs.Told.{TracedTold, GroupTold, BothTold}
 
 -- numbers of an answer, and what holds of it, are so of an answer that it equals
 told-so : {Z : Type 0} (numbers : Z → List ℕ) (Into : Z → Type 0) (z z′ : Z) (ns : List ℕ) → z ≡ z′ → Into z → ns ≡ numbers z → (ns ≡ numbers z′) × Into z′
@@ -31,15 +32,19 @@ pub expanded-told : (m : Tables) (out : List ℕ) (from name : ℕ) (inverse : B
 expanded-told m out from name inverse z out′ ns h q = told-so expandedNumbers (λ (z : Expanded). ExpandedInto m out from name inverse z out′) z _ ns (h .answer) h q
 
 pub traced-told : (m : Tables) (rows diags : List ℕ) (z : Listed) (rows′ diags′ ns : List ℕ) → TracedInto m rows diags z rows′ diags′ → ns ≡ tracedNumbers z
-    → (ns ≡ tracedNumbers (tracedListed (tracedFor m rows diags))) × TracedInto m rows diags (tracedListed (tracedFor m rows diags)) rows′ diags′
-traced-told m rows diags z rows′ diags′ ns h q = told-so tracedNumbers (λ (z : Listed). TracedInto m rows diags z rows′ diags′) z _ ns (h .answer) h q
+    → TracedTold (tracedFor m rows diags) m rows diags ns rows′ diags′
+traced-told m rows diags z rows′ diags′ ns h q =
+    let t = told-so tracedNumbers (λ (z : Listed). TracedInto m rows diags z rows′ diags′) z _ ns (h .answer) h q in
+    record { told = t .0; outputs-hold = t .1 }
 
 pub group-told : (m : Tables) (rows names diags : List ℕ) (z : GroupListed) (rows′ names′ diags′ ns : List ℕ)
     → GroupListedInto m rows names diags z rows′ names′ diags′ → ns ≡ groupNumbers z
-    → (ns ≡ groupNumbers (groupListed (groupFor m rows names diags))) × GroupListedInto m rows names diags (groupListed (groupFor m rows names diags)) rows′ names′ diags′
+    → GroupTold (groupFor m rows names diags) rows names diags ns rows′ names′ diags′
 group-told m rows names diags z rows′ names′ diags′ ns h q =
-    told-so groupNumbers (λ (z : GroupListed). GroupListedInto m rows names diags z rows′ names′ diags′) z _ ns (h .answer) h q
+    let t = told-so groupNumbers (λ (z : GroupListed). GroupListedInto m rows names diags z rows′ names′ diags′) z _ ns (h .answer) h q in
+    record { told = t .0; outputs-hold = t .1 }
 
-pub both-told : (m : Tables) (o : Outputs) (z : Both) (p : Outputs) (ns : List ℕ) → BothInto m o z p → ns ≡ bothNumbers z
-    → (ns ≡ bothNumbers (bothListed (bothFor m o))) × BothInto m o (bothListed (bothFor m o)) p
-both-told m o z p ns h q = told-so bothNumbers (λ (z : Both). BothInto m o z p) z _ ns (h .answer) h q
+pub both-told : (m : Tables) (o : Outputs) (z : Both) (p : Outputs) (ns : List ℕ) → BothInto m o z p → ns ≡ bothNumbers z → BothTold (bothFor m o) m o ns p
+both-told m o z p ns h q =
+    let t = told-so bothNumbers (λ (z : Both). BothInto m o z p) z _ ns (h .answer) h q in
+    record { told = t .0; outputs-hold = t .1 }

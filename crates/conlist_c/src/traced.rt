@@ -1,8 +1,10 @@
 // The traced listing.
-ghost use mathlib.Core.Path.{_≡_};
 ghost use Rattle.lent.specs.Lent.{tablesAt};
-ghost use Rattle.instance.specs.Answer.{listed, answerFor, TracedInto};
-ghost use Rattle.conlist_c.specs.Numbers.{tracedNumbers};
+ghost use Rattle.instance.specs.Answer.{answerFor};
+ghost use Rattle.conlist_c.specs.Told.{TracedTold};
+ghost use Rattle.conlist_c.specs.WithRecords.{tracedFor, TracedRecords};
+use super::diagnostic;
+use super::diagnostic::Diagnostic;
 use super::numbers;
 
 // Lists as `compute_semantic_connections` does. `told` then holds 0, the rows and the diagnostics that were written, or a refusal's number, place and
@@ -25,8 +27,10 @@ pub extern "C" fn conlist_compute_semantic_connections(
     diagnostics: &mut [u32],
     told: &mut [u64; 3],
 )
-    ensures { λ _. ⌜ now (told .exit) ≡ tracedNumbers (listed (answerFor (tablesAt bytes n c f x p i t q u e r) (now (rows .entry)) (now (diagnostics .entry)))) ⌝ }
-    ensures { λ _. ⌜ TracedInto (tablesAt bytes n c f x p i t q u e r) (now (rows .entry)) (now (diagnostics .entry)) (listed (answerFor (tablesAt bytes n c f x p i t q u e r) (now (rows .entry)) (now (diagnostics .entry)))) (now (rows .exit)) (now (diagnostics .exit)) ⌝ }
+    ensures { λ _. ⌜ TracedTold
+        (answerFor (tablesAt bytes n c f x p i t q u e r) (now (rows .entry)) (now (diagnostics .entry)))
+        (tablesAt bytes n c f x p i t q u e r)
+        (now (rows .entry)) (now (diagnostics .entry)) (now (told .exit)) (now (rows .exit)) (now (diagnostics .exit)) ⌝ }
 {
     let answer = instance::compute_semantic_connections(
         bytes,
@@ -45,4 +49,96 @@ pub extern "C" fn conlist_compute_semantic_connections(
         diagnostics,
     );
     *told = numbers::traced(answer);
+}
+
+// Lists as `compute_semantic_connections` does, with room for no more diagnostics than `count` records. `told` as above.
+fn trace_for(
+    bytes: &[u8],
+    n: &[u32],
+    c: &[u32],
+    f: &[u32],
+    x: &[u32],
+    p: &[u32],
+    i: &[u32],
+    t: &[u32],
+    q: &[u32],
+    u: &[u32],
+    e: &[u32],
+    r: &[u32],
+    rows: &mut [u32],
+    numbers: &mut [u32],
+    count: usize,
+    told: &mut [u64; 3],
+)
+    ensures { λ _. ⌜ TracedTold
+        (tracedFor (tablesAt bytes n c f x p i t q u e r) (now (rows .entry)) (now (numbers .entry)) count)
+        (tablesAt bytes n c f x p i t q u e r)
+        (now (rows .entry)) (now (numbers .entry)) (now (told .exit)) (now (rows .exit)) (now (numbers .exit)) ⌝ }
+{
+    let end = diagnostic::numbers_for(numbers.len(), count);
+    lent::clear_numbers(numbers);
+    conlist_compute_semantic_connections(
+        bytes,
+        n,
+        c,
+        f,
+        x,
+        p,
+        i,
+        t,
+        q,
+        u,
+        e,
+        r,
+        rows,
+        &mut numbers[..end],
+        told,
+    );
+}
+
+// Lists as `compute_semantic_connections` does, with the diagnostics in the caller's records: there is room for as many as there are records, and for
+// no more than a quarter of the numbers. Records, like numbers, hold them from the front and zeros behind, or zeros alone on a refusal. `told` as above.
+#[no_mangle]
+pub extern "C" fn conlist_compute_semantic_connections_with_records(
+    bytes: &[u8],
+    n: &[u32],
+    c: &[u32],
+    f: &[u32],
+    x: &[u32],
+    p: &[u32],
+    i: &[u32],
+    t: &[u32],
+    q: &[u32],
+    u: &[u32],
+    e: &[u32],
+    r: &[u32],
+    rows: &mut [u32],
+    numbers: &mut [u32],
+    out: &mut [Diagnostic],
+    told: &mut [u64; 3],
+)
+    ensures { λ _. ⌜ TracedRecords
+        (tablesAt bytes n c f x p i t q u e r)
+        (now (rows .entry)) (now (numbers .entry)) (now (out .entry)) (now (told .exit)) (now (rows .exit)) (now (numbers .exit)) (now (out .exit)) ⌝ }
+{
+    let count = out.len();
+    trace_for(
+        bytes,
+        n,
+        c,
+        f,
+        x,
+        p,
+        i,
+        t,
+        q,
+        u,
+        e,
+        r,
+        rows,
+        numbers,
+        count,
+        told,
+    );
+    diagnostic::fill_records(out, numbers);
 }

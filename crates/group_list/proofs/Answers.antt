@@ -1,13 +1,13 @@
 -- The call's answer and outputs, case by case. Assumes nothing.
 use mathlib.Core.Bool.{Bool, true, false, not}
+use mathlib.Core.Logic.{inl, inr}
 use mathlib.Core.Path.{_≡_, refl, sym, ap, ap₂, _∙_, subst}
 use mathlib.Core.List.{List, [], _∷_}
 use Prim.Native.Nat.{ℕ, _+_, _*_, _/_, _≤_, _<_}
 use native.Mathlib.Omega.{arith}
-use native.Mathlib.Decide.{decLe}
 use lib.Dec.{T}
-use lib.ListN.{length, take}
-use lib.Seq.{sets}
+use lib.ListN.{length, drop}
+use lib.Seq.{sets, sets-eq}
 use borrow.Author.Tests.{lt-ltb, le-ltb}
 use Rattle.as5506.specs.Lists.{isNil, each, total, zeros}
 use Rattle.as5506.specs.declared.Refusal.{Refusal as Told}
@@ -15,14 +15,14 @@ use Rattle.as5506.specs.Tables.{Tables}
 use Rattle.as5506.specs.Answers.{Refusal, Answer, given, refused, refusal, nowhere, told}
 use Rattle.as5506.specs.Refusals.{faults, accepted}
 use Rattle.as5506.specs.Rows.{Row}
-use Rattle.as5506.specs.GroupList.{groupConnections, Match, matches, rowsMatched, diagsMatched}
+use Rattle.as5506.specs.GroupList.{groupConnections, overrun, Match, matches, rowsMatched, diagsMatched}
 use Rattle.as5506.specs.Listing.{GroupList, Room, rowNames, groupWithin, groupListOf, groupOf, groupOn, groupAnswer}
 use Rattle.as5506.specs.Layout.{rowNumbers, diagNumbers, roomIn, groupBlock, diagBlock, groupRowNumbers, groupDiagNumbers, composedNames, output}
-use Rattle.as5506.proofs.Laws.{each-length, zeros-length, not-both}
+use Rattle.as5506.proofs.Laws.{All, each-length, zeros-length, not-both}
 use Rattle.as5506.proofs.Answers.{isGiven}
 use Rattle.lent.specs.Answered.{AnswerIn}
 use Rattle.lent.specs.Lent.{connectionsIn}
-use Rattle.lent.proofs.Sets.{sets-block, sets-again}
+use Rattle.lent.proofs.Sets.{sets-again}
 use Rattle.lent.proofs.Append.{Used, used-by}
 use Rattle.lent.proofs.Answered.{given-in, refused-in, keeps, clears}
 use Rattle.sink.specs.declared.Tally.{Tally}
@@ -33,10 +33,14 @@ use Rattle.tables.proofs.Answers.{refused-is}
 use Rattle.group_match.specs.declared.Matched.{Matched}
 use Rattle.group_match.specs.declared.Matched.the-variants.{Over, Done}
 use Rattle.group_match.specs.Matching.{matchPieces, notePieces, MatchedInto}
-use Rattle.group_names.specs.Compose.{Pair, pairBlock, AllShort, Holds, Composed}
+use Rattle.group_names.specs.Pairs.{Pair}
+use Rattle.group_names.specs.Pieces.{pairsBack}
+use Rattle.group_names.specs.Compose.{Composed}
+use Rattle.group_names.proofs.Blocks.{pairBlock, Short, pairs-back}
+use Rattle.group_names.proofs.Named.{names-used, all-rows}
 use Rattle.group_list.specs.declared.GroupListed.{GroupListed}
 use Rattle.group_list.specs.declared.GroupListed.the-variants.{Rows, Refused}
-use Rattle.group_list.specs.Answer.{listed, answerFor, answerOf, GroupListedInto}
+use Rattle.group_list.specs.Answer.{listed, answerFor, answerOf, NamesStay, GroupListedInto}
 use Rattle.group_list.proofs.Matches.{told-over, told-done, pairsOf, pair-blocks, pairs-length, rows-of-pairs, rows-number, rows-length, note-blocks, notes-length}
 
 -- ---- cases of an answer
@@ -102,24 +106,42 @@ module _ (m : Tables) (rows names diags : List ℕ) where
   abbrev Lists : GroupListed → List ℕ → List ℕ → List ℕ → Type 0
   Lists z rows′ names′ diags′ =
       (z ≡ listed theAnswer)
-      × (AnswerIn groupRowNumbers theAnswer rows rows′ × (AnswerIn composedNames theAnswer names names′ × AnswerIn groupDiagNumbers theAnswer diags diags′))
+      × (AnswerIn groupRowNumbers theAnswer rows rows′
+      × (AnswerIn composedNames theAnswer names names′ × (AnswerIn groupDiagNumbers theAnswer diags diags′ × NamesStay z names names′)))
 
   refused-for : (number : ℕ) (reason : Told) → theAnswer ≡ refused (refusal number nowhere) → reason ≡ told (refusal number nowhere)
-      → (rows′ names′ diags′ : List ℕ) → Lists (Refused reason) rows′ names′ diags′
-  refused-for number reason e f rows′ names′ diags′ =
+      → (rows′ names′ diags′ : List ℕ) → NamesStay (Refused reason) names names′ → Lists (Refused reason) rows′ names′ diags′
+  refused-for number reason e f rows′ names′ diags′ s =
       let r : Refusal = refusal number nowhere in (
         ap Refused f ∙ sym (ap listed e),
-        (refused-in groupRowNumbers theAnswer rows rows′ r e, (refused-in composedNames theAnswer names names′ r e, refused-in groupDiagNumbers theAnswer diags diags′ r e)),
+        (
+          refused-in groupRowNumbers theAnswer rows rows′ r e,
+          (refused-in composedNames theAnswer names names′ r e, (refused-in groupDiagNumbers theAnswer diags diags′ r e, s)),
+        ),
       )
+
+  -- the output of names is as it was
+  untouched : (reason : Told) → NamesStay (Refused reason) names names
+  unfolding NamesStay
+  untouched reason h = refl
+
+  -- or the refusal is neither 13 nor 11
+  composed-before : (number : ℕ) (reason : Told) → reason ≡ told (refusal number nowhere) → (number ≡ 13 → ⊥) → (number ≡ 11 → ⊥)
+      → (names′ : List ℕ) → NamesStay (Refused reason) names names′
+  unfolding NamesStay
+  composed-before number reason e a b names′ (inl h) = absurd (a (sym (ap (λ (r : Told). r .number) e) ∙ h))
+  composed-before number reason e a b names′ (inr h) = absurd (b (sym (ap (λ (r : Told). r .number) e) ∙ h))
 
   module _ (rows₁ diags₁ : List ℕ) (q : Matched) (e : MatchedInto m rows diags q rows₁ diags₁) where
     -- 13
-    pub lists-13 : q ≡ Over → (reason : Told) → reason ≡ told (refusal 13 nowhere) → (rows′ names′ diags′ : List ℕ) → Lists (Refused reason) rows′ names′ diags′
+    pub lists-13 : q ≡ Over → (reason : Told) → reason ≡ told (refusal 13 nowhere) → (rows′ diags′ : List ℕ) → Lists (Refused reason) rows′ names diags′
     unfolding groupOf
-    lists-13 h z f =
-        refused-for 13 z (ap (λ (b : Bool). groupWithin (roomIn (length rows) (length diags)) (length names) b theList) (told-over m (groupConnections m) rows diags rows₁ diags₁ q e h) ∙ within-13 _ _ theList) f
+    lists-13 h z f rows′ diags′ =
+        let over : overrun (groupConnections m) ≡ true = told-over m (groupConnections m) rows diags rows₁ diags₁ q e h in
+        refused-for 13 z (ap (λ (b : Bool). groupWithin (roomIn (length rows) (length diags)) (length names) b theList) over ∙ within-13 _ _ theList) f
+        rows′ names diags′ (untouched z)
 
-    module _ (t : Tally) (f : q ≡ Done t) (short : AllShort thePairs) where
+    module _ (t : Tally) (f : q ≡ Done t) (short : All Short thePairs) where
       answer-is : theAnswer ≡ groupWithin (roomIn (length rows) (length diags)) (length names) false theList
       unfolding groupOf
       answer-is = ap (λ (b : Bool). groupWithin (roomIn (length rows) (length diags)) (length names) b theList) (told-done m (groupConnections m) rows diags rows₁ diags₁ q e t f .0)
@@ -135,10 +157,11 @@ module _ (m : Tables) (rows names diags : List ℕ) where
       row-count = rows-number m theMatches
 
       -- 11
-      pub lists-11 : length rows₁ < t .used → (reason : Told) → reason ≡ told (refusal 11 nowhere) → (rows′ names′ diags′ : List ℕ) → Lists (Refused reason) rows′ names′ diags′
-      lists-11 h z g =
+      pub lists-11 : length rows₁ < t .used → (reason : Told) → reason ≡ told (refusal 11 nowhere) → (rows′ diags′ : List ℕ) → Lists (Refused reason) rows′ names diags′
+      lists-11 h z g rows′ diags′ =
           let s : length rows < length (each pairBlock thePairs) = rows-used .spills (omega (arith, h, rows-used .same)) in
           refused-for 11 z (answer-is ∙ within-11 _ _ theList (omega (arith, s, pairs-length thePairs short, row-count))) g
+          rows′ names diags′ (untouched z)
 
       module _ (h : t .used ≤ length rows₁) where
         rows-fit : (length (each pairBlock thePairs) ≤ length rows) × (t .used ≡ length (each pairBlock thePairs)) × (rows₁ ≡ sets rows 0 (each pairBlock thePairs))
@@ -154,67 +177,64 @@ module _ (m : Tables) (rows names diags : List ℕ) where
         pub composing-room : t .used / rowNumbers * rowNumbers ≤ length rows₁
         composing-room = omega (arith, h)
 
-        holds : Holds rows₁ (t .used / rowNumbers) thePairs
-        holds =
-            record {
-              number = sym pair-count;
-              short = short;
-              blocks =
-                  ap₂ take (ap (λ (k : ℕ). k * rowNumbers) pair-count ∙ sym (pairs-length thePairs short)) (rows-fit .2) ∙ sets-block (each pairBlock thePairs) rows 0 (omega (arith, rows-fit .0));
-            }
+        -- the matches are read back from their blocks
+        pairs-are : pairsBack (t .used / rowNumbers) rows₁ ≡ thePairs
+        pairs-are =
+            ap₂ pairsBack pair-count (rows-fit .2 ∙ sets-eq (each pairBlock thePairs) rows 0 (omega (arith, rows-fit .0)))
+            ∙ pairs-back thePairs short (drop (0 + length (each pairBlock thePairs)) rows)
 
         -- composing left rows₂ and names₂
-        module _ (names₂ rows₂ : List ℕ) (used : ℕ) (w : (ps : List Pair) → Holds rows₁ (t .used / rowNumbers) ps → Composed (connectionsIn (m .bytes) (m .n) (m .x)) ps rows₁ names used rows₂ names₂)
-            (same : length names₂ ≡ length names) where
+        module _ (names₂ rows₂ : List ℕ) (used : ℕ)
+            (w : Composed (connectionsIn (m .bytes) (m .n) (m .x)) (pairsBack (t .used / rowNumbers) rows₁) rows₁ names used rows₂ names₂) where
           name-bytes : total (λ (r : Row). length (rowNames r)) (theList .rows) ≡ length (each rowNames theRows)
           unfolding groupListOf
           name-bytes = sym (each-length rowNames theRows)
 
-          composed : (length (each rowNames theRows) ≤ length names → (used ≡ length (each rowNames theRows)) × (rows₂ ≡ sets rows₁ 0 (each groupBlock theRows)) × (names₂ ≡ sets names 0 (each rowNames theRows)))
-              × (length names < length (each rowNames theRows) → used ≡ length names + 1)
-          composed =
-              subst
-              (λ (rs : List Row). (length (each rowNames rs) ≤ length names → (used ≡ length (each rowNames rs)) × (rows₂ ≡ sets rows₁ 0 (each groupBlock rs)) × (names₂ ≡ sets names 0 (each rowNames rs)))
-              × (length names < length (each rowNames rs) → used ≡ length names + 1)) (rows-of-pairs m theMatches) (w thePairs holds .fits, w thePairs holds .spills)
+          composed : Composed (connectionsIn (m .bytes) (m .n) (m .x)) thePairs rows₁ names used rows₂ names₂
+          composed = subst (λ (ps : List Pair). Composed (connectionsIn (m .bytes) (m .n) (m .x)) ps rows₁ names used rows₂ names₂) pairs-are w
+
+          names-put : Used names names₂ used (each rowNames theRows)
+          names-put =
+              subst (λ (rs : List Row). Used names names₂ used (each rowNames rs)) (rows-of-pairs m theMatches)
+              (names-used (connectionsIn (m .bytes) (m .n) (m .x)) thePairs rows₁ names used rows₂ names₂ composed)
 
           -- 14
           pub lists-14 : length names₂ < used → (reason : Told) → reason ≡ told (refusal 14 nowhere) → (rows′ names′ diags′ : List ℕ) → Lists (Refused reason) rows′ names′ diags′
-          lists-14 i z g = refused-for 14 z (answer-is ∙ within-14 _ _ theList row-room (rw name-bytes (over (decLe (length (each rowNames theRows)) (length names))))) g
-            where
-              over : Dec (length (each rowNames theRows) ≤ length names) → length names < length (each rowNames theRows)
-              over (yes k) = absurd (omega (arith, i, same, k, composed .0 k .0))
-              over (no k) = omega (arith, k)
+          lists-14 i z g rows′ names′ diags′ =
+              refused-for 14 z (answer-is ∙ within-14 _ _ theList row-room (rw name-bytes (names-put .spills (omega (arith, i, names-put .same))))) g
+              rows′ names′ diags′ (composed-before 14 z g (λ e. omega (arith, e)) (λ e. omega (arith, e)) names′)
 
           module _ (i : used ≤ length names₂) where
-            name-room : length (each rowNames theRows) ≤ length names
-            name-room = go (decLe (length (each rowNames theRows)) (length names))
-              where
-                go : Dec (length (each rowNames theRows) ≤ length names) → length (each rowNames theRows) ≤ length names
-                go (yes k) = k
-                go (no k) = absurd (omega (arith, i, same, composed .1 (omega (arith, k))))
+            names-fit : (length (each rowNames theRows) ≤ length names) × (used ≡ length (each rowNames theRows)) × (names₂ ≡ sets names 0 (each rowNames theRows))
+            names-fit = names-put .fits (omega (arith, i, names-put .same))
+
+            rows-are : rows₂ ≡ sets rows₁ 0 (each groupBlock theRows)
+            rows-are =
+                all-rows (connectionsIn (m .bytes) (m .n) (m .x)) thePairs rows₁ names used rows₂ names₂ composed (omega (arith, i, names-put .same))
+                ∙ ap (λ (rs : List Row). sets rows₁ 0 (each groupBlock rs)) (rows-of-pairs m theMatches)
 
             -- 12
             pub lists-12 : length diags₁ < t .noted → (reason : Told) → reason ≡ told (refusal 12 nowhere) → (rows′ names′ diags′ : List ℕ) → Lists (Refused reason) rows′ names′ diags′
             unfolding groupListOf
-            lists-12 j z g =
+            lists-12 j z g rows′ names′ diags′ =
                 let s : length diags < length (each diagBlock (diagsMatched theMatches)) = notes-used .spills (omega (arith, j, notes-used .same)) in
-                refused-for 12 z (answer-is ∙ within-12 _ _ theList row-room (rw name-bytes name-room) (omega (arith, s, notes-length (diagsMatched theMatches)))) g
+                refused-for 12 z (answer-is ∙ within-12 _ _ theList row-room (rw name-bytes (names-fit .0)) (omega (arith, s, notes-length (diagsMatched theMatches)))) g
+                rows′ names′ diags′ (composed-before 12 z g (λ e. omega (arith, e)) (λ e. omega (arith, e)) names′)
 
             -- all fit
             pub lists-all : t .noted ≤ length diags₁ → Lists (Rows (t .used / rowNumbers) (t .noted / diagNumbers)) rows₂ names₂ diags₁
-            unfolding groupListOf groupRowNumbers composedNames groupDiagNumbers
+            unfolding groupListOf groupRowNumbers composedNames groupDiagNumbers NamesStay
             lists-all j =
                 let d = notes-used .fits (omega (arith, j, notes-used .same)) in
                 let ds : ℕ = length (diagsMatched theMatches) in
                 let size : length (each groupBlock theRows) ≡ length (each pairBlock thePairs) = omega (arith, rows-length m theMatches, pairs-length thePairs short, rows-number m theMatches) in
-                let a : theAnswer ≡ given theList = answer-is ∙ within-given _ _ theList row-room (rw name-bytes name-room) (omega (arith, d .0, notes-length (diagsMatched theMatches))) in
-                let n : t .noted / diagNumbers ≡ ds = omega (arith, d .1, notes-length (diagsMatched theMatches)) in
-                let c = composed .0 name-room in (
+                let a : theAnswer ≡ given theList = answer-is ∙ within-given _ _ theList row-room (rw name-bytes (names-fit .0)) (omega (arith, d .0, notes-length (diagsMatched theMatches))) in
+                let n : t .noted / diagNumbers ≡ ds = omega (arith, d .1, notes-length (diagsMatched theMatches)) in (
                   ap₂ Rows (pair-count ∙ sym row-count) n ∙ sym (ap listed a),
                   (
                     given-in groupRowNumbers theAnswer rows rows₂ theList a (omega (arith, size, rows-fit .0))
-                        (c .1 ∙ ap (λ (l : List ℕ). sets l 0 (each groupBlock theRows)) (rows-fit .2) ∙ sets-again (each pairBlock thePairs) (each groupBlock theRows) rows (sym size) (omega (arith, size, rows-fit .0))),
-                    (given-in composedNames theAnswer names names₂ theList a name-room (c .2), given-in groupDiagNumbers theAnswer diags diags₁ theList a (d .0) (d .2)),
+                        (rows-are ∙ ap (λ (l : List ℕ). sets l 0 (each groupBlock theRows)) (rows-fit .2) ∙ sets-again (each pairBlock thePairs) (each groupBlock theRows) rows (sym size) (omega (arith, size, rows-fit .0))),
+                    (given-in composedNames theAnswer names names₂ theList a (names-fit .0) (names-fit .2), (given-in groupDiagNumbers theAnswer diags diags₁ theList a (d .0) (d .2), tt)),
                   ),
                 )
 

@@ -12,7 +12,7 @@ use Rattle.as5506.specs.Groups.{Feature}
 use Rattle.as5506.specs.Rows.{Row, Diag}
 use Rattle.as5506.specs.GroupList.{GroupConnection, groupOverrun, overrun, Match, matchesBy, matches, matchRow, matchDiag, fullName, rowsMatched, diagsMatched}
 use Rattle.as5506.specs.Layout.{rowNumbers, groupBlock, diagBlock}
-use Rattle.as5506.proofs.Laws.{All, all-of, all-each, each-same, each-append, each-each, each-map, even-length, not-both}
+use Rattle.as5506.proofs.Laws.{All, all-map, all-of, all-each, each-same, each-append, each-each, each-map, even-length, not-both}
 use Rattle.lent.specs.Append.{Filled, filled, appendAll, together}
 use Rattle.lent.proofs.Append.{all-append}
 use Rattle.lent.specs.Lent.{connectionsIn}
@@ -21,8 +21,8 @@ use Rattle.group_match.specs.declared.Matched.{Matched}
 use Rattle.group_match.specs.declared.Matched.the-variants.{Over, Done}
 use Rattle.group_match.specs.Matching.{matchPiece, matchPieces, notePieces, Lists, over, lists, afterBy, after, afterAll, listsOf}
 use Rattle.group_match.proofs.Loop.{all-over}
-use Rattle.group_names.specs.Compose.{Pair, pairBlock, pairRows, rowsOfPairs, AllShort}
-use Rattle.group_names.proofs.Blocks.{pair-length}
+use Rattle.group_names.specs.Pairs.{Pair, pairRows, rowsOfPairs}
+use Rattle.group_names.proofs.Blocks.{pairBlock, Short, pair-length}
 
 -- ---- MATCHING: what all connections leave
 
@@ -127,12 +127,8 @@ pair-blocks ms =
     (all-of (λ (p : Match). together (matchPiece (p .connection) (p .feature) (p .partner)) ≡ each pairBlock (pairBy (p .connection) (p .feature) (p .partner))) (λ p. pair-piece (p .connection) (p .feature) (p .partner)) ms)
     ∙ sym (each-each pairBlock (λ (p : Match). pairBy (p .connection) (p .feature) (p .partner)) ms)
 
-pub pairs-length : (ps : List Pair) → AllShort ps → length (each pairBlock ps) ≡ length ps * rowNumbers
-pairs-length ps h = even-length rowNumbers pairBlock ps (go ps h)
-  where
-    go : (ps : List Pair) → AllShort ps → All (λ p. length (pairBlock p) ≡ rowNumbers) ps
-    go [] t = tt
-    go (p ∷ ps) t = (pair-length p (t .0), go ps (t .1))
+pub pairs-length : (ps : List Pair) → All Short ps → length (each pairBlock ps) ≡ length ps * rowNumbers
+pairs-length ps h = even-length rowNumbers pairBlock ps (all-map Short (λ p. length (pairBlock p) ≡ rowNumbers) pair-length ps h)
 
 -- their rows
 

@@ -1,15 +1,14 @@
 -- The lengths that composing relies on: no feature of a match has a prefix of more than ten names, and no name more than 63 bytes. Assumes nothing.
 use mathlib.Core.Bool.{Bool, true, false, _&&_}
 use mathlib.Core.Option.{Option, none, some}
-use mathlib.Core.Path.{_≡_, sym, ap, subst, _∙_}
-use mathlib.Core.List.{List, [], _∷_, map}
-use Prim.Native.Nat.{ℕ, zero, suc, _+_, _*_, _/_, _≤_, _<_}
-use native.Mathlib.Nat.{zero-add, add-zero}
+use mathlib.Core.Path.{_≡_, sym, subst}
+use mathlib.Core.List.{List, [], _∷_}
+use Prim.Native.Nat.{ℕ, suc, _+_, _*_, _/_, _≤_, _<_}
 use native.Mathlib.Omega.{arith}
 use native.Mathlib.Decide.{decLt}
 use lib.Dec.{T, leb, leb→le}
-use lib.ListN.{length, getD, take, drop, List·getD-eq-default}
-use Rattle.as5506.specs.Lists.{keep, firstOf, span, upTo, allOf, sameBytes}
+use lib.ListN.{length, take, drop, List·getD-eq-default}
+use Rattle.as5506.specs.Lists.{keep, firstOf, upTo, allOf, sameBytes}
 use Rattle.as5506.specs.Tables.{Tables, missing, present, Ref, ref, letterN, letterU, letterE, count, nStart, nLength, nameIn, xCount, source, destination, eClassifier, xFeat}
 use Rattle.as5506.specs.Names.{nameByte, goodName, key}
 use Rattle.as5506.specs.Resolve.{Resolved, componentType, componentImpl, groupType, unresolved}
@@ -17,12 +16,14 @@ use Rattle.as5506.specs.Groups.{Feature, Expansion, depthLimit, expandFeatureGr
 use Rattle.as5506.specs.GroupList.{isGroupFeature, typeOf, declaredGroup, askingPackage, classifierBy, declaredBy, typedBy, endpointBy, endpoint, isGroupConnection, endComponent, GroupConnection, groupConnection, groupConnections, partner, Match, matchesBy, matches}
 use Rattle.as5506.specs.Refusals.{accepted}
 use Rattle.as5506.proofs.Laws.{All, all-of, all-each, all-keep, all-mapped, and-left, and-right}
-use Rattle.links.specs.Links.{Linked, linkOf, nestedLink, extendsLink, inverseLink}
+use Rattle.links.specs.Links.{linkOf, nestedLink, extendsLink, inverseLink, linksTo}
 use Rattle.links.specs.Walk.{groupsIn}
+use Rattle.links.proofs.Tables.{links-linked}
 use Rattle.links.proofs.Range.{expansion-short}
 use Rattle.links.proofs.Walk.{linked}
 use Rattle.tables.proofs.Facts.{facts}
-use Rattle.group_names.specs.Compose.{Pair, Short, AllShort, ShortNames}
+use Rattle.group_names.specs.Pairs.{ShortNames}
+use Rattle.group_names.proofs.Blocks.{Short}
 use Rattle.group_list.proofs.Matches.{pairBy, pairsOf}
 
 abbrev ShortFeature : Feature → Type 0
@@ -37,28 +38,15 @@ ShortEnds b = ShortGroup (b .srcGroup) × ShortGroup (b .dstGroup)
 
 -- ---- the tables of links that the definition gives: every expansion is one over them
 
-row-link : (link : ℕ → ℕ) (i n j : ℕ) → j < n → getD (map link (span i n)) j 0 ≡ link (i + j)
-row-link link i zero j h = absurd (omega arith)
-row-link link i (suc n) zero h = ap link (sym (add-zero i))
-row-link link i (suc n) (suc j) h = let e : suc i + j ≡ i + suc j = omega arith in row-link link (suc i) n j (omega arith) ∙ ap link e
-
 module _ (m : Tables) where
   abbrev nested : List ℕ
-  nested = map (nestedLink m) (upTo (count m letterE))
+  nested = linksTo (nestedLink m) (count m letterE)
 
   abbrev extends : List ℕ
-  extends = map (extendsLink m) (upTo (count m letterU))
+  extends = linksTo (extendsLink m) (count m letterU)
 
   abbrev inverse : List ℕ
-  inverse = map (inverseLink m) (upTo (count m letterU))
-
-  links : Linked m nested extends inverse
-  links =
-      record {
-        of-nested = λ e h. row-link (nestedLink m) 0 (count m letterE) e h ∙ ap (nestedLink m) (zero-add e);
-        of-extends = λ u h. row-link (extendsLink m) 0 (count m letterU) u h ∙ ap (extendsLink m) (zero-add u);
-        of-inverse = λ u h. row-link (inverseLink m) 0 (count m letterU) u h ∙ ap (inverseLink m) (zero-add u);
-      }
+  inverse = linksTo (inverseLink m) (count m letterU)
 
 -- ---- the groups of connections
 
@@ -66,7 +54,7 @@ module _ (m : Tables) (ok : T (accepted m)) where
   expand-short : (from name : ℕ) → All ShortFeature (expand m from name .features)
   unfolding expand expandFeatureGroup
   expand-short from name =
-      subst (λ (x : Expansion). All ShortFeature (x .features)) (linked m (nested m) (extends m) (inverse m) (links m) (facts m ok .few letterU) (suc depthLimit) from (ref missing name missing) false [])
+      subst (λ (x : Expansion). All ShortFeature (x .features)) (linked m (nested m) (extends m) (inverse m) (links-linked m) (facts m ok .few letterU) (suc depthLimit) from (ref missing name missing) false [])
       (expansion-short (groupsIn (m .e) (nested m) (extends m) (inverse m)) (linkOf m from (ref missing name missing)) false)
 
   classifier-short : (b : Bool) (c : ℕ) (r : Ref) → ShortGroup (classifierBy b m c r)
@@ -148,16 +136,11 @@ unfolding pairBy
 pair-short b s none h u = tt
 pair-short b s (some d) h u = ((h, u), tt)
 
-all-short : (ps : List Pair) → All Short ps → AllShort ps
-all-short [] t = tt
-all-short (p ∷ ps) t = (t .0, all-short ps (t .1))
-
-pub pairs-short : (m : Tables) → T (accepted m) → AllShort (pairsOf (matches m (groupConnections m)))
+pub pairs-short : (m : Tables) → T (accepted m) → All Short (pairsOf (matches m (groupConnections m)))
 unfolding pairsOf
 pairs-short m ok =
-    all-short (pairsOf (matches m (groupConnections m)))
-    (all-each ShortMatch Short (λ (p : Match). pairBy (p .connection) (p .feature) (p .partner)) (λ p h. pair-short (p .connection) (p .feature) (p .partner) (h .0) (h .1)) (matches m (groupConnections m))
-    (matches-short m (groupConnections m) (connections-short m ok)))
+    all-each ShortMatch Short (λ (p : Match). pairBy (p .connection) (p .feature) (p .partner)) (λ p h. pair-short (p .connection) (p .feature) (p .partner) (h .0) (h .1)) (matches m (groupConnections m))
+    (matches-short m (groupConnections m) (connections-short m ok))
 
 -- ---- names
 

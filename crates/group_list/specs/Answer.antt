@@ -1,4 +1,5 @@
 -- What the call answers, and what its outputs hold. Assumes nothing.
+use mathlib.Core.Logic.{_⊎_}
 use mathlib.Core.Path.{_≡_}
 use mathlib.Core.List.{List}
 use Prim.Native.Nat.{ℕ}
@@ -20,13 +21,23 @@ listed (refused r) = Refused (told r)
 abbrev pub answerFor : Tables → List ℕ → List ℕ → List ℕ → Answer GroupList
 answerFor m rows names diags = groupAnswer (roomIn (length rows) (length diags)) (length names) m
 
--- THE CONTRACT: a call on the tables m with the outputs `rows`, `names` and `diags` answers z and leaves rows′, names′ and diags′ in them
-pub record GroupListedInto (m : Tables) (rows names diags : List ℕ) (z : GroupListed) (rows′ names′ diags′ : List ℕ) : Type 0 where
-  pub answer : z ≡ listed (answerFor m rows names diags)
-  pub written-rows : rows′ ≡ output (length rows) groupRowNumbers (answerFor m rows names diags)
-  pub written-names : names′ ≡ output (length names) composedNames (answerFor m rows names diags)
-  pub written-diagnostics : diags′ ≡ output (length diags) groupDiagNumbers (answerFor m rows names diags)
+-- THE CONTRACT: a call with the outputs `rows`, `names` and `diags`, for which the definition's answer is `wanted`, answers z and leaves rows′, names′ and
+-- diags′ in them
+pub record GroupListedAs (wanted : Answer GroupList) (rows names diags : List ℕ) (z : GroupListed) (rows′ names′ diags′ : List ℕ) : Type 0 where
+  pub answer : z ≡ listed wanted
+  pub written-rows : rows′ ≡ output (length rows) groupRowNumbers wanted
+  pub written-names : names′ ≡ output (length names) composedNames wanted
+  pub written-diagnostics : diags′ ≡ output (length diags) groupDiagNumbers wanted
+
+-- of the call over numbers: the room is what the outputs hold
+abbrev pub GroupListedInto : Tables → List ℕ → List ℕ → List ℕ → GroupListed → List ℕ → List ℕ → List ℕ → Type 0
+GroupListedInto m rows names diags z rows′ names′ diags′ = GroupListedAs (answerFor m rows names diags) rows names diags z rows′ names′ diags′
 
 -- of accepted tables
 abbrev pub answerOf : Tables → List ℕ → List ℕ → List ℕ → Answer GroupList
 answerOf m rows names diags = groupOf (roomIn (length rows) (length diags)) (length names) m (groupConnections m)
+
+-- names are composed once all rows are known to find room: on 13 and 11 their output is as it was
+unfoldable pub NamesStay : GroupListed → List ℕ → List ℕ → Type 0
+NamesStay (Rows k d) names names′ = Unit {0}
+NamesStay (Refused r) names names′ = (r .number ≡ 13) ⊎ (r .number ≡ 11) → names′ ≡ names

@@ -21,7 +21,7 @@ ghost use Rattle.as5506.specs.Refusals.{accepted};
 ghost use Rattle.as5506.specs.Layout.{groupRowNumbers, groupDiagNumbers, composedNames};
 ghost use Rattle.lent.specs.Answered.{AnswerIn};
 ghost use Rattle.group_match.specs.Matching.{MatchedInto};
-ghost use Rattle.group_list.specs.Answer.{listed, answerOf, GroupListedInto};
+ghost use Rattle.group_list.specs.Answer.{listed, answerOf, NamesStay, GroupListedInto};
 ghost use Rattle.group_list.specs.Ready.{MatchRoom, ListReady};
 
 // The names, and the group types or features, that the small room is enough for: all that the program conlist can read.
@@ -230,7 +230,7 @@ fn match_all(
 }
 
 // Lists the group connections of accepted tables: first the matches, in the places of their rows; where there is room for all, their names. On a
-// refusal the outputs hold anything.
+// refusal the outputs may hold anything, but that of names is as it was where the refusal is 13 or 11.
 pub fn list_accepted(
     bytes: &[u8],
     n: &[u32],
@@ -256,6 +256,7 @@ pub fn list_accepted(
         (now (names .entry)) (now (names .exit)) ⌝ }
     ensures { λ _. ⌜ AnswerIn groupDiagNumbers (answerOf (tablesAt bytes n c f x p i t q u e r) (now (rows .entry)) (now (names .entry)) (now (diagnostics .entry)))
         (now (diagnostics .entry)) (now (diagnostics .exit)) ⌝ }
+    ensures { λ z. ⌜ NamesStay z (now (names .entry)) (now (names .exit)) ⌝ }
 {
     let matched = match_all(bytes, n, c, f, x, p, i, t, q, u, e, r, rows, diagnostics);
     match matched {

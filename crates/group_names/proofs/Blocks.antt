@@ -1,4 +1,4 @@
--- A match read back from its block, and the numbers of its row. Assumes nothing.
+-- Matches as they lie in the output of rows before their names are composed, read back from there, and the numbers of their rows. Assumes nothing.
 use mathlib.Core.Path.{_≡_, refl, sym, ap, ap₂, _∙_}
 use mathlib.Core.List.{List, [], _∷_, _++_, append-assoc}
 use Prim.Native.Nat.{ℕ, _+_, _-_, _≤_, _<_, min}
@@ -6,14 +6,24 @@ use native.Mathlib.Nat.{add-zero, min-le-left, min-eq-left, min-eq-right}
 use native.Mathlib.Omega.{arith}
 use lib.ListN.{length, take, drop, getD, length-append, length-replicate, length-take, length-drop}
 use lib.Seq.{sets, take-append-seam, drop-at, length-take-le, getD-take, getD-drop}
-use Rattle.as5506.specs.Lists.{zeros, padded}
-use Rattle.as5506.specs.Groups.{Feature}
+use Rattle.as5506.specs.Lists.{each, zeros, padded}
+use Rattle.as5506.specs.Groups.{Feature, depthLimit}
 use Rattle.as5506.specs.GroupList.{connectionKind}
 use Rattle.as5506.specs.Layout.{rowNumbers, featureNumbers, rowBlock, featureBlock}
+use Rattle.as5506.proofs.Laws.{All}
 use Rattle.sink.specs.Take.{spareNumbers, matchBlock}
 use Rattle.sink.proofs.Blocks.{block-length}
-use Rattle.group_names.specs.Compose.{Pair, pairBlock, Short}
-use Rattle.group_names.specs.Pieces.{prefixLength, featureBack, pairBack, blockWith}
+use Rattle.group_names.specs.Pairs.{Pair}
+use Rattle.group_names.specs.Pieces.{prefixLength, featureBack, pairBack, pairsBack, blockWith}
+
+unfoldable pub pairBlock : Pair → List ℕ
+pairBlock p = matchBlock (p .conn) (p .src) (p .dst) (featureBlock (p .feature)) (featureBlock (p .partner))
+
+-- no prefix is longer than its places
+abbrev pub Short : Pair → Type 0
+Short p = (length (p .feature .prefix) ≤ depthLimit) × (length (p .partner .prefix) ≤ depthLimit)
+
+-- ---- read back
 
 module _ (f : Feature) (h : length (f .prefix) ≤ 10) where
   prefix-back : (rest : List ℕ) → take (min 10 (length (f .prefix))) (padded 10 (f .prefix) ++ rest) ≡ f .prefix
@@ -45,6 +55,15 @@ module _ (p : Pair) (h : Short p) where
       (ap (λ (l : List ℕ). featureBack (drop featureNumbers l)) parts
       ∙ ap featureBack (drop-at s (d ++ (zeros spareNumbers ++ rest)) featureNumbers (block-length (p .feature) (h .0)))
       ∙ feature-back (p .partner) (h .1) (zeros spareNumbers ++ rest))
+
+-- those that lie one behind the other
+pub pairs-back : (ps : List Pair) → All Short ps → (rest : List ℕ) → pairsBack (length ps) (each pairBlock ps ++ rest) ≡ ps
+unfolding pairsBack
+pairs-back [] h rest = refl
+pairs-back (p ∷ ps) h rest =
+    let behind : List ℕ = each pairBlock ps ++ rest in
+    ap (λ (l : List ℕ). pairBack l ∷ pairsBack (length ps) (drop rowNumbers l)) (append-assoc (pairBlock p) (each pairBlock ps) rest)
+    ∙ ap₂ _∷_ (pair-back p (h .0) behind) (ap (pairsBack (length ps)) (drop-at (pairBlock p) behind rowNumbers (pair-length p (h .0))) ∙ pairs-back ps (h .1) rest)
 
 -- ---- a feature's names in the rows
 

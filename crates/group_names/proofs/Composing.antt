@@ -1,40 +1,33 @@
 -- What is left to compose of the matches, with a law for a row's three names, for a turn, for each way out of the loop. Assumes nothing.
-use mathlib.Core.Path.{_≡_, refl, sym, ap, ap₂, subst, _∙_}
-use mathlib.Core.List.{List, [], _∷_, _++_, append-assoc}
-use Prim.Native.Nat.{ℕ, _+_, _-_, _*_, _≤_, _<_}
-use native.Mathlib.Nat.{add-zero, zero-add}
+use mathlib.Core.Path.{_≡_, sym, ap, ap₂, subst, _∙_}
+use mathlib.Core.List.{List, [], _∷_, _++_}
+use Prim.Native.Nat.{ℕ, suc, _+_, _-_, _*_, _≤_, _<_}
+use native.Mathlib.Nat.{add-zero, sub-zero}
 use native.Mathlib.Omega.{arith}
-use native.Mathlib.Decide.{decLe}
-use lib.ListN.{length, drop, getD, length-append, take-append-drop}
-use lib.Seq.{sets, getD-drop, drop-drop, drop-at}
+use lib.ListN.{length, drop, getD, length-append}
+use lib.Seq.{sets, getD-drop, drop-drop}
 use Rattle.as5506.specs.Lists.{each}
 use Rattle.as5506.specs.Tables.{Tables, source, destination, nameIn, xName, xFeat}
 use Rattle.as5506.specs.Groups.{Feature}
-use Rattle.as5506.specs.Listing.{rowNames}
 use Rattle.as5506.specs.Layout.{rowNumbers, groupBlock}
-use Rattle.lent.specs.Append.{Filled, filled, append, appendAll, together}
-use Rattle.lent.proofs.Sets.{sets-append, sets-behind}
-use Rattle.lent.proofs.Append.{all-length, all-bound, all-append, all-fit, all-full}
-use Rattle.group_names.specs.Compose.{Pair, pairBlock, pairRows, rowsOfPairs, AllShort, Holds, ShortNames, Composed}
-use Rattle.group_names.specs.Pieces.{dotPieces, joinedPieces, featureNames, ownPieces, sourcePieces, partnerPieces, pairPieces, featureBack, pairBack, blockWith}
 use Rattle.as5506.proofs.Laws.{each-append}
+use Rattle.lent.specs.Append.{Filled, filled, append, appendAll, together}
 use Rattle.lent.specs.Lent.{connectionsIn}
-use Rattle.group_names.proofs.Names.{joined-short, pair-block, pairs-names}
-use Rattle.group_names.proofs.Blocks.{pair-length, pair-back, prefix-short, row-numbers}
+use Rattle.lent.proofs.Sets.{sets-append, sets-behind}
+use Rattle.lent.proofs.Append.{all-length, all-bound, all-append, all-fit, all-kept, all-spilt, all-past}
+use Rattle.group_names.specs.Pairs.{Pair, pairRows, rowsOfPairs, ShortNames}
+use Rattle.group_names.specs.Pieces.{dotPieces, joinedPieces, featureNames, ownPieces, sourcePieces, partnerPieces, pairPieces, featureBack, pairBack, pairsBack, blockWith}
+use Rattle.group_names.specs.Compose.{named, Composed}
+use Rattle.group_names.proofs.Names.{joined-short, pair-block}
+use Rattle.group_names.proofs.Blocks.{prefix-short, row-numbers}
+use Rattle.group_names.proofs.Named.{bytesOf, named-fits, named-full}
 
 -- ---- pieces that are all written
-
--- the output is not full after them, so all are written, and it was not full before
-kept : (ps : List (List ℕ)) (o : Filled) → o .used ≤ length (o .holds) + 1 → appendAll ps o .used ≤ length (o .holds) → o .used + length (together ps) ≤ length (o .holds)
-kept ps o b h = go (decLe (o .used + length (together ps)) (length (o .holds)))
-  where
-    go : Dec (o .used + length (together ps) ≤ length (o .holds)) → o .used + length (together ps) ≤ length (o .holds)
-    go (yes k) = k
-    go (no k) = absurd (omega (arith, h, all-full ps o b (omega (arith, k))))
 
 record Written (ps : List (List ℕ)) (names : List ℕ) (used : ℕ) (names′ : List ℕ) (used′ : ℕ) : Type 0 where
   pub same : length names′ ≡ length names
   pub bound : used′ ≤ length names + 1
+  pub spills : length names < used′ → length names < used + length (together ps)
   pub fits : used′ ≤ length names → (used ≤ length names) × (used′ ≡ used + length (together ps))
 
 written : (ps : List (List ℕ)) (names : List ℕ) (used : ℕ) (names′ : List ℕ) (used′ : ℕ) → used ≤ length names + 1
@@ -45,9 +38,10 @@ written ps names used names′ used′ b e =
     record {
       same = ap (λ (x : Filled). length (x .holds)) e ∙ all-length ps o;
       bound = rw u (all-bound ps o b);
+      spills = λ h. all-spilt ps o (subst (λ (k : ℕ). length names < k) u h);
       fits = λ h.
-          let k : used + length (together ps) ≤ length names = kept ps o b (subst (λ (v : ℕ). v ≤ length names) u h) in
-          (omega (arith, k), u ∙ ap (λ (x : Filled). x .used) (all-fit ps o k));
+          let room : used + length (together ps) ≤ length names = all-kept ps o b (subst (λ (k : ℕ). k ≤ length names) u h) in
+          (omega (arith, room), u ∙ ap (λ (x : Filled). x .used) (all-fit ps o room));
     }
 
 -- ---- the three names of a row
@@ -93,18 +87,18 @@ pub record Ends (m : Tables) (p : Pair) (used a b c : ℕ) : Type 0 where
   pub partner : c ≡ b + length (together (partnerPieces m p))
 
 module _ (m : Tables) (p : Pair) (names : List ℕ) (used : ℕ) (names₁ : List ℕ) (a : ℕ) (names₂ : List ℕ) (b : ℕ) (names₃ : List ℕ) (c : ℕ) where
-  pub named : filled names₁ a ≡ appendAll (ownPieces m p) (filled names used) → filled names₂ b ≡ appendAll (sourcePieces m p) (filled names₁ a)
+  pub names-are : filled names₁ a ≡ appendAll (ownPieces m p) (filled names used) → filled names₂ b ≡ appendAll (sourcePieces m p) (filled names₁ a)
       → filled names₃ c ≡ appendAll (partnerPieces m p) (filled names₂ b) → filled names₃ c ≡ appendAll (pairPieces m p) (filled names used)
   unfolding pairPieces
-  named e f g =
+  names-are e f g =
       let o : Filled = filled names used in
       g ∙ ap (appendAll (partnerPieces m p)) (f ∙ ap (appendAll (sourcePieces m p)) e)
       ∙ sym (all-append (sourcePieces m p) (partnerPieces m p) (appendAll (ownPieces m p) o))
       ∙ sym (all-append (ownPieces m p) (sourcePieces m p ++ partnerPieces m p) o)
 
-  pub named-ends : used ≤ length names → filled names₁ a ≡ appendAll (ownPieces m p) (filled names used) → filled names₂ b ≡ appendAll (sourcePieces m p) (filled names₁ a)
+  pub names-end : used ≤ length names → filled names₁ a ≡ appendAll (ownPieces m p) (filled names used) → filled names₂ b ≡ appendAll (sourcePieces m p) (filled names₁ a)
       → filled names₃ c ≡ appendAll (partnerPieces m p) (filled names₂ b) → c ≤ length names₃ → Ends m p used a b c
-  named-ends h e f g k =
+  names-end h e f g k =
       let u = written (ownPieces m p) names used names₁ a (omega (arith, h)) e in
       let v = written (sourcePieces m p) names₁ a names₂ b (omega (arith, u .bound, u .same)) f in
       let w = written (partnerPieces m p) names₂ b names₃ c (omega (arith, v .bound, v .same)) g in
@@ -153,130 +147,105 @@ module _ (bytes n x rows : List ℕ) (place : ℕ) (h : ShortNames bytes n) wher
 row-length : (m : Tables) (p : Pair) → length (each groupBlock (pairRows m p)) ≡ rowNumbers
 row-length m p = ap length (pair-block m p) ∙ row-numbers p (length (together (ownPieces m p))) (length (together (sourcePieces m p))) (length (together (partnerPieces m p)))
 
--- of the matches ps, those from place i on are still to be composed
-pub record Left (m : Tables) (ps : List Pair) (rows₀ names₀ : List ℕ) (count : ℕ) (rows names : List ℕ) (used i : ℕ) : Type 0 where
-  pub left : List Pair
-  pub rest : List ℕ
-  pub number : i + length left ≡ count
-  pub short : AllShort left
-  pub blocks : drop (i * rowNumbers) rows ≡ each pairBlock left ++ rest
-  pub toRows : sets rows (i * rowNumbers) (each groupBlock (rowsOfPairs m left)) ≡ sets rows₀ 0 (each groupBlock (rowsOfPairs m ps))
-  pub toNames : appendAll (each (pairPieces m) left) (filled names used) ≡ appendAll (each (pairPieces m) ps) (filled names₀ 0)
+-- the matches read from place i of the rows on
+abbrev pub leftAt : ℕ → ℕ → List ℕ → List Pair
+leftAt count i rows = pairsBack (count - i) (drop (i * rowNumbers) rows)
 
-module _ (m : Tables) (ps : List Pair) (rows₀ names₀ : List ℕ) (count : ℕ) where
-  pub left-start : Holds rows₀ count ps → Left m ps rows₀ names₀ count rows₀ names₀ 0 0
-  left-start h =
+-- with the names of matches behind what is used, and with their rows from a place on
+abbrev pub withNames : Tables → List Pair → Filled → Filled
+withNames m ps o = appendAll (each (pairPieces m) ps) o
+
+abbrev pub withRows : Tables → List Pair → List ℕ → ℕ → List ℕ
+withRows m ps rows place = sets rows place (each groupBlock (rowsOfPairs m ps))
+
+-- composing what is left, as things are now, leaves what composing all leaves
+pub record Left (m : Tables) (rows₀ names₀ : List ℕ) (count : ℕ) (rows names : List ℕ) (used i : ℕ) : Type 0 where
+  pub to-names : withNames m (leftAt count i rows) (filled names used) ≡ withNames m (pairsBack count rows₀) (filled names₀ 0)
+  pub to-rows : withRows m (named m (length names - used) (leftAt count i rows)) rows (i * rowNumbers) ≡ withRows m (named m (length names₀) (pairsBack count rows₀)) rows₀ 0
+
+module _ (m : Tables) (rows₀ names₀ : List ℕ) (count : ℕ) where
+  pub left-start : Left m rows₀ names₀ count rows₀ names₀ 0 0
+  left-start =
       record {
-        left = ps;
-        rest = drop (count * rowNumbers) rows₀;
-        number = omega (arith, h .number);
-        short = h .short;
-        blocks = sym (take-append-drop (count * rowNumbers) rows₀) ∙ ap (λ (l : List ℕ). l ++ drop (count * rowNumbers) rows₀) (h .blocks);
-        toRows = refl;
-        toNames = refl;
+        to-names = ap (λ (k : ℕ). withNames m (pairsBack k rows₀) (filled names₀ 0)) (sub-zero count);
+        to-rows = ap₂ (λ (k l : ℕ). withRows m (named m k (pairsBack l rows₀)) rows₀ 0) (sub-zero (length names₀)) (sub-zero count);
       }
 
-  -- what is written in the end
-  composed :
-      (rows names : List ℕ) (used : ℕ) → rows ≡ sets rows₀ 0 (each groupBlock (rowsOfPairs m ps))
-      → filled names used ≡ appendAll (each (pairPieces m) ps) (filled names₀ 0) → Composed m ps rows₀ names₀ used rows names
-  composed rows names used e f =
-      let g : together (each (pairPieces m) ps) ≡ each rowNames (rowsOfPairs m ps) = pairs-names m ps in
-      record {
-        fits = λ h.
-            let o : filled names used ≡ filled (sets names₀ 0 (each rowNames (rowsOfPairs m ps))) (0 + length (each rowNames (rowsOfPairs m ps)))
-            = f ∙ all-fit (each (pairPieces m) ps) (filled names₀ 0) (rw g (omega (arith, h))) ∙ ap (λ (l : List ℕ). filled (sets names₀ 0 l) (0 + length l)) g in
-            (ap (λ (q : Filled). q .used) o ∙ zero-add (length (each rowNames (rowsOfPairs m ps))), e, ap (λ (q : Filled). q .holds) o);
-        spills = λ h.
-            ap (λ (q : Filled). q .used) f ∙ all-full (each (pairPieces m) ps) (filled names₀ 0) (omega arith) (rw g (omega (arith, h)));
-      }
+  module _ (rows names : List ℕ) (used i : ℕ) (l : Left m rows₀ names₀ count rows names used i) where
+    -- nothing is left
+    pub left-end : count ≤ i → Composed m (pairsBack count rows₀) rows₀ names₀ used rows names
+    unfolding pairsBack appendAll named rowsOfPairs
+    left-end h =
+        let e : count - i ≡ 0 = omega (arith, h) in
+        let none : leftAt count i rows ≡ [] = ap (λ (k : ℕ). pairsBack k (drop (i * rowNumbers) rows)) e in
+        record {
+          in-names = ap (λ (ps : List Pair). withNames m ps (filled names used)) (sym none) ∙ l .to-names;
+          in-rows = ap (λ (ps : List Pair). withRows m (named m (length names - used) ps) rows (i * rowNumbers)) (sym none) ∙ l .to-rows;
+        }
 
-  module _ (rows names : List ℕ) (used i : ℕ) where
-    pub left-end : Left m ps rows₀ names₀ count rows names used i → count ≤ i → Composed m ps rows₀ names₀ used rows names
-    unfolding rowsOfPairs appendAll
-    left-end l h = go (l .left) (l .number) (l .toRows) (l .toNames)
-      where
-        go :
-            (left : List Pair) → i + length left ≡ count → sets rows (i * rowNumbers) (each groupBlock (rowsOfPairs m left)) ≡ sets rows₀ 0 (each groupBlock (rowsOfPairs m ps))
-            → appendAll (each (pairPieces m) left) (filled names used) ≡ appendAll (each (pairPieces m) ps) (filled names₀ 0)
-            → Composed m ps rows₀ names₀ used rows names
-        go [] k e f = composed rows names used e f
-        go (p ∷ left) k e f = absurd (omega (arith, k, h))
+    module _ (h : i < count) (rows′ names′ : List ℕ) (z : ℕ) where
+      -- the match at place i, and those behind it
+      abbrev first : Pair
+      first = pairBack (drop (i * rowNumbers) rows)
 
-    -- the match at place i, and what is left behind it
-    pub record Next (l : Left m ps rows₀ names₀ count rows names used i) : Type 0 where
-      pub pair : Pair
-      pub behind : List Pair
-      pub all : l .left ≡ pair ∷ behind
-      pub is : pairBack (drop (i * rowNumbers) rows) ≡ pair
-      pub then : drop (i * rowNumbers + rowNumbers) rows ≡ each pairBlock behind ++ l .rest
+      abbrev others : List Pair
+      others = leftAt count (i + 1) rows
 
-    next : (l : Left m ps rows₀ names₀ count rows names used i) → i < count → Next l
-    next l h = go (l .left) refl
-      where
-        go : (left : List Pair) → l .left ≡ left → Next l
-        go [] e = absurd (omega (arith, h, l .number, ap (λ (q : List Pair). length q) e))
-        go (p ∷ left) e =
-            let s : AllShort (p ∷ left) = subst AllShort e (l .short) in
-            let b : drop (i * rowNumbers) rows ≡ pairBlock p ++ (each pairBlock left ++ l .rest)
-            = l .blocks ∙ ap (λ (q : List Pair). each pairBlock q ++ l .rest) e ∙ append-assoc (pairBlock p) (each pairBlock left) (l .rest) in
+      next : leftAt count i rows ≡ first ∷ others
+      unfolding pairsBack
+      next =
+          let e : count - i ≡ suc (count - (i + 1)) = omega (arith, h) in
+          let f : i * rowNumbers + rowNumbers ≡ (i + 1) * rowNumbers = omega arith in
+          ap (λ (k : ℕ). pairsBack k (drop (i * rowNumbers) rows)) e
+          ∙ ap (λ (q : List ℕ). first ∷ pairsBack (count - (i + 1)) q) (drop-drop rowNumbers (i * rowNumbers) rows ∙ ap (λ (k : ℕ). drop k rows) f)
+
+      module _ (u : used ≤ length names) (e : filled names′ z ≡ appendAll (pairPieces m first) (filled names used)) where
+        put : Written (pairPieces m first) names used names′ z
+        put = written (pairPieces m first) names used names′ z (omega (arith, u)) e
+
+        -- its names are put
+        names-turn : withNames m others (filled names′ z) ≡ withNames m (pairsBack count rows₀) (filled names₀ 0)
+        names-turn =
+            ap (withNames m others) e
+            ∙ sym (all-append (pairPieces m first) (each (pairPieces m) others) (filled names used))
+            ∙ ap (λ (ps : List Pair). withNames m ps (filled names used)) (sym next)
+            ∙ l .to-names
+
+        -- there is no room for them, and so for none behind them
+        pub left-full : length names < z → rows′ ≡ rows → Composed m (pairsBack count rows₀) rows₀ names₀ z rows′ names′
+        unfolding rowsOfPairs
+        left-full k r =
+            let full : z ≡ length names′ + 1 = omega (arith, k, put .bound, put .same) in
+            let past : length names < used + bytesOf m first = put .spills k in
+            let none : named m (length names - used) (leftAt count i rows) ≡ []
+            = ap (named m (length names - used)) next ∙ named-full m (length names - used) first others (omega (arith, past, u)) in
             record {
-              pair = p;
-              behind = left;
-              all = e;
-              is = ap pairBack b ∙ pair-back p (s .0) (each pairBlock left ++ l .rest);
-              then = sym (drop-drop rowNumbers (i * rowNumbers) rows) ∙ ap (drop rowNumbers) b ∙ drop-at (pairBlock p) (each pairBlock left ++ l .rest) rowNumbers (pair-length p (s .0));
+              in-names = ap (filled names′) full
+                  ∙ sym (all-past (each (pairPieces m) others) names′)
+                  ∙ ap (λ (k : ℕ). withNames m others (filled names′ k)) (sym full)
+                  ∙ names-turn;
+              in-rows = r ∙ ap (λ (ps : List Pair). withRows m ps rows (i * rowNumbers)) (sym none) ∙ l .to-rows;
             }
 
-    module _ (rows′ names′ : List ℕ) (z : ℕ) (l : Left m ps rows₀ names₀ count rows names used i) (h : i < count)
-        (e : filled names′ z ≡ appendAll (pairPieces m (pairBack (drop (i * rowNumbers) rows))) (filled names used)) where
-      abbrev after : List Pair
-      after = next l h .behind
-
-      -- its names are put
-      names-turn : appendAll (each (pairPieces m) after) (filled names′ z) ≡ appendAll (each (pairPieces m) ps) (filled names₀ 0)
-      names-turn =
-          let p : Pair = next l h .pair in
-          ap (appendAll (each (pairPieces m) after)) (e ∙ ap (λ (q : Pair). appendAll (pairPieces m q) (filled names used)) (next l h .is))
-          ∙ sym (all-append (pairPieces m p) (each (pairPieces m) after) (filled names used))
-          ∙ ap (λ (q : List Pair). appendAll (each (pairPieces m) q) (filled names used)) (sym (next l h .all))
-          ∙ l .toNames
-
-      -- there was no room for them
-      pub left-full : used ≤ length names → length names ≡ length names₀ → length names < z → Composed m ps rows₀ names₀ z rows′ names′
-      left-full b s k =
-          let w = written (pairPieces m (pairBack (drop (i * rowNumbers) rows))) names used names′ z (omega (arith, b)) e in
-          let u : appendAll (each (pairPieces m) ps) (filled names₀ 0) .used ≡ length names′ + 1
-          = ap (λ (q : Filled). q .used) (sym names-turn)
-          ∙ all-full (each (pairPieces m) after) (filled names′ z) (omega (arith, w .bound, w .same)) (omega (arith, k, w .same)) in
-          let g : together (each (pairPieces m) ps) ≡ each rowNames (rowsOfPairs m ps) = pairs-names m ps in
-          record {
-            fits = λ f.
-                let a : appendAll (each (pairPieces m) ps) (filled names₀ 0) .used ≡ 0 + length (together (each (pairPieces m) ps))
-                = ap (λ (q : Filled). q .used) (all-fit (each (pairPieces m) ps) (filled names₀ 0) (rw g (omega (arith, f)))) in
-                absurd (omega (arith, a, u, f, w .same, s, ap (λ (q : List ℕ). length q) g));
-            spills = λ f. omega (arith, k, w .bound, s);
-          }
-
-      -- the row is in its place
-      pub left-turn : rows′ ≡ sets rows (i * rowNumbers) (each groupBlock (pairRows m (pairBack (drop (i * rowNumbers) rows)))) → Left m ps rows₀ names₀ count rows′ names′ z (i + 1)
-      unfolding rowsOfPairs
-      left-turn r =
-          let p : Pair = next l h .pair in
-          let block : List ℕ = each groupBlock (pairRows m p) in
-          let n : i * rowNumbers + length block ≡ (i + 1) * rowNumbers = omega (arith, row-length m p) in
-          let n′ : (i + 1) * rowNumbers ≡ i * rowNumbers + rowNumbers = omega arith in
-          let r′ : rows′ ≡ sets rows (i * rowNumbers) block = r ∙ ap (λ (q : Pair). sets rows (i * rowNumbers) (each groupBlock (pairRows m q))) (next l h .is) in
-          record {
-            left = after;
-            rest = l .rest;
-            number = omega (arith, l .number, ap (λ (q : List Pair). length q) (next l h .all));
-            short = subst AllShort (next l h .all) (l .short) .1;
-            blocks = ap (drop ((i + 1) * rowNumbers)) r′ ∙ sets-behind block rows ((i + 1) * rowNumbers) (i * rowNumbers) (omega (arith, n)) ∙ ap (λ (k : ℕ). drop k rows) n′ ∙ next l h .then;
-            toRows = ap₂ (λ (q : List ℕ) (k : ℕ). sets q k (each groupBlock (rowsOfPairs m after))) r′ (sym n)
-                ∙ sym (sets-append block (each groupBlock (rowsOfPairs m after)) rows (i * rowNumbers))
-                ∙ ap (sets rows (i * rowNumbers)) (sym (each-append groupBlock (pairRows m p) (rowsOfPairs m after)))
-                ∙ ap (λ (q : List Pair). sets rows (i * rowNumbers) (each groupBlock (rowsOfPairs m q))) (sym (next l h .all))
-                ∙ l .toRows;
-            toNames = names-turn;
-          }
+        -- the row is in its place
+        pub left-turn : z ≤ length names → rows′ ≡ sets rows (i * rowNumbers) (each groupBlock (pairRows m first)) → Left m rows₀ names₀ count rows′ names′ z (i + 1)
+        unfolding rowsOfPairs
+        left-turn k r =
+            let block : List ℕ = each groupBlock (pairRows m first) in
+            let n : i * rowNumbers + length block ≡ (i + 1) * rowNumbers = omega (arith, row-length m first) in
+            let same : leftAt count (i + 1) rows′ ≡ others
+            = ap (leftAt count (i + 1)) r ∙ ap (pairsBack (count - (i + 1))) (sets-behind block rows ((i + 1) * rowNumbers) (i * rowNumbers) (omega (arith, n))) in
+            let ends : z ≡ used + bytesOf m first = put .fits k .1 in
+            let room : length names′ - z ≡ length names - used - bytesOf m first = omega (arith, ends, put .same) in
+            let rest : List Pair = named m (length names - used - bytesOf m first) others in
+            let all : named m (length names - used) (leftAt count i rows) ≡ first ∷ rest
+            = ap (named m (length names - used)) next ∙ named-fits m (length names - used) first others (omega (arith, k, ends)) in
+            record {
+              to-names = ap (λ (ps : List Pair). withNames m ps (filled names′ z)) same ∙ names-turn;
+              to-rows = ap₂ (λ (k : ℕ) (ps : List Pair). withRows m (named m k ps) rows′ ((i + 1) * rowNumbers)) room same
+                  ∙ ap₂ (withRows m rest) r (sym n)
+                  ∙ sym (sets-append block (each groupBlock (rowsOfPairs m rest)) rows (i * rowNumbers))
+                  ∙ ap (sets rows (i * rowNumbers)) (sym (each-append groupBlock (pairRows m first) (rowsOfPairs m rest)))
+                  ∙ ap (λ (ps : List Pair). withRows m ps rows (i * rowNumbers)) (sym all)
+                  ∙ l .to-rows;
+            }

@@ -13,7 +13,7 @@ use Rattle.as5506.specs.Layout.{groupBlock}
 use Rattle.as5506.proofs.Laws.{each-append}
 use Rattle.lent.specs.Append.{together}
 use Rattle.lent.proofs.Append.{together-append}
-use Rattle.group_names.specs.Compose.{Pair, pairRows, rowsOfPairs, ShortNames}
+use Rattle.group_names.specs.Pairs.{Pair, pairRows, rowsOfPairs, ShortNames}
 use Rattle.group_names.specs.Pieces.{joinedPieces, featureNames, ownPieces, sourcePieces, partnerPieces, pairPieces, blockWith}
 
 -- ---- joined names

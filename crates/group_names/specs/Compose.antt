@@ -1,58 +1,31 @@
 -- What composing the names of matches leaves in the outputs of rows and of names. Assumes nothing.
-use mathlib.Core.Option.{none, some}
+use mathlib.Core.Bool.{Bool, true, false}
 use mathlib.Core.Path.{_≡_}
 use mathlib.Core.List.{List, [], _∷_}
-use Prim.Native.Nat.{ℕ, _+_, _*_, _≤_, _<_}
-use lib.ListN.{length, take}
+use Prim.Native.Nat.{ℕ, _-_}
+use lib.Dec.{leb}
+use lib.ListN.{length}
 use lib.Seq.{sets}
 use Rattle.as5506.specs.Lists.{each}
-use Rattle.as5506.specs.Tables.{Tables, nameIn}
-use Rattle.as5506.specs.Groups.{Feature, depthLimit}
-use Rattle.as5506.specs.Rows.{Row}
-use Rattle.as5506.specs.GroupList.{matchRow}
-use Rattle.as5506.specs.Listing.{rowNames}
-use Rattle.as5506.specs.Layout.{rowNumbers, featureBlock, groupBlock}
-use Rattle.sink.specs.Take.{matchBlock}
+use Rattle.as5506.specs.Tables.{Tables}
+use Rattle.as5506.specs.Layout.{groupBlock}
+use Rattle.lent.specs.Append.{filled, appendAll, together}
+use Rattle.group_names.specs.Pairs.{Pair, rowsOfPairs}
+use Rattle.group_names.specs.Pieces.{pairPieces}
 
--- a match: a connection, its two components, a source feature and its partner
-pub record Pair : Type 0 where
-  pub conn : ℕ
-  pub src : ℕ
-  pub dst : ℕ
-  pub feature : Feature
-  pub partner : Feature
+-- by whether the names of the first match find room
+unfoldable pub namedBy : Bool → Pair → List Pair → List Pair
+namedBy true p ps = p ∷ ps
+namedBy false p ps = []
 
--- as it lies in the output of rows before its names are composed
-unfoldable pub pairBlock : Pair → List ℕ
-pairBlock p = matchBlock (p .conn) (p .src) (p .dst) (featureBlock (p .feature)) (featureBlock (p .partner))
+-- of these matches those from the front whose names all find room in so many bytes
+unfoldable pub named : Tables → ℕ → List Pair → List Pair
+named m room [] = []
+named m room (p ∷ ps) =
+    namedBy (leb (length (together (pairPieces m p))) room) p (named m (room - length (together (pairPieces m p))) ps)
 
--- its row; the ends' expansions are no part of it
-unfoldable pub pairRows : Tables → Pair → List Row
-pairRows m p = matchRow m (record { conn = p .conn; src = p .src; dst = p .dst; srcGroup = none; dstGroup = none }) (p .feature) (some (p .partner))
-
-unfoldable pub rowsOfPairs : Tables → List Pair → List Row
-rowsOfPairs m ps = each (pairRows m) ps
-
--- no prefix is longer than its places
-abbrev pub Short : Pair → Type 0
-Short p = (length (p .feature .prefix) ≤ depthLimit) × (length (p .partner .prefix) ≤ depthLimit)
-
-abbrev pub AllShort : List Pair → Type 0
-AllShort [] = Unit {0}
-AllShort (p ∷ ps) = Short p × AllShort ps
-
--- the output of rows holds these matches, from the front
-pub record Holds (rows : List ℕ) (count : ℕ) (ps : List Pair) : Type 0 where
-  pub number : length ps ≡ count
-  pub short : AllShort ps
-  pub blocks : take (count * rowNumbers) rows ≡ each pairBlock ps
-
--- no name is longer than 63 bytes
-abbrev pub ShortNames : List ℕ → List ℕ → Type 0
-ShortNames bytes n = (k : ℕ) → length (nameIn bytes n k) ≤ 63
-
--- afterwards: where the names fit, the rows are in place of the matches and the names lie one behind the other; else the output of names is full
+-- the names of the matches ps, one behind the other: z tells how much of the output they take, one more than there is where not all find room, which
+-- then has those pieces of names that do. Matches whose names all find room are rows now; behind them the output of rows is as it was.
 pub record Composed (m : Tables) (ps : List Pair) (rows names : List ℕ) (z : ℕ) (rows′ names′ : List ℕ) : Type 0 where
-  pub fits : length (each rowNames (rowsOfPairs m ps)) ≤ length names
-      → (z ≡ length (each rowNames (rowsOfPairs m ps))) × (rows′ ≡ sets rows 0 (each groupBlock (rowsOfPairs m ps))) × (names′ ≡ sets names 0 (each rowNames (rowsOfPairs m ps)))
-  pub spills : length names < length (each rowNames (rowsOfPairs m ps)) → z ≡ length names + 1
+  pub in-names : filled names′ z ≡ appendAll (each (pairPieces m) ps) (filled names 0)
+  pub in-rows : rows′ ≡ sets rows 0 (each groupBlock (rowsOfPairs m (named m (length names) ps)))

@@ -1,6 +1,8 @@
 -- The names of group rows.
 --
---     Compose   what composing leaves in the outputs of rows and of names
+--     Pairs     matches and their rows
 --     Pieces    the pieces that names are written in, and a match read back from its block
-pub mod Compose
+--     Compose   what composing leaves in the outputs of rows and of names
+pub mod Pairs
 pub mod Pieces
+pub mod Compose

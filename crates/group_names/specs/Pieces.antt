@@ -1,13 +1,13 @@
 -- The pieces that the names of a row are written in, and a match read back from its block. Assumes nothing.
 use mathlib.Core.List.{List, [], _∷_, _++_}
-use Prim.Native.Nat.{ℕ, min}
+use Prim.Native.Nat.{ℕ, zero, suc, min}
 use lib.ListN.{getD, take, drop}
 use Rattle.as5506.specs.Lists.{each}
 use Rattle.as5506.specs.Tables.{Tables, nameIn, source, destination, xName, xFeat}
 use Rattle.as5506.specs.Groups.{Feature}
 use Rattle.as5506.specs.GroupList.{connectionKind}
-use Rattle.as5506.specs.Layout.{rowBlock}
-use Rattle.group_names.specs.Compose.{Pair}
+use Rattle.as5506.specs.Layout.{rowNumbers, rowBlock}
+use Rattle.group_names.specs.Pairs.{Pair}
 
 -- a dot and name k
 abbrev pub dotPieces : List ℕ → List ℕ → ℕ → List (List ℕ)
@@ -51,3 +51,8 @@ pairBack b =
 -- a match's row, given the lengths of its names
 unfoldable pub blockWith : Pair → ℕ → ℕ → ℕ → List ℕ
 blockWith p a b c = rowBlock (p .conn) (connectionKind (p .feature .kind)) (p .src) (p .dst) a b c (p .conn ∷ [])
+
+-- the matches that the first `count` rows of an output are read as
+unfoldable pub pairsBack : ℕ → List ℕ → List Pair
+pairsBack zero rows = []
+pairsBack (suc count) rows = pairBack rows ∷ pairsBack count (drop rowNumbers rows)

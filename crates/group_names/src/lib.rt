@@ -7,8 +7,7 @@ use columns::connection;
 use lent::append_bytes;
 use lent::number_at;
 ghost use mathlib.Core.Path.{_≡_};
-ghost use mathlib.Core.List.{List};
-ghost use Prim.Native.Nat.{_+_, _*_, _≤_};
+ghost use Prim.Native.Nat.{_+_, _*_, _≤_, _<_};
 ghost use lib.ListN.{length, drop};
 ghost use lib.Seq.{sets};
 ghost use Rattle.as5506.specs.Lists.{each};
@@ -17,8 +16,9 @@ ghost use Rattle.as5506.specs.GroupList.{connectionKind};
 ghost use Rattle.as5506.specs.Layout.{rowNumbers, featureNumbers, groupBlock};
 ghost use Rattle.lent.specs.Append.{filled, append, appendAll};
 ghost use Rattle.lent.specs.Lent.{connectionsIn};
-ghost use Rattle.group_names.specs.Compose.{Pair, Holds, pairRows, ShortNames, Composed};
-ghost use Rattle.group_names.specs.Pieces.{dotPieces, joinedPieces, featureNames, pairPieces, prefixLength, featureBack, pairBack, blockWith};
+ghost use Rattle.group_names.specs.Pairs.{pairRows, ShortNames};
+ghost use Rattle.group_names.specs.Pieces.{dotPieces, joinedPieces, featureNames, pairPieces, prefixLength, featureBack, pairBack, blockWith, pairsBack};
+ghost use Rattle.group_names.specs.Compose.{Composed};
 
 // The places of a match: connection, two components, the source feature's block, its partner's.
 const SOURCE: usize = 3;
@@ -129,6 +129,7 @@ fn compose_row(
         ≡ appendAll (pairPieces (connectionsIn (now (bytes .entry)) (now (n .entry)) (now (x .entry))) (pairBack (drop place (now (rows .entry))))) (filled (now (names .entry)) used) ⌝ }
     ensures { λ z. ⌜ (z ≤ length (now (names .entry)) → now (rows .exit)
         ≡ sets (now (rows .entry)) place (each groupBlock (pairRows (connectionsIn (now (bytes .entry)) (now (n .entry)) (now (x .entry))) (pairBack (drop place (now (rows .entry))))))) ⌝ }
+    ensures { λ z. ⌜ (length (now (names .entry)) < z → now (rows .exit) ≡ now (rows .entry)) ⌝ }
 {
     let i = number_at(rows, place) as usize;
     let own = put_name(bytes, n, names, used, connection::name_of(x, i));
@@ -164,7 +165,7 @@ fn compose_row(
     c
 }
 
-// Turns the first `count` matches into their rows: how many bytes their names take, one more than there are where they do not fit.
+// Turns the first `count` matches into their rows, as long as their names find room: how many bytes these take, one more than there are where not all do.
 pub fn compose_names(
     bytes: &[u8],
     n: &[u32],
@@ -174,9 +175,9 @@ pub fn compose_names(
     names: &mut [u8],
 ) -> usize
     requires { ⌜ ShortNames (now bytes) (now n) × (count * rowNumbers ≤ length (now rows)) ⌝ }
-    ensures { λ z.
-        ⌜ ((ps : List Pair) → Holds (now (rows .entry)) count ps →
-        Composed (connectionsIn (now (bytes .entry)) (now (n .entry)) (now (x .entry))) ps (now (rows .entry)) (now (names .entry)) z (now (rows .exit)) (now (names .exit))) ⌝ }
+    ensures { λ z. ⌜ Composed
+        (connectionsIn (now (bytes .entry)) (now (n .entry)) (now (x .entry))) (pairsBack count (now (rows .entry)))
+        (now (rows .entry)) (now (names .entry)) z (now (rows .exit)) (now (names .exit)) ⌝ }
 {
     let mut used: usize = 0;
     let mut i: usize = 0;

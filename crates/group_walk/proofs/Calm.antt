@@ -26,7 +26,7 @@ use Rattle.group_walk.specs.declared.Walked.{Walked}
 use Rattle.group_walk.specs.declared.Walked.the-variants.{Done}
 use Rattle.group_walk.specs.Run.{Take, takeAll, visitLimit, over, going, goingBy, run, stateOf}
 use Rattle.group_walk.specs.Calm.{Dullness, AllDull, CalmAt, levels, Calm, Passable, CalmAfter}
-use Rattle.group_walk.proofs.Laws.{run-done}
+use Rattle.group_walk.proofs.Laws.{run-done, all-grow}
 
 -- ---- what a visit makes, whatever the inverse flag and the prefix
 
@@ -125,14 +125,6 @@ module _ (does : Take) (dull : Dullness) (law : Passing does dull) where
   all-stay [] k h d = d
   all-stay (f ∷ fs) k h d = all-stay fs k (does f h) (law .stays f k h d)
 
-  all-grow : (fs : List Feature) (h : Held) → Bounded h → Grown h (takeAll does fs h)
-  unfolding takeAll
-  all-grow [] h b = (omega arith, omega arith, b)
-  all-grow (f ∷ fs) h b =
-      let one : Grown h (does f h) = law .grows f h b in
-      let rest : Grown (does f h) (takeAll does fs (does f h)) = all-grow fs (does f h) (one .2) in
-      (omega (arith, one .0, rest .0), omega (arith, one .1, rest .1), rest .2)
-
   -- what leaves the use of both outputs as it was does nothing from then on
   all-quiet : (fs : List Feature) (h : Held) → Bounded h → takeAll does fs h .out .used ≡ h .out .used → takeAll does fs h .notes .used ≡ h .notes .used
       → All (λ f. dull (f .name) (takeAll does fs h)) fs
@@ -140,9 +132,9 @@ module _ (does : Take) (dull : Dullness) (law : Passing does dull) where
   all-quiet [] h b x y = tt
   all-quiet (f ∷ fs) h b x y =
       let one : Grown h (does f h) = law .grows f h b in
-      let rest : Grown (does f h) (takeAll does fs (does f h)) = all-grow fs (does f h) (one .2) in (
-        all-stay fs (f .name) (does f h) (law .quiet f h (omega (arith, one .0, rest .0, x)) (omega (arith, one .1, rest .1, y))),
-        all-quiet fs (does f h) (one .2) (omega (arith, one .0, rest .0, x)) (omega (arith, one .1, rest .1, y)),
+      let rest : Grown (does f h) (takeAll does fs (does f h)) = all-grow does (law .grows) fs (does f h) (one .2) in (
+        all-stay fs (f .name) (does f h) (law .quiet f h (omega (arith, one .0 .more, rest .0 .more, x)) (omega (arith, one .1 .more, rest .1 .more, y))),
+        all-quiet fs (does f h) (one .2) (omega (arith, one .0 .more, rest .0 .more, x)) (omega (arith, one .1 .more, rest .1 .more, y)),
       )
 
   -- ---- the table

@@ -16,13 +16,17 @@ use Rattle.as5506.specs.Groups.{Feature, Expansion, joined, oneVisit, oneFeatur
 use Rattle.as5506.proofs.Laws.{missing-is, present-is}
 use Rattle.as5506.proofs.Scans.{keep-hit, keep-miss, keep-done, keep-both}
 use Rattle.lent.specs.Lent.{declaredIn}
+use Rattle.lent.specs.Append.{filled}
+use Rattle.lent.proofs.Append.{front-then}
 use Rattle.links.specs.Links.{unfound}
 use Rattle.links.specs.Walk.{Groups, Visit, featureAt, rowBy, walk, rowsIn, extendedBy, typeBy, foundBy, visitLink}
 use Rattle.sink.specs.declared.Tally.{Tally}
 use Rattle.sink.specs.Take.{Held, held}
+use Rattle.sink.specs.Dull.{Bounded}
+use Rattle.sink.proofs.Dull.{Grown, grown-nothing, grown-then}
 use Rattle.group_walk.specs.declared.Walked.{Walked}
 use Rattle.group_walk.specs.declared.Walked.the-variants.{Over, Done}
-use Rattle.group_walk.specs.Run.{Take, takeAll, visitLimit, State, over, going, goingBy, run, stateOf}
+use Rattle.group_walk.specs.Run.{Take, takeAll, visitLimit, State, over, going, goingBy, run, stateOf, Behind}
 
 -- ---- a direction
 
@@ -146,6 +150,20 @@ module _ (does : Take) where
         let d = run-done t v memo out notes h k x (ap (λ (w : Walked). stateOf w memo out notes) (sym q) ∙ e) in
         (subst (λ (a : Held). Good (a .memo)) (sym (d .0)) (all-keep-memory (x .features) h g), omega (arith, d .1, d .2))
 
+  -- ---- where every feature only adds to the outputs, a walk does
+
+  module _ (grows : (f : Feature) (h : Held) → Bounded h → Grown h (does f h)) where
+    pub all-grow : (fs : List Feature) (h : Held) → Bounded h → Grown h (takeAll does fs h)
+    unfolding takeAll
+    all-grow [] h b = grown-nothing h b
+    all-grow (f ∷ fs) h b = grown-then h (does f h) (takeAll does fs (does f h)) (grows f h b) (all-grow fs (does f h) (grows f h b .2))
+
+    pub done-grown : (r : Walked) (memo out notes : List ℕ) (h : Held) (k : ℕ) (x : Expansion) (t : Tally) (v : ℕ) → stateOf r memo out notes ≡ run does (going h k) x
+        → r ≡ Done t v → Bounded h → Grown h (held t memo out notes)
+    done-grown r memo out notes h k x t v e q b =
+        let d = run-done t v memo out notes h k x (ap (λ (w : Walked). stateOf w memo out notes) (sym q) ∙ e) in
+        subst (Grown h) (sym (d .0)) (all-grow (x .features) h b)
+
   -- ---- the answer of a part, and what follows it
 
   module _ (r : Walked) (memo out notes : List ℕ) (s : State) (x : Expansion) (e : stateOf r memo out notes ≡ run does s x) where
@@ -163,6 +181,20 @@ module _ (does : Take) where
     pub done-then : (t : Tally) (v : ℕ) → r ≡ Done t v → (y : Expansion) → run does (run does s x) y ≡ run does (going (held t memo out notes) v) y
     unfolding stateOf
     done-then t v q y = rw (← e, q)
+
+-- ---- what stood in the outputs
+
+pub behind-nothing : (t : Tally) (out notes : List ℕ) → Behind t out notes out notes
+behind-nothing t out notes = record { in-out = refl; in-notes = refl }
+
+-- what is written behind what was added is behind what stood there
+pub behind-then : (t u : Tally) (memo out notes memo₁ out₁ notes₁ out₂ notes₂ : List ℕ) → Grown (held t memo out notes) (held u memo₁ out₁ notes₁)
+    → Behind u out₁ notes₁ out₂ notes₂ → Behind t out notes out₂ notes₂
+behind-then t u memo out notes memo₁ out₁ notes₁ out₂ notes₂ a b =
+    record {
+      in-out = front-then (filled out (t .used)) (filled out₁ (u .used)) out₂ (a .0) (b .in-out);
+      in-notes = front-then (filled notes (t .noted)) (filled notes₁ (u .noted)) notes₂ (a .1) (b .in-notes);
+    }
 
 -- ---- what a link leads to
 

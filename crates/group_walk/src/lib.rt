@@ -23,7 +23,7 @@ ghost use Rattle.lent.specs.Lent.{declaredIn};
 ghost use Rattle.links.specs.Walk.{groupsIn, rowsIn, walk, typeBy, visitLink};
 ghost use Rattle.sink.specs.Take.{held, taken};
 ghost use Rattle.sink.specs.Dull.{Dull};
-ghost use Rattle.group_walk.specs.Run.{going, run, stateOf};
+ghost use Rattle.group_walk.specs.Run.{going, run, stateOf, Behind};
 ghost use Rattle.group_walk.specs.Calm.{CalmAfter};
 ghost use Rattle.group_walk.specs.Ready.{VisitReady, TypeReady};
 
@@ -92,6 +92,7 @@ pub fn visit(
         (visitLink (groupsIn (now (e .entry)) (now (nested .entry)) (now (extends .entry)) (now (inverses .entry))) left to inverse (take len prefix)) ⌝ }
     ensures { λ z. ⌜ CalmAfter z (groupsIn (now (e .entry)) (now (nested .entry)) (now (extends .entry)) (now (inverses .entry))) (Dull purpose (now (bytes .entry)) (now (n .entry)) (now (kept .entry)))
         (now (memo .exit)) (now (out .exit)) (now (notes .exit)) (now (calm .exit)) ⌝ }
+    ensures { λ _. ⌜ Behind tally (now (out .entry)) (now (notes .entry)) (now (out .exit)) (now (notes .exit)) ⌝ }
 {
     if VISITS <= visits {
         return Walked::Over;
@@ -194,6 +195,7 @@ fn expand_type(
         (visitLink (groupsIn (now (e .entry)) (now (nested .entry)) (now (extends .entry)) (now (inverses .entry))) left) inverse (take len prefix) row) ⌝ }
     ensures { λ z. ⌜ CalmAfter z (groupsIn (now (e .entry)) (now (nested .entry)) (now (extends .entry)) (now (inverses .entry))) (Dull purpose (now (bytes .entry)) (now (n .entry)) (now (kept .entry)))
         (now (memo .exit)) (now (out .exit)) (now (notes .exit)) (now (calm .exit)) ⌝ }
+    ensures { λ _. ⌜ Behind tally (now (out .entry)) (now (notes .entry)) (now (out .exit)) (now (notes .exit)) ⌝ }
 {
     let place = row as usize;
     let back = number_at(inverses, place);
@@ -324,6 +326,7 @@ fn walk_features(
         (rowsIn (groupsIn (now (e .entry)) (now (nested .entry)) (now (extends .entry)) (now (inverses .entry))) row)) ⌝ }
     ensures { λ z. ⌜ CalmAfter z (groupsIn (now (e .entry)) (now (nested .entry)) (now (extends .entry)) (now (inverses .entry))) (Dull purpose (now (bytes .entry)) (now (n .entry)) (now (kept .entry)))
         (now (memo .exit)) (now (out .exit)) (now (notes .exit)) (now (calm .exit)) ⌝ }
+    ensures { λ _. ⌜ Behind tally (now (out .entry)) (now (notes .entry)) (now (out .exit)) (now (notes .exit)) ⌝ }
 {
     let count = e.len() / E_NUMBERS;
     let mut so_far = tally;

@@ -22,11 +22,15 @@ listed (refused r) = Refused (told r)
 abbrev pub answerFor : Tables → List ℕ → List ℕ → Answer TracedList
 answerFor m rows diags = tracedAnswer (roomIn (length rows) (length diags)) m
 
--- THE CONTRACT: a call on the tables m with the outputs `rows` and `diags` answers z and leaves rows′ and diags′ in them. The last field is demand
--- 3: the rows counted and handed back, with the bytes of their three names, are the rows without a limit exactly when no followed chain has a
--- twenty-first step
-pub record TracedInto (m : Tables) (rows diags : List ℕ) (z : Listed) (rows′ diags′ : List ℕ) : Type 0 where
-  pub answer : z ≡ listed (answerFor m rows diags)
-  pub written-rows : rows′ ≡ output (length rows) (tracedRowNumbers m) (answerFor m rows diags)
-  pub written-diagnostics : diags′ ≡ output (length diags) tracedDiagNumbers (answerFor m rows diags)
+-- THE CONTRACT: a call on the tables m with the outputs `rows` and `diags`, for which the definition's answer is `wanted`, answers z and leaves rows′ and
+-- diags′ in them. The last field is demand 3: the rows counted and handed back, with the bytes of their three names, are the rows without a limit
+-- exactly when no followed chain has a twenty-first step
+pub record TracedAs (wanted : Answer TracedList) (m : Tables) (rows diags : List ℕ) (z : Listed) (rows′ diags′ : List ℕ) : Type 0 where
+  pub answer : z ≡ listed wanted
+  pub written-rows : rows′ ≡ output (length rows) (tracedRowNumbers m) wanted
+  pub written-diagnostics : diags′ ≡ output (length diags) tracedDiagNumbers wanted
   pub step-limit : (k d : ℕ) → z ≡ Rows k d → (rowsBack m k rows′ ≡ unlimited m) ↔ NoneHasNext stepLimit m
+
+-- of the call over numbers: the room is what the outputs hold
+abbrev pub TracedInto : Tables → List ℕ → List ℕ → Listed → List ℕ → List ℕ → Type 0
+TracedInto m rows diags z rows′ diags′ = TracedAs (answerFor m rows diags) m rows diags z rows′ diags′

@@ -8,11 +8,11 @@ use native.Mathlib.Omega.{arith}
 use native.Mathlib.Decide.{decLe}
 use borrow.Author.Tests.{le-leb, lt-leb}
 use lib.Dec.{leb}
-use lib.ListN.{length, length-append}
-use lib.Seq.{sets, length-sets}
+use lib.ListN.{length, length-append, take}
+use lib.Seq.{sets, length-sets, take-take}
 use Rattle.as5506.proofs.Laws.{each-append}
 use Rattle.lent.specs.Append.{Filled, filled, appendBy, append, appendAll, together}
-use Rattle.lent.proofs.Sets.{sets-append}
+use Rattle.lent.proofs.Sets.{sets-append, sets-before}
 
 -- ---- one piece
 
@@ -51,6 +51,31 @@ past p o n b = go (decLe (o .used + length p) (length (o .holds)))
     go : Dec (o .used + length p ≤ length (o .holds)) → length (o .holds) < append p o .used + n
     go (yes h) = rw (append-fits p o h) b
     go (no h) = rw (append-full p o (omega (arith, h))) (omega arith)
+
+-- ---- what is used stays
+
+-- an output that was o is n now: no less of it is used, and what was used is as it was
+pub record Added (o n : Filled) : Type 0 where
+  pub more : o .used ≤ n .used
+  pub front : take (o .used) (n .holds) ≡ take (o .used) (o .holds)
+
+pub added-nothing : (o : Filled) → Added o o
+added-nothing o = record { more = omega arith; front = refl }
+
+-- what leaves the front of the one leaves that of the other
+pub front-then : (o n : Filled) (l : List ℕ) → Added o n → take (n .used) l ≡ take (n .used) (n .holds) → take (o .used) l ≡ take (o .used) (o .holds)
+front-then o n l a e =
+    sym (take-take (o .used) (n .used) l (a .more)) ∙ ap (take (o .used)) e ∙ take-take (o .used) (n .used) (n .holds) (a .more) ∙ a .front
+
+pub added-then : (o n m : Filled) → Added o n → Added n m → Added o m
+added-then o n m a b = record { more = omega (arith, a .more, b .more); front = front-then o n (m .holds) a (b .front) }
+
+pub append-adds : (p : List ℕ) (o : Filled) → o .used ≤ length (o .holds) + 1 → Added o (append p o)
+append-adds p o b = go (decLe (o .used + length p) (length (o .holds)))
+  where
+    go : Dec (o .used + length p ≤ length (o .holds)) → Added o (append p o)
+    go (yes h) = rw (append-fits p o h) (record { more = omega arith; front = sets-before p (o .holds) (o .used) (o .used) (omega arith) })
+    go (no h) = rw (append-full p o (omega (arith, h))) (record { more = b; front = refl })
 
 -- ---- pieces, one behind the other
 
@@ -96,6 +121,28 @@ all-full (p ∷ ps) o b h =
     let then : length (o .holds) < append p o .used + length (together ps) = past p o (length (together ps)) (omega (arith, h, k)) in
     all-full ps (append p o) (rw (append-length p o) (append-bound p o)) (rw (append-length p o) then) ∙ ap (λ (n : ℕ). n + 1) (append-length p o)
 
+-- which of both it was, by how much is used behind them
+pub all-kept : (ps : List (List ℕ)) (o : Filled) → o .used ≤ length (o .holds) + 1 → appendAll ps o .used ≤ length (o .holds)
+    → o .used + length (together ps) ≤ length (o .holds)
+all-kept ps o b h = go (decLe (o .used + length (together ps)) (length (o .holds)))
+  where
+    go : Dec (o .used + length (together ps) ≤ length (o .holds)) → o .used + length (together ps) ≤ length (o .holds)
+    go (yes k) = k
+    go (no k) = absurd (omega (arith, h, all-full ps o b (omega (arith, k))))
+
+pub all-spilt : (ps : List (List ℕ)) (o : Filled) → length (o .holds) < appendAll ps o .used → length (o .holds) < o .used + length (together ps)
+all-spilt ps o h = go (decLe (o .used + length (together ps)) (length (o .holds)))
+  where
+    go : Dec (o .used + length (together ps) ≤ length (o .holds)) → length (o .holds) < o .used + length (together ps)
+    go (yes k) = absurd (omega (arith, h, k, ap (λ (x : Filled). x .used) (all-fit ps o k)))
+    go (no k) = omega (arith, k)
+
+-- behind an output that is full they change nothing
+pub all-past : (ps : List (List ℕ)) (l : List ℕ) → appendAll ps (filled l (length l + 1)) ≡ filled l (length l + 1)
+unfolding appendAll
+all-past [] l = refl
+all-past (p ∷ ps) l = ap (appendAll ps) (sym (append-past p l (length l + 1) (omega arith))) ∙ all-past ps l
+
 -- ---- pieces written from the front of an output, and how much of it is used then
 
 -- l is the output before, l₁ after, ns the pieces as one
@@ -106,20 +153,14 @@ pub record Used (l l₁ : List ℕ) (used : ℕ) (ns : List ℕ) : Type 0 where
 
 pub used-by : (ps : List (List ℕ)) (l l₁ : List ℕ) (used : ℕ) (ns : List ℕ) → together ps ≡ ns → filled l₁ used ≡ appendAll ps (filled l 0) → Used l l₁ used ns
 used-by ps l l₁ used ns one e =
+    let o : Filled = filled l 0 in
+    let u : used ≡ appendAll ps o .used = ap (λ (x : Filled). x .used) e in
     subst (Used l l₁ used) one
     (record {
-      same = ap (λ (o : Filled). length (o .holds)) e ∙ all-length ps (filled l 0);
-      spills = λ h. spill h (decLe (length (together ps)) (length l));
-      fits = λ h. fit h (decLe (length (together ps)) (length l));
+      same = ap (λ (x : Filled). length (x .holds)) e ∙ all-length ps o;
+      spills = λ h. omega (arith, all-spilt ps o (subst (λ (k : ℕ). length l < k) u h));
+      fits = λ h.
+          let room : 0 + length (together ps) ≤ length l = all-kept ps o (omega arith) (subst (λ (k : ℕ). k ≤ length l) u h) in
+          let all : filled l₁ used ≡ filled (sets l 0 (together ps)) (0 + length (together ps)) = e ∙ all-fit ps o room in
+          (omega (arith, room), ap (λ (x : Filled). x .used) all ∙ zero-add (length (together ps)), ap (λ (x : Filled). x .holds) all);
     })
-  where
-    all : length (together ps) ≤ length l → filled l₁ used ≡ filled (sets l 0 (together ps)) (length (together ps))
-    all h = e ∙ all-fit ps (filled l 0) (omega (arith, h)) ∙ ap (filled (sets l 0 (together ps))) (zero-add (length (together ps)))
-
-    spill : length l < used → Dec (length (together ps) ≤ length l) → length l < length (together ps)
-    spill h (yes k) = absurd (omega (arith, h, k, ap (λ (o : Filled). o .used) (all k)))
-    spill h (no k) = omega (arith, k)
-
-    fit : used ≤ length l → Dec (length (together ps) ≤ length l) → (length (together ps) ≤ length l) × (used ≡ length (together ps)) × (l₁ ≡ sets l 0 (together ps))
-    fit h (yes k) = (k, ap (λ (o : Filled). o .used) (all k), ap (λ (o : Filled). o .holds) (all k))
-    fit h (no k) = absurd (omega (arith, h, ap (λ (o : Filled). o .used) e, all-full ps (filled l 0) (omega arith) (omega (arith, k))))

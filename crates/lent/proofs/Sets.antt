@@ -1,13 +1,13 @@
 -- Laws of `sets l i vs`, the list l with the block vs written from place i on, as far as l reaches: what `put_numbers` and `put_bytes` leave.
 -- Numbers and bytes are both ℕ. Its length is `length-sets`, and the list in three parts `sets-eq`, of lib.Seq. Assumes nothing.
 use mathlib.Core.Path.{_≡_, refl, sym, ap, _∙_}
-use mathlib.Core.List.{List, [], _∷_, _++_, append-assoc, append-nil}
+use mathlib.Core.List.{List, [], _∷_, _++_, append-nil}
 use Prim.Native.Nat.{ℕ, zero, suc, _+_, _-_, _≤_, _<_}
 use native.Mathlib.Nat.{add-zero, add-suc, suc-add, sub-zero, zero-sub, suc-sub-suc}
 use native.Mathlib.Numerals.{add-one}
 use native.Mathlib.Omega.{arith}
 use lib.ListN.{length, take, drop, getD, set, drop-of-length-le}
-use lib.Seq.{sets, sets-eq, length-sets, drop-cons, set-out, getD-set-other, drop-set-lt, take-append-seam, drop-at, length-take-le}
+use lib.Seq.{sets, sets-eq, length-sets, drop-cons, set-out, getD-set-other, take-set-le, drop-set-lt}
 use Rattle.as5506.specs.Lists.{zeros}
 
 -- ---- writing
@@ -45,6 +45,11 @@ sets-other [] l i j h = refl
 sets-other (v ∷ vs) l i j h =
     sets-other vs (set l i v) (suc i) j (λ p q. h (omega arith) (omega arith)) ∙ getD-set-other l i j v 0 (λ e. h (omega arith) (omega arith))
 
+-- what stands before the block stays
+pub sets-before : (vs l : List ℕ) (n i : ℕ) → n ≤ i → take n (sets l i vs) ≡ take n l
+sets-before [] l n i h = refl
+sets-before (v ∷ vs) l n i h = sets-before vs (set l i v) n (suc i) (omega arith) ∙ take-set-le n l i v h
+
 -- what stands behind the block stays
 pub sets-behind : (vs l : List ℕ) (n i : ℕ) → i + length vs ≤ n → drop n (sets l i vs) ≡ drop n l
 sets-behind [] l n i h = refl
@@ -56,12 +61,6 @@ sets-again vs ws l e h =
     sets-eq ws (sets l 0 vs) 0 (omega (arith, h, length-sets l 0 vs))
     ∙ ap (λ (r : List ℕ). ws ++ r) (sets-behind vs l (0 + length ws) 0 (omega (arith, e)))
     ∙ sym (sets-eq ws l 0 (omega (arith, h)))
-
--- the block itself, read back as a part
-pub sets-block : (vs l : List ℕ) (i : ℕ) → i + length vs ≤ length l → take (length vs) (drop i (sets l i vs)) ≡ vs
-sets-block vs l i h =
-    rw (sets-eq vs l i h, append-assoc (take i l) vs (drop (i + length vs) l))
-    (rw (drop-at (take i l) (vs ++ drop (i + length vs) l) i (length-take-le i l (omega arith))) (take-append-seam vs (drop (i + length vs) l)))
 
 -- ---- zeros
 

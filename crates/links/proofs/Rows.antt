@@ -1,21 +1,22 @@
 -- A law for each return and for the turn of the loops: what a call gave, read as a link, and a table that is filled row by row. Assumes nothing.
 use mathlib.Core.Path.{_≡_, sym, ap, _∙_}
-use mathlib.Core.List.{List}
-use Prim.Native.Nat.{ℕ, _+_, _*_, _≤_, _<_}
-use native.Mathlib.Nat.{add-zero, mul-one, not-suc-le-zero}
-use native.Mathlib.Decide.{decLe}
-use native.Mathlib.Omega.{arith}
+use mathlib.Core.List.{List, map}
+use Prim.Native.Nat.{ℕ, _+_, _-_, _*_, _≤_, _<_}
+use native.Mathlib.Nat.{add-zero, sub-zero, mul-one}
+use native.Mathlib.Numerals.{add-one}
 use borrow.Author.Tests.{eq-eqb, ne-eqb}
 use lib.Dec.{eqb}
-use lib.ListN.{length, getD, set}
-use lib.Seq.{getD-set-same, getD-set-other}
+use lib.ListN.{getD, set}
+use lib.Seq.{sets}
+use Rattle.as5506.specs.Lists.{span}
 use Rattle.as5506.specs.Tables.{Tables, missing, present, Ref, ref, pName, uPackage, uExtends, uInverseOf, eHolderKind, eHolder, eKind, eClassifier}
 use Rattle.as5506.specs.Resolve.{resolve}
 use Rattle.as5506.proofs.Laws.{and-false}
+use Rattle.as5506.proofs.Scans.{span-next, span-done}
 use Rattle.resolver.specs.declared.Resolved.{Resolved}
 use Rattle.resolver.specs.Found.{found}
 use Rattle.resolver.proofs.Answers.{meant, means}
-use Rattle.links.specs.Links.{groupRow, linkOf, linkIn, extendsLink, inverseLink, nestedLink, Holds}
+use Rattle.links.specs.Links.{groupRow, linkOf, linkIn, extendsLink, inverseLink, nestedLink, linksTo}
 
 module _ (m : Tables) where
   -- z is what the resolver gave, and y the case that it is
@@ -69,20 +70,24 @@ module _ (m : Tables) where
 
 -- ---- a table that is filled row by row
 
-module _ (link : ℕ → ℕ) (table : List ℕ) where
-  pub holds-none : Holds link table 0
-  unfolding Holds
-  holds-none i h = absurd (not-suc-le-zero h)
+-- the links of the rows from `row` on are left to write, and then it is what it has to be; table₀ is the table at first
+unfoldable pub Filling : (ℕ → ℕ) → ℕ → List ℕ → List ℕ → ℕ → Type 0
+Filling link n table₀ table row = sets table row (map link (span row (n - row))) ≡ sets table₀ 0 (linksTo link n)
 
-  -- the link of one more row is written
-  pub holds-turn : (row v : ℕ) (written : List ℕ) → row < length table → v ≡ link row → written ≡ set table row v → Holds link table row → Holds link written (row + 1)
-  unfolding Holds
-  holds-turn row v written h e w t i l = ap (λ (s : List ℕ). getD s i 0) w ∙ go (decLe row i)
-    where
-      go : Dec (row ≤ i) → getD (set table row v) i 0 ≡ link i
-      go (yes p) = let q : i ≡ row = omega arith in rw q (getD-set-same table row v 0 h ∙ e)
-      go (no p) = getD-set-other table row i v 0 (λ q. p (omega arith)) ∙ t i (omega arith)
+module _ (link : ℕ → ℕ) (n : ℕ) (table₀ : List ℕ) where
+  pub filling-all : Filling link n table₀ table₀ 0
+  unfolding Filling
+  filling-all = rw (sub-zero n)
 
-  pub holds-end : (row n : ℕ) → n ≤ row → Holds link table row → Holds link table n
-  unfolding Holds
-  holds-end row n h t i l = t i (omega arith)
+  module _ (table : List ℕ) (row : ℕ) where
+    -- the link of row `row` is written first
+    next : row < n → sets table row (map link (span row (n - row))) ≡ sets (set table row (link row)) (row + 1) (map link (span (row + 1) (n - (row + 1))))
+    next h = rw (span-next row n h, add-one row)
+
+    pub filling-turn : (v : ℕ) (written : List ℕ) → row < n → v ≡ link row → written ≡ set table row v → Filling link n table₀ table row → Filling link n table₀ written (row + 1)
+    unfolding Filling
+    filling-turn v written h e w t = rw (w, e) (sym (next h) ∙ t)
+
+    pub filling-end : n ≤ row → Filling link n table₀ table row → table ≡ sets table₀ 0 (linksTo link n)
+    unfolding Filling
+    filling-end h t = sym (ap (λ (is : List ℕ). sets table row (map link is)) (span-done row n h)) ∙ t

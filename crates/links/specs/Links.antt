@@ -1,10 +1,12 @@
 -- What the references of group types and of their features mean: each as one number, by its row. Assumes nothing.
 use mathlib.Core.Bool.{Bool, _&&_, cond}
 use mathlib.Core.Path.{_≡_}
-use mathlib.Core.List.{List}
+use mathlib.Core.List.{List, map}
 use Prim.Native.Nat.{ℕ, _/_, _≤_, _<_}
 use lib.Dec.{eqb}
 use lib.ListN.{length, getD}
+use lib.Seq.{sets}
+use Rattle.as5506.specs.Lists.{upTo}
 use Rattle.as5506.specs.Tables.{Tables, missing, present, width, letterU, letterE, count, Ref, pName, uPackage, uExtends, uInverseOf, eHolderKind, eHolder, eClassifier}
 use Rattle.as5506.specs.Resolve.{Resolved, componentType, componentImpl, groupType, unresolved, resolve}
 use Rattle.as5506.specs.Groups.{isNested}
@@ -40,30 +42,24 @@ inverseLink m u = linkIn (present (uInverseOf m u .type)) m u (uInverseOf m u)
 unfoldable pub nestedLink : Tables → ℕ → ℕ
 nestedLink m e = linkIn (eqb (eHolderKind m e) 1 && isNested m e) m (eHolder m e) (eClassifier m e)
 
--- a table that has the links of the rows below n
-unfoldable pub Holds : (ℕ → ℕ) → List ℕ → ℕ → Type 0
-Holds link table n = (i : ℕ) → i < n → getD table i 0 ≡ link i
+-- the links of the first n rows
+abbrev pub linksTo : (ℕ → ℕ) → ℕ → List ℕ
+linksTo link n = map link (upTo n)
 
--- the three tables: nested by E row, extends and inverse by U row
+-- what the three tables hold once they are written: the links of all rows from the front, and behind them what was there
+pub record LinkedInto (m : Tables) (nested extends inverse nested′ extends′ inverse′ : List ℕ) : Type 0 where
+  pub in-nested : nested′ ≡ sets nested 0 (linksTo (nestedLink m) (count m letterE))
+  pub in-extends : extends′ ≡ sets extends 0 (linksTo (extendsLink m) (count m letterU))
+  pub in-inverse : inverse′ ≡ sets inverse 0 (linksTo (inverseLink m) (count m letterU))
+
+-- three tables that have them: nested by E row, extends and inverse by U row
 pub record Linked (m : Tables) (nested extends inverse : List ℕ) : Type 0 where
   pub of-nested : (e : ℕ) → e < count m letterE → getD nested e 0 ≡ nestedLink m e
   pub of-extends : (u : ℕ) → u < count m letterU → getD extends u 0 ≡ extendsLink m u
   pub of-inverse : (u : ℕ) → u < count m letterU → getD inverse u 0 ≡ inverseLink m u
 
--- ---- what the outputs are asked for: a link has a number below `unfound`, and each row has a place for it
-
--- extends and inverse by U row
-pub record TypesFit (u extends inverse : List ℕ) : Type 0 where
-  pub few-types : length u / width letterU ≤ 4096
+-- tables in which each row has a place for its link
+pub record LinksFit (u e nested extends inverse : List ℕ) : Type 0 where
+  pub fits-nested : length e / width letterE ≤ length nested
   pub fits-extends : length u / width letterU ≤ length extends
   pub fits-inverse : length u / width letterU ≤ length inverse
-
--- nested by E row
-pub record FeaturesFit (u e nested : List ℕ) : Type 0 where
-  pub few-types : length u / width letterU ≤ 4096
-  pub fits-nested : length e / width letterE ≤ length nested
-
--- all three
-pub record LinksFit (u e nested extends inverse : List ℕ) : Type 0 where
-  pub fits-types : TypesFit u extends inverse
-  pub fits-features : FeaturesFit u e nested

@@ -10,9 +10,10 @@ use resolver::Resolved;
 ghost use mathlib.Core.Path.{_≡_};
 ghost use Prim.Native.Nat.{_/_, _≤_};
 ghost use lib.ListN.{length};
+ghost use lib.Seq.{sets};
 ghost use Rattle.as5506.specs.Tables.{Tables, width, letterU, letterE, count, present, ref};
 ghost use Rattle.lent.specs.Lent.{withE, packagesAt};
-ghost use Rattle.links.specs.Links.{linkOf, linkIn, extendsLink, inverseLink, nestedLink, Holds, Linked, TypesFit, FeaturesFit, LinksFit};
+ghost use Rattle.links.specs.Links.{linkOf, linkIn, extendsLink, inverseLink, nestedLink, linksTo, LinkedInto};
 
 // The link of a reference that names no group type.
 pub const UNFOUND: u32 = 4294967294;
@@ -114,11 +115,12 @@ fn link_types(
     extends: &mut [u32],
     inverse: &mut [u32],
 )
-    requires { ⌜ TypesFit (now u) (now extends) (now inverse) ⌝ }
+    requires { ⌜ length (now u) / width letterU ≤ 4096 ⌝ }
     ensures { λ _.
         ⌜ ((o : Tables) →
         let m : Tables = packagesAt bytes n p i t q u r o in
-        Holds (extendsLink m) (now (extends .exit)) (count m letterU) × Holds (inverseLink m) (now (inverse .exit)) (count m letterU)) ⌝ }
+        (now (extends .exit) ≡ sets (now (extends .entry)) 0 (linksTo (extendsLink m) (count m letterU)))
+        × (now (inverse .exit) ≡ sets (now (inverse .entry)) 0 (linksTo (inverseLink m) (count m letterU)))) ⌝ }
 {
     let count = u.len() / U_NUMBERS;
     let mut row: usize = 0;
@@ -213,11 +215,11 @@ fn link_features(
     r: &[u32],
     nested: &mut [u32],
 )
-    requires { ⌜ FeaturesFit (now u) (now e) (now nested) ⌝ }
+    requires { ⌜ length (now u) / width letterU ≤ 4096 ⌝ }
     ensures { λ _.
         ⌜ ((o : Tables) →
         let m : Tables = packagesAt bytes n p i t q u r (withE (now (e .entry)) o) in
-        Holds (nestedLink m) (now (nested .exit)) (count m letterE)) ⌝ }
+        now (nested .exit) ≡ sets (now (nested .entry)) 0 (linksTo (nestedLink m) (count m letterE))) ⌝ }
 {
     let count = e.len() / E_NUMBERS;
     let mut row: usize = 0;
@@ -243,11 +245,11 @@ pub fn link_groups(
     extends: &mut [u32],
     inverse: &mut [u32],
 )
-    requires { ⌜ LinksFit (now u) (now e) (now nested) (now extends) (now inverse) ⌝ }
+    requires { ⌜ length (now u) / width letterU ≤ 4096 ⌝ }
     ensures { λ _.
         ⌜ ((o : Tables) →
         let m : Tables = packagesAt bytes n p i t q u r (withE (now (e .entry)) o) in
-        Linked m (now (nested .exit)) (now (extends .exit)) (now (inverse .exit))) ⌝ }
+        LinkedInto m (now (nested .entry)) (now (extends .entry)) (now (inverse .entry)) (now (nested .exit)) (now (extends .exit)) (now (inverse .exit))) ⌝ }
 {
     link_types(bytes, n, p, i, t, q, u, r, extends, inverse);
     link_features(bytes, n, p, i, t, q, u, e, r, nested);

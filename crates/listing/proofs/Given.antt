@@ -16,7 +16,7 @@ use Rattle.as5506.specs.Refusals.{faults}
 use Rattle.as5506.specs.Groups.{Feature}
 use Rattle.as5506.specs.GroupList.{GroupConnection, groupConnections, overrun, Match, matches, matchRow, rowsMatched}
 use Rattle.as5506.specs.Tracing.{stepLimit}
-use Rattle.as5506.specs.Listing.{Room, TracedList, GroupList, BothLists, rowsOver, namesOver, diagsOver, tracedList, tracedWithin, tracedOn, tracedAnswer, groupListOf, groupWithin, groupOf, withGroup, afterTraced, bothAnswer}
+use Rattle.as5506.specs.Listing.{Room, TracedList, GroupList, BothLists, rowsOver, namesOver, diagsOver, tracedList, tracedWithin, tracedOn, tracedAnswer, groupListOf, groupWithin, groupOf, groupOn, groupAnswer, withGroup, afterTraced, bothAnswer}
 use Rattle.as5506.specs.Layout.{rowNumbers, diagNumbers, roomIn}
 use Rattle.as5506.specs.Program.{room, namesLent}
 use Rattle.as5506.specs.declared.Refusal.{Refusal as Told}
@@ -74,6 +74,10 @@ traced-fits room m [] =
     })
 traced-fits room m (r ∷ fs) = tt
 
+pub traced-fit : (room : Room) (m : Tables) → Holds (TracedFits room) (tracedAnswer room m)
+unfolding tracedAnswer
+traced-fit room m = traced-fits room m (faults m)
+
 -- ---- the group listing: a row's path is its connection
 
 row-short : (m : Tables) (b : GroupConnection) (s : Feature) (d : Option Feature) → All ShortRow (matchRow m b s d)
@@ -105,6 +109,15 @@ group-fits : (room : Room) (names : ℕ) (m : Tables) (bs : List GroupConnection
 unfolding groupOf
 group-fits room names m bs = within-fits room names (overrun bs) (groupListOf m (matches m bs)) (rows-short m (matches m bs))
 
+group-on-fits : (room : Room) (names : ℕ) (m : Tables) (fs : List Refusal) → Holds (GroupFits room) (groupOn room names m fs)
+unfolding groupOn
+group-on-fits room names m [] = group-fits room names m (groupConnections m)
+group-on-fits room names m (r ∷ fs) = tt
+
+pub group-fit : (room : Room) (names : ℕ) (m : Tables) → Holds (GroupFits room) (groupAnswer room names m)
+unfolding groupAnswer
+group-fit room names m = group-on-fits room names m (faults m)
+
 -- ---- both
 
 with-fits : (room room′ : Room) (l : TracedList) (a : Answer GroupList) → TracedFits room l → Holds (GroupFits room′) a → Holds (BothFit room room′) (withGroup l a)
@@ -118,8 +131,8 @@ after-fits room room′ names m (refused r) h = tt
 after-fits room room′ names m (given l) h = with-fits room room′ l (groupOf room′ names m (groupConnections m)) h (group-fits room′ names m (groupConnections m))
 
 pub both-fit : (room room′ : Room) (names : ℕ) (m : Tables) → Holds (BothFit room room′) (bothAnswer room room′ names m)
-unfolding bothAnswer tracedAnswer
-both-fit room room′ names m = after-fits room room′ names m (tracedAnswer room m) (traced-fits room m (faults m))
+unfolding bothAnswer
+both-fit room room′ names m = after-fits room room′ names m (tracedAnswer room m) (traced-fit room m)
 
 -- ---- the code's answer
 

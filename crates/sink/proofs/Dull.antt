@@ -15,7 +15,7 @@ use Rattle.as5506.specs.Groups.{Feature}
 use Rattle.as5506.specs.Rows.{diag}
 use Rattle.as5506.specs.Layout.{featureBlock, diagBlock}
 use Rattle.lent.specs.Append.{Filled, filled, append}
-use Rattle.lent.proofs.Append.{append-fits, append-full, append-length, append-bound}
+use Rattle.lent.proofs.Append.{append-fits, append-full, append-length, append-bound, Added, added-nothing, added-then, append-adds}
 use Rattle.sink.specs.declared.Purpose.{Purpose}
 use Rattle.sink.specs.declared.Purpose.the-variants.{Count, All, First, Match}
 use Rattle.sink.specs.Take.{Held, partnerOf, codeOf, matchBlock, firstBy, matchBy, taken}
@@ -26,9 +26,15 @@ use Rattle.sink.specs.Dull.{Full, Bounded, DullMatch, Dull}
 abbrev Within : Filled → Type 0
 Within o = o .used ≤ length (o .holds) + 1
 
--- no output's use has shrunk, and none is past its length by more than one
+-- the outputs are only added to, and no output's use is past its length by more than one
 abbrev pub Grown : Held → Held → Type 0
-Grown h t = (h .out .used ≤ t .out .used) × (h .notes .used ≤ t .notes .used) × Bounded t
+Grown h t = Added (h .out) (t .out) × Added (h .notes) (t .notes) × Bounded t
+
+pub grown-nothing : (h : Held) → Bounded h → Grown h h
+grown-nothing h w = (added-nothing (h .out), added-nothing (h .notes), w)
+
+pub grown-then : (h t u : Held) → Grown h t → Grown t u → Grown h u
+grown-then h t u a b = (added-then (h .out) (t .out) (u .out) (a .0) (b .0), added-then (h .notes) (t .notes) (u .notes) (a .1) (b .1), b .2)
 
 -- a full output takes nothing
 append-same : (p : List ℕ) (o : Filled) → Full o → append p o ≡ o
@@ -44,13 +50,6 @@ append-quiet p o l e = go (decLe (o .used + length p) (length (o .holds)))
     go : Dec (o .used + length p ≤ length (o .holds)) → Full (append p o)
     go (yes h) = absurd (omega (arith, h, l, e, ap (λ (x : Filled). x .used) (append-fits p o h)))
     go (no h) = rw (append-full p o (omega (arith, h))) refl
-
-append-grows : (p : List ℕ) (o : Filled) → Within o → o .used ≤ append p o .used
-append-grows p o b = go (decLe (o .used + length p) (length (o .holds)))
-  where
-    go : Dec (o .used + length p ≤ length (o .holds)) → o .used ≤ append p o .used
-    go (yes h) = rw (append-fits p o h) (omega arith)
-    go (no h) = rw (append-full p o (omega (arith, h))) b
 
 append-within : (p : List ℕ) (o : Filled) → Within (append p o)
 append-within p o = rw (append-length p o) (append-bound p o)
@@ -122,8 +121,8 @@ first-quiet true f h e q = λ z.
 
 first-grows : (b : Bool) (f : Feature) (h : Held) → Bounded h → Grown h (firstBy b f h)
 unfolding firstBy
-first-grows false f h w = (omega arith, omega arith, w)
-first-grows true f h w = (append-grows (featureBlock f) (h .out) (w .0), omega arith, (append-within (featureBlock f) (h .out), w .1))
+first-grows false f h w = grown-nothing h w
+first-grows true f h w = (append-adds (featureBlock f) (h .out) (w .0), added-nothing (h .notes), (append-within (featureBlock f) (h .out), w .1))
 
 -- ---- matching
 
@@ -156,8 +155,8 @@ module _ (conn src dst : ℕ) (kept : List ℕ) where
 
   match-grows : (a : Option ℕ) (f : Feature) (h : Held) → Bounded h → Grown h (matched a f h)
   unfolding matchBy
-  match-grows none f h w = (omega arith, append-grows _ (h .notes) (w .1), (w .0, append-within _ (h .notes)))
-  match-grows (some i) f h w = (append-grows _ (h .out) (w .0), omega arith, (append-within _ (h .out), w .1))
+  match-grows none f h w = (added-nothing (h .out), append-adds _ (h .notes) (w .1), (w .0, append-within _ (h .notes)))
+  match-grows (some i) f h w = (append-adds _ (h .out) (w .0), added-nothing (h .notes), (append-within _ (h .out), w .1))
 
 -- ---- every purpose
 
@@ -189,10 +188,10 @@ module _ (bytes n kept : List ℕ) where
   quiet First f h x y = first-quiet (eqb (getD (h .memo) (f .name) 0) 0) f h refl x
   quiet (Match conn src dst count) f h x y = match-quiet conn src dst kept (partnerOf bytes n kept count (f .name)) f h x y
 
-  -- the use of an output does not shrink
+  -- an output is only added to
   pub grows : (p : Purpose) (f : Feature) (h : Held) → Bounded h → Grown h (taken p bytes n kept f h)
   unfolding taken
-  grows Count f h w = (omega arith, omega arith, w)
-  grows All f h w = (append-grows (featureBlock f) (h .out) (w .0), omega arith, (append-within (featureBlock f) (h .out), w .1))
+  grows Count f h w = grown-nothing h w
+  grows All f h w = (append-adds (featureBlock f) (h .out) (w .0), added-nothing (h .notes), (append-within (featureBlock f) (h .out), w .1))
   grows First f h w = first-grows (eqb (getD (h .memo) (f .name) 0) 0) f h w
   grows (Match conn src dst count) f h w = match-grows conn src dst kept (partnerOf bytes n kept count (f .name)) f h w

@@ -5,10 +5,10 @@ use Prim.Native.Nat.{ℕ, _+_, _≤_, _<_}
 use native.Mathlib.Nat.{add-zero}
 use native.Mathlib.Omega.{arith}
 use native.Mathlib.Decide.{decLe}
-use lib.ListN.{length, length-append}
+use lib.ListN.{length, take, length-append}
 use lib.Seq.{sets}
 use Rattle.lent.specs.Append.{Filled, filled, append}
-use Rattle.lent.proofs.Append.{append-fits, append-full, append-length}
+use Rattle.lent.proofs.Append.{append-fits, append-full, append-length, front-then, append-adds}
 use Rattle.lent.proofs.Sets.{sets-append}
 use Rattle.text.specs.Added.{Added}
 use Rattle.text.specs.Printing.{Printed}
@@ -19,7 +19,7 @@ added-as {s} {t} {out} {used} {out′} {z} e a = subst (λ (l : List ℕ). Added
 
 -- no text
 pub added-none : (out : List ℕ) (used : ℕ) → Added [] out used out used
-added-none out used = record { size = refl; fits = λ h. (sym (add-zero used), refl); spills = λ b h. omega (arith, b, h) }
+added-none out used = record { size = refl; fits = λ h. (sym (add-zero used), refl); spills = λ b h. omega (arith, b, h); stays = λ b. (omega arith, refl) }
 
 -- a piece
 pub added-piece : {p out : List ℕ} {used : ℕ} {out′ : List ℕ} {z : ℕ} → filled out′ z ≡ append p (filled out used) → Added p out used out′ z
@@ -28,14 +28,27 @@ added-piece {p} {out} {used} {out′} {z} e =
       size = ap (λ (o : Filled). length (o .holds)) e ∙ append-length p (filled out used);
       fits = λ h. (ap (λ (o : Filled). o .used) (e ∙ append-fits p (filled out used) h), ap (λ (o : Filled). o .holds) (e ∙ append-fits p (filled out used) h));
       spills = λ b h. ap (λ (o : Filled). o .used) (e ∙ append-full p (filled out used) h);
+      stays = λ b.
+          let a = append-adds p (filled out used) b in
+          subst (λ (o : Filled). (used ≤ o .used) × (take used (o .holds) ≡ take used out)) (sym e) (a .more, a .front);
     }
 
 -- a text behind a text
 pub added-then : {s t out : List ℕ} {used : ℕ} {out₁ : List ℕ} {u : ℕ} {out₂ : List ℕ} {z : ℕ} → Added s out used out₁ u → Added t out₁ u out₂ z
     → Added (s ++ t) out used out₂ z
 added-then {s} {t} {out} {used} {out₁} {u} {out₂} {z} a b =
-    record { size = b .size ∙ a .size; fits = both; spills = λ h k. over h k (decLe (used + length s) (length out)) }
+    record { size = b .size ∙ a .size; fits = both; spills = λ h k. over h k (decLe (used + length s) (length out)); stays = front }
   where
+    bound : used ≤ length out + 1 → Dec (used + length s ≤ length out) → u ≤ length out₁ + 1
+    bound h (yes p) = omega (arith, a .fits p .0, a .size, p)
+    bound h (no p) = omega (arith, a .spills h (omega (arith, p)), a .size)
+
+    front : used ≤ length out + 1 → (used ≤ z) × (take used out₂ ≡ take used out)
+    front h =
+        let f = a .stays h in
+        let g = b .stays (bound h (decLe (used + length s) (length out))) in
+        (omega (arith, f .0, g .0), front-then (filled out used) (filled out₁ u) out₂ (record { more = f .0; front = f .1 }) (g .1))
+
     both : used + length (s ++ t) ≤ length out → (z ≡ used + length (s ++ t)) × (out₂ ≡ sets out used (s ++ t))
     both h =
         let k : length (s ++ t) ≡ length s + length t = length-append s t in

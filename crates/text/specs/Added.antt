@@ -7,11 +7,12 @@ use lib.Seq.{sets}
 use Rattle.as5506.specs.Rows.{Row}
 
 -- a text t is printed behind the first `used` bytes of an output: all of it stands there, and z bytes are used then; or z is one more than the output
--- has, which tells that it is full
+-- has, which tells that it is full. In either case the first `used` bytes stay
 pub record Added (t out : List ℕ) (used : ℕ) (out′ : List ℕ) (z : ℕ) : Type 0 where
   pub size : length out′ ≡ length out
   pub fits : used + length t ≤ length out → (z ≡ used + length t) × (out′ ≡ sets out used t)
   pub spills : used ≤ length out + 1 → length out < used + length t → z ≡ length out + 1
+  pub stays : used ≤ length out + 1 → (used ≤ z) × (take used out′ ≡ take used out)
 
 -- the row of a block of numbers, with its names
 unfoldable pub rowNamed : List ℕ → List ℕ → List ℕ → List ℕ → Row

@@ -1,5 +1,7 @@
 //! An output that is lent: full of rubbish before the call, and with guards around it.
 
+use crate::library::Diagnostic;
+
 const GUARDS: usize = 16;
 
 /// What an output holds.
@@ -19,6 +21,21 @@ impl Cell for u8 {
     const RUBBISH: u8 = 0xA5;
     const GUARD: u8 = 0x5A;
     const ZERO: u8 = 0;
+}
+
+impl Cell for Diagnostic {
+    const RUBBISH: Diagnostic = all(u32::RUBBISH);
+    const GUARD: Diagnostic = all(u32::GUARD);
+    const ZERO: Diagnostic = all(u32::ZERO);
+}
+
+const fn all(number: u32) -> Diagnostic {
+    Diagnostic {
+        code: number,
+        connection: number,
+        first: number,
+        second: number,
+    }
 }
 
 pub struct Lent<T> {

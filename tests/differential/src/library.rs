@@ -2,6 +2,16 @@
 
 use crate::tables::Tables;
 
+/// A diagnostic as a record.
+#[repr(C)]
+#[derive(Clone, Copy, Debug, PartialEq, Eq)]
+pub struct Diagnostic {
+    pub code: u32,
+    pub connection: u32,
+    pub first: u32,
+    pub second: u32,
+}
+
 /// Declares a call that takes the twelve tables first.
 macro_rules! over_tables {
     ($name:ident($($argument:ident: $kind:ty),*)) => {
@@ -82,6 +92,43 @@ over_tables!(conlist_expand_feature_group_connections(
     names_length: usize,
     diagnostics: *mut u32,
     diagnostics_length: usize,
+    told: *mut u64
+));
+over_tables!(conlist_compute_semantic_connections_with_records(
+    rows: *mut u32,
+    rows_length: usize,
+    numbers: *mut u32,
+    numbers_length: usize,
+    out: *mut Diagnostic,
+    out_length: usize,
+    told: *mut u64
+));
+over_tables!(conlist_expand_feature_group_connections_with_records(
+    rows: *mut u32,
+    rows_length: usize,
+    names: *mut u8,
+    names_length: usize,
+    numbers: *mut u32,
+    numbers_length: usize,
+    out: *mut Diagnostic,
+    out_length: usize,
+    told: *mut u64
+));
+over_tables!(conlist_list_connections_with_records(
+    rows: *mut u32,
+    rows_length: usize,
+    numbers: *mut u32,
+    numbers_length: usize,
+    out: *mut Diagnostic,
+    out_length: usize,
+    group_rows: *mut u32,
+    group_rows_length: usize,
+    names: *mut u8,
+    names_length: usize,
+    group_numbers: *mut u32,
+    group_numbers_length: usize,
+    group_out: *mut Diagnostic,
+    group_out_length: usize,
     told: *mut u64
 ));
 over_tables!(conlist_list_connections(
@@ -211,6 +258,92 @@ pub fn list_connections(tables: &Tables, outputs: Outputs) -> [u64; 5] {
     told
 }
 
+/// As `compute_semantic_connections`, with records.
+pub fn compute_semantic_connections_with_records(
+    tables: &Tables,
+    rows: &mut [u32],
+    numbers: &mut [u32],
+    records: &mut [Diagnostic],
+) -> [u64; 3] {
+    let mut told = [u64::MAX; 3];
+    // SAFETY: as above.
+    unsafe {
+        call!(
+            conlist_compute_semantic_connections_with_records,
+            tables,
+            rows.as_mut_ptr(),
+            rows.len(),
+            numbers.as_mut_ptr(),
+            numbers.len(),
+            records.as_mut_ptr(),
+            records.len(),
+            told.as_mut_ptr()
+        )
+    };
+    told
+}
+
+/// As `expand_feature_group_connections`, with records.
+pub fn expand_feature_group_connections_with_records(
+    tables: &Tables,
+    rows: &mut [u32],
+    names: &mut [u8],
+    numbers: &mut [u32],
+    records: &mut [Diagnostic],
+) -> [u64; 3] {
+    let mut told = [u64::MAX; 3];
+    // SAFETY: as above.
+    unsafe {
+        call!(
+            conlist_expand_feature_group_connections_with_records,
+            tables,
+            rows.as_mut_ptr(),
+            rows.len(),
+            names.as_mut_ptr(),
+            names.len(),
+            numbers.as_mut_ptr(),
+            numbers.len(),
+            records.as_mut_ptr(),
+            records.len(),
+            told.as_mut_ptr()
+        )
+    };
+    told
+}
+
+/// As `list_connections`, with records for the diagnostics of each listing.
+pub fn list_connections_with_records(
+    tables: &Tables,
+    outputs: Outputs,
+    records: &mut [Diagnostic],
+    group_records: &mut [Diagnostic],
+) -> [u64; 5] {
+    let mut told = [u64::MAX; 5];
+    // SAFETY: as above.
+    unsafe {
+        call!(
+            conlist_list_connections_with_records,
+            tables,
+            outputs.rows.as_mut_ptr(),
+            outputs.rows.len(),
+            outputs.diagnostics.as_mut_ptr(),
+            outputs.diagnostics.len(),
+            records.as_mut_ptr(),
+            records.len(),
+            outputs.group_rows.as_mut_ptr(),
+            outputs.group_rows.len(),
+            outputs.names.as_mut_ptr(),
+            outputs.names.len(),
+            outputs.group_diagnostics.as_mut_ptr(),
+            outputs.group_diagnostics.len(),
+            group_records.as_mut_ptr(),
+            group_records.len(),
+            told.as_mut_ptr()
+        )
+    };
+    told
+}
+
 unsafe extern "C" {
     fn conlist_list_sheet(
         sheet: *const u8,
@@ -297,29 +430,4 @@ pub fn read_sheet(sheet: &[u8], bytes: &mut [u8], letters: Vec<&mut [u32]>) -> [
         );
     }
     told
-}
-
-/// A diagnostic as a record.
-#[repr(C)]
-#[derive(Clone, Copy, Debug, PartialEq, Eq)]
-pub struct Diagnostic {
-    pub code: u32,
-    pub connection: u32,
-    pub first: u32,
-    pub second: u32,
-}
-
-unsafe extern "C" {
-    fn diagnostics_fill(
-        out: *mut Diagnostic,
-        out_length: usize,
-        numbers: *const u32,
-        numbers_length: usize,
-    );
-}
-
-/// Fills records from a listing's output of diagnostics.
-pub fn fill_diagnostics(out: &mut [Diagnostic], numbers: &[u32]) {
-    // SAFETY: as above.
-    unsafe { diagnostics_fill(out.as_mut_ptr(), out.len(), numbers.as_ptr(), numbers.len()) }
 }

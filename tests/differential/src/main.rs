@@ -12,6 +12,7 @@ mod group;
 mod lent;
 mod library;
 mod listed;
+mod records;
 mod tables;
 mod text;
 mod traced;
@@ -77,6 +78,7 @@ struct Met {
     expansion: expansion::Met,
     group: group::Met,
     both: both::Met,
+    records: records::Met,
     text: text::Met,
     unaccepted: unaccepted::Met,
 }
@@ -93,6 +95,7 @@ impl Met {
             .and_then(|()| expansion::compare(&sheet, renames, &mut self.expansion))
             .and_then(|()| group::compare(&sheet, renames, &mut self.group))
             .and_then(|()| both::compare(&sheet, &mut self.both))
+            .and_then(|()| records::compare(&sheet, &mut self.records))
             .and_then(|()| damaged::read_again(&case.sheet, &sheet))
             .and_then(|()| {
                 let options = Options {
@@ -140,6 +143,10 @@ impl Met {
             self.both.calls, self.both.refused,
         );
         println!(
+            "diagnostics as records: {} calls, {} records, {} refused 12",
+            self.records.calls, self.records.records, self.records.refused_12,
+        );
+        println!(
             "conlist: {} sheets, {} of them refused, {} bytes of text; {} calls",
             text.sheets, text.refused, text.bytes, text.calls,
         );
@@ -160,6 +167,8 @@ impl Met {
             && expansion.refused_13 > 0
             && self.group.rows > 0
             && self.group.refused.iter().all(|&calls| calls > 0)
+            && self.records.records > 0
+            && self.records.refused_12 > 0
             && self.text.refused > 0
     }
 }

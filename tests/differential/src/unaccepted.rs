@@ -5,6 +5,7 @@ use oracle::sheet::{LETTERS, Sheet};
 
 use crate::lent::Lent;
 use crate::library::{self, Outputs};
+use crate::records;
 use crate::tables::Tables;
 use crate::{DIAGNOSTIC_NUMBERS, ROW_NUMBERS};
 
@@ -79,7 +80,7 @@ fn spoil(table: &mut Vec<u32>, width: usize) {
 pub fn refused(tables: &Tables, refusal: Refusal, met: &mut Met) -> Result<(), String> {
     met.tables += 1;
     met.refused[refusal[0] as usize - 6] += 1;
-    met.calls += 5;
+    met.calls += 8;
     let before = tables.clone();
     expect("check_tables", library::check_tables(tables), refusal)?;
 
@@ -108,6 +109,7 @@ pub fn refused(tables: &Tables, refusal: Refusal, met: &mut Met) -> Result<(), S
     group_diagnostics.used(0)?;
 
     both(tables, refusal)?;
+    records::refused(tables, refusal)?;
     if *tables == before {
         Ok(())
     } else {

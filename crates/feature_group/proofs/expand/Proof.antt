@@ -1,11 +1,27 @@
 -- `feature_group::expand` meets its contract: tables that are refused, or the walk over the links of those that are accepted. Assumes nothing.
-use Rattle.feature_group.proofs.Answers.{tables-refused, expands}
-use Rattle.as5506.specs.Tables.{tablesOf, letterU, letterE}
+use mathlib.Core.List.{List}
+use Prim.Native.Nat.{ℕ}
+use lib.Dec.{T}
+use Rattle.as5506.specs.Lists.{zeros}
+use Rattle.as5506.specs.Tables.{Tables, tablesOf, letterU, letterE}
+use Rattle.as5506.specs.Refusals.{accepted}
 use Rattle.tables.proofs.Answers.{accepted-is}
 use Rattle.tables.proofs.Facts.{facts}
+use Rattle.links.specs.Links.{LinksFit}
+use Rattle.links.proofs.Tables.{into-linked}
 use borrow.Author.Needs.{needs}
+use Rattle.feature_group.proofs.Answers.{tables-refused, expands}
 use Rattle.feature_group.proofs.expand.Statement.{statement}
 use Rattle.feature_group.proofs.expand.Tie as tie
+
+-- an array has a place for the link of each row
+abbrev array : List ℕ
+array = zeros 4096
+
+links-fit : (m : Tables) → T (accepted m) → LinksFit (m .u) (m .e) array array array
+links-fit m ok =
+    let few = facts m ok .few in
+    record { fits-nested = few letterE; fits-extends = few letterU; fits-inverse = few letterU }
 
 check-tables-requires : tie.Need-check-tables-requires
 check-tables-requires c κs = search needs
@@ -53,12 +69,7 @@ link-groups-requires : tie.Need-link-groups-requires
 link-groups-requires c κs =
     let a = Start·link-groups-requires c .args in
     let m = tablesOf (a .bytes .now) (a .n .now) (a .c .now) (a .f .now) (a .x .now) (a .p .now) (a .i .now) (a .t .now) (a .q .now) (a .u .now) (a .e .now) (a .r .now) in
-    let ok = accepted-is m _ (c .before .before .before .before .before .check-tables .ensures) (c .before .before .before .enum-told .given .1) in
-    let few = facts m ok .few in
-    record {
-      fits-types = record { few-types = few letterU; fits-extends = few letterU; fits-inverse = few letterU };
-      fits-features = record { few-types = few letterU; fits-nested = few letterE };
-    }
+    facts m (accepted-is m _ (c .before .before .before .before .before .check-tables .ensures) (c .before .before .before .enum-told .given .1)) .few letterU
 
 link-requires : tie.Need-link-requires
 link-requires c κs =
@@ -91,7 +102,7 @@ returns-2 c =
     let l = g .last .1 .1 .1 .1 .1 .1 .1 .1 .1 in
     let to = c .before .before .before .before .before .before .before .link in
     let w = c .before .before .write-features in
-    expands m (a .from) (a .type-name) (a .inverse) (a .out .now) ok (l .0) (l .1 .0) (l .1 .1 .0) (g .ensures m) (to .result) (to .ensures m) (w .result) (w .last .1 .1 .1 .1 .1 .1 .0) (w .ensures)
+    expands m (a .from) (a .type-name) (a .inverse) (a .out .now) ok (l .0) (l .1 .0) (l .1 .1 .0) (into-linked m _ _ _ _ _ _ (links-fit m ok) (g .ensures m)) (to .result) (to .ensures m) (w .result) (w .last .1 .1 .1 .1 .1 .1 .0) (w .ensures)
 
 pub expand-spec : {M : Type 1} → statement M
 expand-spec =

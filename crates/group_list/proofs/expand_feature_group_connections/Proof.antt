@@ -104,7 +104,7 @@ returns-2 c =
     let z = clear·returns-2 c .clear in
     let w = list-accepted·returns-2 c .list-accepted in
     let l = w .last .1 .1 .1 .1 .1 .1 .1 .1 .1 .1 .1 .1 in
-    given-call m (a .rows .now) (a .names .now) (a .diagnostics .now) (z .last .0) (z .last .1 .0) (z .last .1 .1 .0) (z .ensures .0) (z .ensures .1 .0) (z .ensures .1 .1) (accepted-is m _ (c .before .before .before .before .before .before .before .before .before .before .before .before .before .before .check-tables .ensures) (c .before .before .before .before .before .before .before .before .before .before .before .before .enum-told .given .1)) (w .result) (w .ensures .0) (l .0) (l .1 .0) (l .1 .1 .0) _ _ (c .enum-told2 .given .1) (w .ensures .1 .0) (w .ensures .1 .1 .0) (w .ensures .1 .1 .1)
+    given-call m (a .rows .now) (a .names .now) (a .diagnostics .now) (z .last .0) (z .last .1 .0) (z .last .1 .1 .0) (z .ensures .0) (z .ensures .1 .0) (z .ensures .1 .1) (accepted-is m _ (c .before .before .before .before .before .before .before .before .before .before .before .before .before .before .check-tables .ensures) (c .before .before .before .before .before .before .before .before .before .before .before .before .enum-told .given .1)) (w .result) (w .ensures .0) (l .0) (l .1 .0) (l .1 .1 .0) _ _ (c .enum-told2 .given .1) (w .ensures .1 .0) (w .ensures .1 .1 .0) (w .ensures .1 .1 .1 .0)
 
 same-length-7 : tie.Need-same-length-7
 same-length-7 c = clear2·returns-3 c .clear2 .kept .0 ∙ list-accepted·returns-3 c .list-accepted .kept .1 .1 .1 .1 .1 .1 .1 .1 .1 .1 .1 .1 .0 ∙ clear·returns-3 c .clear .kept .0

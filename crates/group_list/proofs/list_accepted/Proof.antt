@@ -67,7 +67,7 @@ returns c =
     let short = pairs-short m (Start·returns c .pre .ok) in
     let w = c .before .before .before .before .before .before .before .before .before .before .match-all in
     let l = w .last .1 .1 .1 .1 .1 .1 .1 .1 .1 .1 .1 .1 in
-    lists-11 m (a .rows .now) (a .names .now) (a .diagnostics .now) (l .0) (l .1 .0) (w .result) (w .ensures) _ (c .before .before .before .before .matched .given .1) short (c .before .if1 .taken) _ (c .unplaced2 .ensures) _ _ _
+    lists-11 m (a .rows .now) (a .names .now) (a .diagnostics .now) (l .0) (l .1 .0) (w .result) (w .ensures) _ (c .before .before .before .before .matched .given .1) short (c .before .if1 .taken) _ (c .unplaced2 .ensures) _ _
 
 compose-names-requires : tie.Need-compose-names-requires
 compose-names-requires c κs =
@@ -97,7 +97,7 @@ returns-2 c =
     let short = pairs-short m (Start·returns-2 c .pre .ok) in
     let w = match-all·returns-2 c .match-all in
     let l = w .last .1 .1 .1 .1 .1 .1 .1 .1 .1 .1 .1 .1 in
-    lists-14 m (a .rows .now) (a .names .now) (a .diagnostics .now) (l .0) (l .1 .0) (w .result) (w .ensures) _ (c .before .before .before .before .before .before .before .before .before .before .before .before .before .matched .given .1) short (c .before .before .before .before .before .before .before .before .before .before .if1 .left) _ _ _ (c .before .before .before .before .before .before .compose-names .ensures) (c .before .before .before .before .before .before .compose-names .kept .1 .1 .1 .1 .1 .0) (c .before .if2 .taken) _ (c .unplaced3 .ensures) _ _ _
+    lists-14 m (a .rows .now) (a .names .now) (a .diagnostics .now) (l .0) (l .1 .0) (w .result) (w .ensures) _ (c .before .before .before .before .before .before .before .before .before .before .before .before .before .matched .given .1) short (c .before .before .before .before .before .before .before .before .before .before .if1 .left) _ _ _ (c .before .before .before .before .before .before .compose-names .ensures) (c .before .if2 .taken) _ (c .unplaced3 .ensures) _ _ _
 
 unplaced-requires-4 : tie.Need-unplaced-requires-4
 unplaced-requires-4 c κs = search needs
@@ -118,7 +118,7 @@ returns-3 c =
     let short = pairs-short m (Start·returns-3 c .pre .ok) in
     let w = match-all·returns-3 c .match-all in
     let l = w .last .1 .1 .1 .1 .1 .1 .1 .1 .1 .1 .1 .1 in
-    lists-12 m (a .rows .now) (a .names .now) (a .diagnostics .now) (l .0) (l .1 .0) (w .result) (w .ensures) _ (c .before .before .before .before .before .before .before .before .before .before .before .before .before .before .matched .given .1) short (c .before .before .before .before .before .before .before .before .before .before .before .if1 .left) _ _ _ (c .before .before .before .before .before .before .before .compose-names .ensures) (c .before .before .before .before .before .before .before .compose-names .kept .1 .1 .1 .1 .1 .0) (c .before .before .if2 .left) (c .before .if3 .taken) _ (c .unplaced4 .ensures) _ _ _
+    lists-12 m (a .rows .now) (a .names .now) (a .diagnostics .now) (l .0) (l .1 .0) (w .result) (w .ensures) _ (c .before .before .before .before .before .before .before .before .before .before .before .before .before .before .matched .given .1) short (c .before .before .before .before .before .before .before .before .before .before .before .if1 .left) _ _ _ (c .before .before .before .before .before .before .before .compose-names .ensures) (c .before .before .if2 .left) (c .before .if3 .taken) _ (c .unplaced4 .ensures) _ _ _
 
 same-length-9 : tie.Need-same-length-9
 same-length-9 c = search needs
@@ -132,7 +132,7 @@ returns-4 c =
     let m = tablesOf (a .bytes .now) (a .n .now) (a .c .now) (a .f .now) (a .x .now) (a .p .now) (a .i .now) (a .t .now) (a .q .now) (a .u .now) (a .e .now) (a .r .now) in
     let w = c .before .before .before .before .before .before .before .match-all in
     let l = w .last .1 .1 .1 .1 .1 .1 .1 .1 .1 .1 .1 .1 in
-    lists-13 m (a .rows .now) (a .names .now) (a .diagnostics .now) (l .0) (l .1 .0) (w .result) (w .ensures) (c .before .enum-told .given .1) _ (c .unplaced .ensures) _ _ _
+    lists-13 m (a .rows .now) (a .names .now) (a .diagnostics .now) (l .0) (l .1 .0) (w .result) (w .ensures) (c .before .enum-told .given .1) _ (c .unplaced .ensures) _ _
 
 same-length-11 : tie.Need-same-length-11
 same-length-11 c = search needs
@@ -150,7 +150,7 @@ returns-5 c =
     let short = pairs-short m (Start·returns-5 c .pre .ok) in
     let w = match-all·returns-5 c .match-all in
     let l = w .last .1 .1 .1 .1 .1 .1 .1 .1 .1 .1 .1 .1 in
-    lists-all m (a .rows .now) (a .names .now) (a .diagnostics .now) (l .0) (l .1 .0) (w .result) (w .ensures) _ (c .before .before .before .before .before .before .before .before .before .before .before .before .before .matched .given .1) short (c .before .before .before .before .before .before .before .before .before .before .if1 .left) _ _ _ (c .before .before .before .before .before .before .compose-names .ensures) (c .before .before .before .before .before .before .compose-names .kept .1 .1 .1 .1 .1 .0) (c .before .if2 .left) (c .if3 .left)
+    lists-all m (a .rows .now) (a .names .now) (a .diagnostics .now) (l .0) (l .1 .0) (w .result) (w .ensures) _ (c .before .before .before .before .before .before .before .before .before .before .before .before .before .matched .given .1) short (c .before .before .before .before .before .before .before .before .before .before .if1 .left) _ _ _ (c .before .before .before .before .before .before .compose-names .ensures) (c .before .if2 .left) (c .if3 .left)
 
 pub list-accepted-spec : {M : Type 1} → statement M
 list-accepted-spec =

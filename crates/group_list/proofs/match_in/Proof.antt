@@ -4,6 +4,8 @@ use native.Mathlib.Omega.{arith}
 use lib.Seq.{length-take-le}
 use Rattle.as5506.specs.Tables.{Tables, tablesOf, letterN, letterU, count}
 use Rattle.tables.proofs.Facts.{facts}
+use Rattle.links.specs.Links.{LinksFit}
+use Rattle.links.proofs.Tables.{into-linked}
 use borrow.Author.Needs.{needs}
 use Rattle.group_list.proofs.match_in.Statement.{statement}
 use Rattle.group_list.proofs.match_in.Tie as tie
@@ -20,6 +22,12 @@ abbrev model : lts.Start CL reads.Pre reads.Post → Tables
 model s =
     tablesOf (s .args .bytes .now) (s .args .n .now) (s .args .c .now) (s .args .f .now) (s .args .x .now) (s .args .p .now) (s .args .i .now) (s .args .t .now)
     (s .args .q .now) (s .args .u .now) (s .args .e .now) (s .args .r .now)
+
+-- each row has a place for its link
+links-fit : (s : lts.Start CL reads.Pre reads.Post) → LinksFit (s .args .u .now) (s .args .e .now) (s .args .nested .now) (s .args .extends .now) (s .args .inverse .now)
+links-fit s =
+    let k = s .pre in
+    record { fits-nested = k .fits-nested; fits-extends = k .fits-extends; fits-inverse = k .fits-inverse }
 
 -- places: the way back from where an answer stands to what it uses
 abbrev Start·link-groups-requires : tie.After-link-groups-arg3 → tie.Start
@@ -43,14 +51,7 @@ Start·match-connections-requires c = Start·slice-aggregate-match-connections-2
 -- end of places
 
 link-groups-requires : tie.Need-link-groups-requires
-link-groups-requires c κs =
-    let s = Start·link-groups-requires c in
-    let k = s .pre in
-    let few = facts (model s) (k .ok) .few letterU in
-    record {
-      fits-types = record { few-types = few; fits-extends = k .fits-extends; fits-inverse = k .fits-inverse };
-      fits-features = record { few-types = few; fits-nested = k .fits-nested };
-    }
+link-groups-requires c κs = let s = Start·link-groups-requires c in facts (model s) (s .pre .ok) .few letterU
 
 mul-places : tie.Need-mul-places
 mul-places c = let s = Start·mul-places c in omega (arith, facts (model s) (s .pre .ok) .few letterU)
@@ -74,7 +75,7 @@ match-connections-requires c κs =
     let names = length-take-le (count (model s) letterN) (s .args .memo .now) (k .names) in
     record {
       ok = k .ok;
-      linked = c .before .before .before .before .before .before .before .before .before .before .before .before .before .before .link-groups .ensures (model s);
+      linked = into-linked (model s) _ _ _ _ _ _ (links-fit s) (c .before .before .before .before .before .before .before .before .before .before .before .before .before .before .link-groups .ensures (model s));
       names = omega (arith, names);
       few = omega (arith, names, facts (model s) (k .ok) .few letterN);
       room = omega (arith, names, k .names, k .room);

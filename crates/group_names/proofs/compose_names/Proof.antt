@@ -1,11 +1,9 @@
--- `group_names::compose_names` meets its contract: the loop's invariant is `Left`, for any matches that the rows held. Assumes nothing.
-use mathlib.Core.List.{List}
+-- `group_names::compose_names` meets its contract: the loop's invariant is `Left`. Assumes nothing.
 use mathlib.Core.Path.{_≡_, refl}
 use Prim.Native.Nat.{_-_, _≤_}
 use native.Mathlib.Omega.{arith}
 use borrow.Author.Needs.{needs}
 use lib.ListN.{length}
-use Rattle.group_names.specs.Compose.{Pair, Holds}
 use Rattle.group_names.proofs.Composing.{Left, left-start, left-turn, left-full, left-end}
 use Rattle.group_names.proofs.compose_names.Statement.{statement}
 use Rattle.group_names.proofs.compose_names.Tie as tie
@@ -14,13 +12,13 @@ use Rattle.lent.specs.Lent.{connectionsIn}
 abbrev Inv-loop : tie.InvT-loop
 Inv-loop bytes n x rows₀ count names₀ used₀ i₀ rows names used i =
     (i ≤ count) × (length rows ≡ length rows₀) × (length names ≡ length names₀) × (used ≤ length names)
-    × ((ps : List Pair) → Holds rows₀ count ps → Left (connectionsIn bytes n x) ps rows₀ names₀ count rows names used i)
+    × Left (connectionsIn bytes n x) rows₀ names₀ count rows names used i
 
 abbrev μ-loop : tie.MeasureT-loop
 μ-loop bytes n x rows₀ count names₀ used₀ i₀ rows names used i = count - i
 
 loop-holds : tie.Need-loop-holds Inv-loop μ-loop
-loop-holds c = (omega arith, refl, refl, omega arith, λ ps h. left-start _ _ _ _ _ h)
+loop-holds c = (omega arith, refl, refl, omega arith, left-start _ _ _ _)
 
 mul-compose-row : tie.Need-mul-compose-row Inv-loop μ-loop
 mul-compose-row c = search needs
@@ -41,8 +39,8 @@ returns : tie.Need-returns Inv-loop μ-loop
 returns c =
     let t = c .before .before .before .before .before .before .before .before in
     let l = t .before .loop in
-    λ ps h.
-    left-full _ _ _ _ _ _ _ _ _ _ _ _ (l .inv .4 ps h) (t .loop-test .taken) (c .before .before .before .before .before .compose-row .ensures .0) (l .inv .3) (l .inv .2) (search needs)
+    let z = c .before .before .before .before .before .compose-row in
+    left-full _ _ _ _ _ _ _ _ (l .inv .4) (t .loop-test .taken) _ _ _ (l .inv .3) (z .ensures .0) (search needs) (z .ensures .1 .1 (search needs))
 
 add-i : tie.Need-add-i Inv-loop μ-loop
 add-i c = search needs
@@ -59,7 +57,7 @@ loop-again c =
       search needs,
       search needs,
       search needs,
-      λ ps h. left-turn _ _ _ _ _ _ _ _ _ _ _ _ (l .inv .4 ps h) (t .loop-test .taken) (z .ensures .0) (z .ensures .1 (search needs)),
+      left-turn _ _ _ _ _ _ _ _ (l .inv .4) (t .loop-test .taken) _ _ _ (l .inv .3) (z .ensures .0) (search needs) (z .ensures .1 .0 (search needs)),
     )
 
 same-length-3 : tie.Need-same-length-3 Inv-loop μ-loop
@@ -69,7 +67,7 @@ same-length-4 : tie.Need-same-length-4 Inv-loop μ-loop
 same-length-4 c = search needs
 
 returns-2 : tie.Need-returns-2 Inv-loop μ-loop
-returns-2 c = λ ps h. left-end _ _ _ _ _ _ _ _ _ (c .before .loop .inv .4 ps h) (c .loop-test .left)
+returns-2 c = left-end _ _ _ _ _ _ _ _ (c .before .loop .inv .4) (c .loop-test .left)
 
 pub compose-names-spec : {M : Type 1} → statement M
 compose-names-spec =

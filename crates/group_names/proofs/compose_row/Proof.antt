@@ -1,16 +1,17 @@
 -- `group_names::compose_row` meets its contract: where the output is not full behind the three names, each was put in full, so their lengths are
 -- the differences, and short. Assumes nothing.
-use mathlib.Core.Path.{_≡_}
+use mathlib.Core.Path.{_≡_, refl, ap, _∙_}
 use Prim.Native.Nat.{_≤_}
 use native.Mathlib.Omega.{arith}
 use borrow.Author.Needs.{needs}
 use lib.ListN.{length, drop}
 use Rattle.as5506.specs.Tables.{Tables}
-use Rattle.lent.specs.Append.{filled, appendAll}
+use Rattle.lent.specs.Append.{Filled, filled, appendAll}
 use Rattle.lent.specs.Lent.{connectionsIn}
+use Rattle.lent.proofs.Append.{all-length}
 use Rattle.group_names.specs.Pieces.{ownPieces, sourcePieces, partnerPieces, pairPieces, pairBack}
-use Rattle.group_names.specs.Compose.{Pair}
-use Rattle.group_names.proofs.Composing.{own-is, source-is, partner-is, Ends, named, named-ends, row-named, own-short, source-short, partner-short}
+use Rattle.group_names.specs.Pairs.{Pair}
+use Rattle.group_names.proofs.Composing.{own-is, source-is, partner-is, Ends, names-are, names-end, row-named, own-short, source-short, partner-short}
 use Rattle.group_names.proofs.compose_row.Statement.{statement}
 use Rattle.group_names.proofs.compose_row.Tie as tie
 
@@ -60,12 +61,15 @@ module _ (c : tie.After-slice-known6) where
 
   names-put : filled (at-partner c .put-full-name2 .last .1 .1 .1 .1 .0) (at-partner c .put-full-name2 .result)
       ≡ appendAll (pairPieces tables pair) (filled (entry c .args .names .now) (entry c .args .used))
-  names-put = named tables pair _ _ _ _ _ _ _ _ own-put source-put partner-put
+  names-put = names-are tables pair _ _ _ _ _ _ _ _ own-put source-put partner-put
+
+  names-same : length (at-partner c .put-full-name2 .last .1 .1 .1 .1 .0) ≡ length (entry c .args .names .now)
+  names-same = ap (λ (o : Filled). length (o .holds)) names-put ∙ all-length (pairPieces tables pair) (filled (entry c .args .names .now) (entry c .args .used))
 
   -- where the output is not full
   ends : at-partner c .put-full-name2 .result ≤ length (at-partner c .put-full-name2 .last .1 .1 .1 .1 .0)
       → Ends tables pair (entry c .args .used) (at-own c .put-dotted .result) (at-source c .put-full-name .result) (at-partner c .put-full-name2 .result)
-  ends h = named-ends tables pair _ _ _ _ _ _ _ _ (entry c .pre .2) own-put source-put partner-put h
+  ends h = names-end tables pair _ _ _ _ _ _ _ _ (entry c .pre .2) own-put source-put partner-put h
 
 number-at-requires : tie.Need-number-at-requires
 number-at-requires c κs = search needs
@@ -126,7 +130,7 @@ same-length-2 : tie.Need-same-length-2
 same-length-2 c = search needs
 
 returns : tie.Need-returns
-returns c = (names-put (c .before), λ h. absurd (omega (arith, h, c .if1 .taken)))
+returns c = (names-put (c .before), (λ h. absurd (omega (arith, h, c .if1 .taken)), λ h. refl))
 
 sub-put-row : tie.Need-sub-put-row
 sub-put-row c =
@@ -173,7 +177,10 @@ same-length-4 c = search needs
 returns-2 : tie.Need-returns-2
 returns-2 c =
     let k = c .before .before .before .before .before in
-    (names-put k, λ h. row-named (tables k) (pair k) _ _ _ _ (ends k (c .before .before .before .before .if1 .left)) _ _ _ (c .before .before .put-row .ensures))
+    let fits = c .before .before .before .before .if1 .left in (
+      names-put k,
+      (λ h. row-named (tables k) (pair k) _ _ _ _ (ends k fits) _ _ _ (c .before .before .put-row .ensures), λ h. absurd (omega (arith, h, fits, names-same k))),
+    )
 
 pub compose-row-spec : {M : Type 1} → statement M
 compose-row-spec =

@@ -14,13 +14,14 @@ use Rattle.links.specs.Links.{unfound}
 use Rattle.links.specs.Walk.{Groups, groupsIn, Visit, featureAt, walk, rowsIn, visitLink}
 use Rattle.sink.specs.declared.Tally.{Tally}
 use Rattle.sink.specs.Take.{Held, held, taken, Ready}
-use Rattle.sink.specs.Dull.{Dull}
+use Rattle.sink.specs.Dull.{Bounded, Dull}
 use Rattle.sink.proofs.Ready.{taken-ready}
+use Rattle.sink.proofs.Dull.{Grown, grown-nothing, grown-then, grows}
 use Rattle.group_walk.specs.declared.Walked.{Walked}
 use Rattle.group_walk.specs.declared.Walked.the-variants.{Over, Done}
-use Rattle.group_walk.specs.Run.{Take, State, over, going, visitLimit, run, stateOf}
+use Rattle.group_walk.specs.Run.{Take, State, over, going, visitLimit, run, stateOf, Behind}
 use Rattle.group_walk.specs.Calm.{Dullness, levels, Passable, CalmAfter}
-use Rattle.group_walk.proofs.Laws.{over-is, done-is, over-then, done-then, done-good, run-done, visit-over, visit-past, visit-nothing, visit-type, type-inverse, type-own, type-both, meant, own, rows-start, prefix-more, feature-is, onFrom, walk-end, row-passed, row-listed, row-over, row-done}
+use Rattle.group_walk.proofs.Laws.{over-is, done-is, over-then, done-then, done-good, run-done, done-grown, behind-nothing, behind-then, visit-over, visit-past, visit-nothing, visit-type, type-inverse, type-own, type-both, meant, own, rows-start, prefix-more, feature-is, onFrom, walk-end, row-passed, row-listed, row-over, row-done}
 use Rattle.group_walk.proofs.Calm.{Passing, passing, passable-stays, known-over, known-done, passable-put, after-done}
 use borrow.Fn.Kinds.{In}
 use borrow.Fn.PlainCycle.{Measures, is, falls, and}
@@ -134,7 +135,8 @@ module _ (t : ℕ) (s : expand-type-lts.Start (type-claims t) (expand-type-at t)
   -- what it extends is visited
   module _ (up : ℕ) (r : Walked) (memo out notes calm : List ℕ)
       (e : (stateOf r memo out notes ≡ run type-doing type-entry (type-below up (s .args .inverse) type-names))
-      × CalmAfter r type-groups (Dull (s .args .purpose) (s .args .bytes .now) (s .args .n .now) (s .args .kept .now)) memo out notes calm) where
+      × (CalmAfter r type-groups (Dull (s .args .purpose) (s .args .bytes .now) (s .args .n .now) (s .args .kept .now)) memo out notes calm
+      × Behind (s .args .tally) (s .args .out .now) (s .args .notes .now) out notes)) where
     up-over : r ≡ Over → over ≡ run type-doing (run type-doing type-entry (type-below up (s .args .inverse) type-names)) type-own-features
     up-over q = over-then type-doing r memo out notes type-entry (type-below up (s .args .inverse) type-names) (e .0) q type-own-features
 
@@ -150,7 +152,14 @@ module _ (t : ℕ) (s : expand-type-lts.Start (type-claims t) (expand-type-at t)
           (type-below up (s .args .inverse) type-names) tally visits (e .0) q (s .pre .1 .ready)
 
       up-passable : Passable type-groups (Dull (s .args .purpose) (s .args .bytes .now) (s .args .n .now) (s .args .kept .now)) (held tally memo out notes) calm
-      up-passable = after-done type-groups (Dull (s .args .purpose) (s .args .bytes .now) (s .args .n .now) (s .args .kept .now)) r memo out notes calm tally visits q (e .1)
+      up-passable = after-done type-groups (Dull (s .args .purpose) (s .args .bytes .now) (s .args .n .now) (s .args .kept .now)) r memo out notes calm tally visits q (e .1 .0)
+
+      up-behind : (out₁ notes₁ : List ℕ) → Behind tally out notes out₁ notes₁ → Behind (s .args .tally) (s .args .out .now) (s .args .notes .now) out₁ notes₁
+      unfolding Passable
+      up-behind out₁ notes₁ =
+          behind-then (s .args .tally) tally (s .args .memo .now) (s .args .out .now) (s .args .notes .now) memo out notes out₁ notes₁
+          (done-grown type-doing (grows (s .args .bytes .now) (s .args .n .now) (s .args .kept .now) (s .args .purpose)) r memo out notes type-given (s .args .visits)
+          (type-below up (s .args .inverse) type-names) tally visits (e .0) q (s .pre .1 .passable .0))
 
 expand-type-number-at-requires : (t : ℕ) → expand-type-lts.Need-number-at-requires (type-claims t) (expand-type-at t) expand-type.Post
 expand-type-number-at-requires t c κs = tt
@@ -307,7 +316,7 @@ expand-type-same-length-12 t c = visit2·expand-type-returns-3 t c .visit2 .kept
 
 expand-type-returns-3 : (t : ℕ) → expand-type-lts.Need-returns-3 (type-claims t) (expand-type-at t) expand-type.Post
 unfolding stateOf CalmAfter
-expand-type-returns-3 t c = (up-over t (Start·expand-type-returns-3 t c) (number-at2·expand-type-returns-3 t c .number-at2 .result) (visit2·expand-type-returns-3 t c .visit2 .result) (visit2·expand-type-returns-3 t c .visit2 .last .1 .1 .1 .1 .1 .1 .1 .0) (visit2·expand-type-returns-3 t c .visit2 .last .1 .1 .1 .1 .1 .1 .1 .1 .0) (visit2·expand-type-returns-3 t c .visit2 .last .1 .1 .1 .1 .1 .1 .1 .1 .1 .0) (visit2·expand-type-returns-3 t c .visit2 .last .1 .1 .1 .1 .1 .1 .1 .1 .1 .1 .0) (visit2·expand-type-returns-3 t c .visit2 .ensures) (c .enum-told .given .1) ∙ sym (by-both t (Start·expand-type-returns-3 t c) (number-at·expand-type-returns-3 t c .number-at .result) (number-at·expand-type-returns-3 t c .number-at .ensures) (omega (arith, Else1·expand-type-returns-3 t c .if1 .left)) (number-at2·expand-type-returns-3 t c .number-at2 .result) (number-at2·expand-type-returns-3 t c .number-at2 .ensures) (c .before .before .before .before .before .before .before .before .before .before .before .before .before .before .before .if2 .left)), tt)
+expand-type-returns-3 t c = (up-over t (Start·expand-type-returns-3 t c) (number-at2·expand-type-returns-3 t c .number-at2 .result) (visit2·expand-type-returns-3 t c .visit2 .result) (visit2·expand-type-returns-3 t c .visit2 .last .1 .1 .1 .1 .1 .1 .1 .0) (visit2·expand-type-returns-3 t c .visit2 .last .1 .1 .1 .1 .1 .1 .1 .1 .0) (visit2·expand-type-returns-3 t c .visit2 .last .1 .1 .1 .1 .1 .1 .1 .1 .1 .0) (visit2·expand-type-returns-3 t c .visit2 .last .1 .1 .1 .1 .1 .1 .1 .1 .1 .1 .0) (visit2·expand-type-returns-3 t c .visit2 .ensures) (c .enum-told .given .1) ∙ sym (by-both t (Start·expand-type-returns-3 t c) (number-at·expand-type-returns-3 t c .number-at .result) (number-at·expand-type-returns-3 t c .number-at .ensures) (omega (arith, Else1·expand-type-returns-3 t c .if1 .left)) (number-at2·expand-type-returns-3 t c .number-at2 .result) (number-at2·expand-type-returns-3 t c .number-at2 .ensures) (c .before .before .before .before .before .before .before .before .before .before .before .before .before .before .before .if2 .left)), (tt, visit2·expand-type-returns-3 t c .visit2 .ensures .1 .1))
 
 expand-type-same-length-13 : (t : ℕ) → expand-type-lts.Need-same-length-13 (type-claims t) (expand-type-at t) expand-type.Post
 expand-type-same-length-13 t c = walk-features2·expand-type-returns-4 t c .walk-features2 .kept .1 .1 .1 .1 .1 .1 .1 .0 ∙ visit2·expand-type-returns-4 t c .visit2 .kept .1 .1 .1 .1 .1 .1 .1 .0
@@ -324,7 +333,11 @@ expand-type-same-length-16 t c = walk-features2·expand-type-returns-4 t c .walk
 expand-type-returns-4 : (t : ℕ) → expand-type-lts.Need-returns-4 (type-claims t) (expand-type-at t) expand-type.Post
 expand-type-returns-4 t c = (
   walk-features2·expand-type-returns-4 t c .walk-features2 .ensures .0 ∙ sym (by-both t (Start·expand-type-returns-4 t c) (number-at·expand-type-returns-4 t c .number-at .result) (number-at·expand-type-returns-4 t c .number-at .ensures) (omega (arith, Else1·expand-type-returns-4 t c .if1 .left)) (number-at2·expand-type-returns-4 t c .number-at2 .result) (number-at2·expand-type-returns-4 t c .number-at2 .ensures) (Else2·expand-type-returns-4 t c .if2 .left) ∙ up-done t (Start·expand-type-returns-4 t c) (number-at2·expand-type-returns-4 t c .number-at2 .result) (visit2·expand-type-returns-4 t c .visit2 .result) (visit2·expand-type-returns-4 t c .visit2 .last .1 .1 .1 .1 .1 .1 .1 .0) (visit2·expand-type-returns-4 t c .visit2 .last .1 .1 .1 .1 .1 .1 .1 .1 .0) (visit2·expand-type-returns-4 t c .visit2 .last .1 .1 .1 .1 .1 .1 .1 .1 .1 .0) (visit2·expand-type-returns-4 t c .visit2 .last .1 .1 .1 .1 .1 .1 .1 .1 .1 .1 .0) (visit2·expand-type-returns-4 t c .visit2 .ensures) (so-far·expand-type-returns-4 t c .so-far .given .0 .0) (so-far·expand-type-returns-4 t c .so-far .given .0 .1 .0) (so-far·expand-type-returns-4 t c .so-far .given .1)),
-  walk-features2·expand-type-returns-4 t c .walk-features2 .ensures .1,
+  (
+    walk-features2·expand-type-returns-4 t c .walk-features2 .ensures .1 .0,
+    up-behind t (Start·expand-type-returns-4 t c) (number-at2·expand-type-returns-4 t c .number-at2 .result) (visit2·expand-type-returns-4 t c .visit2 .result) (visit2·expand-type-returns-4 t c .visit2 .last .1 .1 .1 .1 .1 .1 .1 .0) (visit2·expand-type-returns-4 t c .visit2 .last .1 .1 .1 .1 .1 .1 .1 .1 .0) (visit2·expand-type-returns-4 t c .visit2 .last .1 .1 .1 .1 .1 .1 .1 .1 .1 .0) (visit2·expand-type-returns-4 t c .visit2 .last .1 .1 .1 .1 .1 .1 .1 .1 .1 .1 .0) (visit2·expand-type-returns-4 t c .visit2 .ensures) (so-far·expand-type-returns-4 t c .so-far .given .0 .0) (so-far·expand-type-returns-4 t c .so-far .given .0 .1 .0) (so-far·expand-type-returns-4 t c .so-far .given .1)
+        (walk-features2·expand-type-returns-4 t c .walk-features2 .last .1 .1 .1 .1 .1 .1 .1 .1 .0) (walk-features2·expand-type-returns-4 t c .walk-features2 .last .1 .1 .1 .1 .1 .1 .1 .1 .1 .0) (walk-features2·expand-type-returns-4 t c .walk-features2 .ensures .1 .1),
+  ),
 )
 
 -- ---- `visit`: what it is given
@@ -373,7 +386,8 @@ module _ (t : ℕ) (s : visit-lts.Start (visit-claims t) (visit-at t) visit.Post
 
     -- where what it means is expanded
     module _ (row : s .args .to < unfound) (r : Walked) (memo out notes calm : List ℕ)
-        (e : (stateOf r memo out notes ≡ run doing next (meant groups below (s .args .inverse) names (s .args .to))) × CalmAfter r groups dulls memo out notes calm) where
+        (e : (stateOf r memo out notes ≡ run doing next (meant groups below (s .args .inverse) names (s .args .to)))
+        × (CalmAfter r groups dulls memo out notes calm × Behind (s .args .tally) (s .args .out .now) (s .args .notes .now) out notes)) where
       opened : whole ≡ run doing next (meant groups below (s .args .inverse) names (s .args .to))
       opened = visit-type doing groups (s .args .to) (s .args .inverse) names given (s .args .visits) (s .args .left) some-left within row
 
@@ -390,7 +404,7 @@ module _ (t : ℕ) (s : visit-lts.Start (visit-claims t) (visit-at t) visit.Post
             omega (arith, d .1)
 
         expanded-passable : Passable groups dulls (held tally memo out notes) calm
-        expanded-passable = after-done groups dulls r memo out notes calm tally visits q (e .1)
+        expanded-passable = after-done groups dulls r memo out notes calm tally visits q (e .1 .0)
 
         -- both outputs are used as before
         module _ (u : tally .used ≡ s .args .tally .used) (v : tally .noted ≡ s .args .tally .noted) where
@@ -402,18 +416,18 @@ module _ (t : ℕ) (s : visit-lts.Start (visit-claims t) (visit-at t) visit.Post
 
 visit-returns : (t : ℕ) → visit-lts.Need-returns (visit-claims t) (visit-at t) visit.Post
 unfolding stateOf CalmAfter
-visit-returns t c = let s = c .before .before .before .before .before .before .before .before .before .before .before .before in (visit-over (doing t s) (groups t s) (s .args .to) (s .args .inverse) (names t s) (given t s) (s .args .visits) (s .args .left) (omega (arith, c .if1 .taken)), tt)
+visit-returns t c = let s = c .before .before .before .before .before .before .before .before .before .before .before .before in (visit-over (doing t s) (groups t s) (s .args .to) (s .args .inverse) (names t s) (given t s) (s .args .visits) (s .args .left) (omega (arith, c .if1 .taken)), (tt, behind-nothing (s .args .tally) (s .args .out .now) (s .args .notes .now)))
 
 visit-add-next : (t : ℕ) → visit-lts.Need-add-next (visit-claims t) (visit-at t) visit.Post
 visit-add-next t c = omega (arith, c .if1 .left)
 
 visit-returns-2 : (t : ℕ) → visit-lts.Need-returns-2 (visit-claims t) (visit-at t) visit.Post
 unfolding stateOf CalmAfter
-visit-returns-2 t c = let s = c .before .before .before .before .before .before .before .before .before .before .before .before .before in (visit-past (doing t s) (groups t s) (s .args .to) (s .args .inverse) (names t s) (given t s) (s .args .visits) (s .args .left) (c .if2 .taken) (omega (arith, c .before .if1 .left)), s .pre .1 .passable)
+visit-returns-2 t c = let s = c .before .before .before .before .before .before .before .before .before .before .before .before .before in (visit-past (doing t s) (groups t s) (s .args .to) (s .args .inverse) (names t s) (given t s) (s .args .visits) (s .args .left) (c .if2 .taken) (omega (arith, c .before .if1 .left)), (s .pre .1 .passable, behind-nothing (s .args .tally) (s .args .out .now) (s .args .notes .now)))
 
 visit-returns-3 : (t : ℕ) → visit-lts.Need-returns-3 (visit-claims t) (visit-at t) visit.Post
 unfolding stateOf CalmAfter
-visit-returns-3 t c = let s = c .before .before .before .before .before .before .before .before .before .before .before .before .before .before in (visit-nothing (doing t s) (groups t s) (s .args .to) (s .args .inverse) (names t s) (given t s) (s .args .visits) (s .args .left) (c .before .if2 .left) (omega (arith, c .before .before .if1 .left)) (c .if3 .taken), s .pre .1 .passable)
+visit-returns-3 t c = let s = c .before .before .before .before .before .before .before .before .before .before .before .before .before .before in (visit-nothing (doing t s) (groups t s) (s .args .to) (s .args .inverse) (names t s) (given t s) (s .args .visits) (s .args .left) (c .before .if2 .left) (omega (arith, c .before .before .if1 .left)) (c .if3 .taken), (s .pre .1 .passable, behind-nothing (s .args .tally) (s .args .out .now) (s .args .notes .now)))
 
 visit-sub-below : (t : ℕ) → visit-lts.Need-sub-below (visit-claims t) (visit-at t) visit.Post
 visit-sub-below t c = omega (arith, c .before .if2 .left)
@@ -531,7 +545,7 @@ Start·visit-returns-7 t c = Start·visit-sub-made t (c .before .before .before 
 
 visit-returns-4 : (t : ℕ) → visit-lts.Need-returns-4 (visit-claims t) (visit-at t) visit.Post
 unfolding stateOf CalmAfter
-visit-returns-4 t c = (passed-over t (Start·visit-returns-4 t c) (c .before .before .before .before .before .if2 .left) (omega (arith, c .before .before .before .before .before .before .if1 .left)) (c .before .before .number-at .result) (c .before .before .number-at .ensures) (λ z. omega (arith, z, c .before .if4 .taken)) (omega (arith, c .if5 .taken, c .before .before .before .before .before .before .if1 .left)), tt)
+visit-returns-4 t c = (passed-over t (Start·visit-returns-4 t c) (c .before .before .before .before .before .if2 .left) (omega (arith, c .before .before .before .before .before .before .if1 .left)) (c .before .before .number-at .result) (c .before .before .number-at .ensures) (λ z. omega (arith, z, c .before .if4 .taken)) (omega (arith, c .if5 .taken, c .before .before .before .before .before .before .if1 .left)), (tt, behind-nothing (Start·visit-returns-4 t c .args .tally) (Start·visit-returns-4 t c .args .out .now) (Start·visit-returns-4 t c .args .notes .now)))
 
 visit-add-all : (t : ℕ) → visit-lts.Need-add-all (visit-claims t) (visit-at t) visit.Post
 visit-add-all t c = omega (arith, c .if5 .left, c .before .before .before .before .before .before .if1 .left)
@@ -541,7 +555,7 @@ visit-same-length-2 t c = refl
 
 visit-returns-5 : (t : ℕ) → visit-lts.Need-returns-5 (visit-claims t) (visit-at t) visit.Post
 unfolding stateOf CalmAfter
-visit-returns-5 t c = (passed-done t (Start·visit-returns-5 t c) (c .before .before .before .before .before .if2 .left) (omega (arith, c .before .before .before .before .before .before .if1 .left)) (c .before .before .number-at .result) (c .before .before .number-at .ensures) (λ z. omega (arith, z, c .before .if4 .taken)) (omega (arith, c .if5 .left, c .before .before .before .before .before .before .if1 .left)), Start·visit-returns-5 t c .pre .1 .passable)
+visit-returns-5 t c = (passed-done t (Start·visit-returns-5 t c) (c .before .before .before .before .before .if2 .left) (omega (arith, c .before .before .before .before .before .before .if1 .left)) (c .before .before .number-at .result) (c .before .before .number-at .ensures) (λ z. omega (arith, z, c .before .if4 .taken)) (omega (arith, c .if5 .left, c .before .before .before .before .before .before .if1 .left)), (Start·visit-returns-5 t c .pre .1 .passable, behind-nothing (Start·visit-returns-5 t c .args .tally) (Start·visit-returns-5 t c .args .out .now) (Start·visit-returns-5 t c .args .notes .now)))
 
 visit-expand-type-requires : (t : ℕ) → visit-lts.Need-expand-type-requires (visit-claims t) (visit-at t) visit.Post
 visit-expand-type-requires t c κs =
@@ -576,7 +590,7 @@ visit-same-length-6 t c = expand-type·visit-returns-6 t c .expand-type .kept .1
 
 visit-returns-6 : (t : ℕ) → visit-lts.Need-returns-6 (visit-claims t) (visit-at t) visit.Post
 unfolding stateOf CalmAfter
-visit-returns-6 t c = (expanded-over t (Start·visit-returns-6 t c) (Else2·visit-returns-6 t c .if2 .left) (omega (arith, Else1·visit-returns-6 t c .if1 .left)) (Else3·visit-returns-6 t c .if3 .left) (expand-type·visit-returns-6 t c .expand-type .result) (expand-type·visit-returns-6 t c .expand-type .last .1 .1 .1 .1 .1 .1 .1 .0) (expand-type·visit-returns-6 t c .expand-type .last .1 .1 .1 .1 .1 .1 .1 .1 .0) (expand-type·visit-returns-6 t c .expand-type .last .1 .1 .1 .1 .1 .1 .1 .1 .1 .0) (expand-type·visit-returns-6 t c .expand-type .last .1 .1 .1 .1 .1 .1 .1 .1 .1 .1 .0) (expand-type·visit-returns-6 t c .expand-type .ensures) (c .enum-told .given .1), tt)
+visit-returns-6 t c = (expanded-over t (Start·visit-returns-6 t c) (Else2·visit-returns-6 t c .if2 .left) (omega (arith, Else1·visit-returns-6 t c .if1 .left)) (Else3·visit-returns-6 t c .if3 .left) (expand-type·visit-returns-6 t c .expand-type .result) (expand-type·visit-returns-6 t c .expand-type .last .1 .1 .1 .1 .1 .1 .1 .0) (expand-type·visit-returns-6 t c .expand-type .last .1 .1 .1 .1 .1 .1 .1 .1 .0) (expand-type·visit-returns-6 t c .expand-type .last .1 .1 .1 .1 .1 .1 .1 .1 .1 .0) (expand-type·visit-returns-6 t c .expand-type .last .1 .1 .1 .1 .1 .1 .1 .1 .1 .1 .0) (expand-type·visit-returns-6 t c .expand-type .ensures) (c .enum-told .given .1), (tt, expand-type·visit-returns-6 t c .expand-type .ensures .1 .1))
 
 visit-same-length-7 : (t : ℕ) → visit-lts.Need-same-length-7 (visit-claims t) (visit-at t) visit.Post
 visit-same-length-7 t c = expand-type·visit-returns-7 t c .expand-type .kept .1 .1 .1 .1 .1 .1 .1 .0
@@ -594,8 +608,11 @@ visit-returns-7 : (t : ℕ) → visit-lts.Need-returns-7 (visit-claims t) (visit
 unfolding CalmAfter
 visit-returns-7 t c = (
   expanded-done t (Start·visit-returns-7 t c) (Else2·visit-returns-7 t c .if2 .left) (omega (arith, Else1·visit-returns-7 t c .if1 .left)) (Else3·visit-returns-7 t c .if3 .left) (expand-type·visit-returns-7 t c .expand-type .result) (expand-type·visit-returns-7 t c .expand-type .last .1 .1 .1 .1 .1 .1 .1 .0) (expand-type·visit-returns-7 t c .expand-type .last .1 .1 .1 .1 .1 .1 .1 .1 .0) (expand-type·visit-returns-7 t c .expand-type .last .1 .1 .1 .1 .1 .1 .1 .1 .1 .0) (expand-type·visit-returns-7 t c .expand-type .last .1 .1 .1 .1 .1 .1 .1 .1 .1 .1 .0) (expand-type·visit-returns-7 t c .expand-type .ensures) (then·visit-returns-7 t c .then .given .0 .0) (then·visit-returns-7 t c .then .given .0 .1 .0) (then·visit-returns-7 t c .then .given .1),
-  subst (λ (l : List ℕ). Passable (groups t (Start·visit-returns-7 t c)) (dulls t (Start·visit-returns-7 t c)) (held (then·visit-returns-7 t c .then .given .0 .0) (expand-type·visit-returns-7 t c .expand-type .last .1 .1 .1 .1 .1 .1 .1 .0) (expand-type·visit-returns-7 t c .expand-type .last .1 .1 .1 .1 .1 .1 .1 .1 .0) (expand-type·visit-returns-7 t c .expand-type .last .1 .1 .1 .1 .1 .1 .1 .1 .1 .0)) l)
-      (sym (c .before .before .put-number .ensures)) (expanded-calm t (Start·visit-returns-7 t c) (Else2·visit-returns-7 t c .if2 .left) (omega (arith, Else1·visit-returns-7 t c .if1 .left)) (Else3·visit-returns-7 t c .if3 .left) (expand-type·visit-returns-7 t c .expand-type .result) (expand-type·visit-returns-7 t c .expand-type .last .1 .1 .1 .1 .1 .1 .1 .0) (expand-type·visit-returns-7 t c .expand-type .last .1 .1 .1 .1 .1 .1 .1 .1 .0) (expand-type·visit-returns-7 t c .expand-type .last .1 .1 .1 .1 .1 .1 .1 .1 .1 .0) (expand-type·visit-returns-7 t c .expand-type .last .1 .1 .1 .1 .1 .1 .1 .1 .1 .1 .0) (expand-type·visit-returns-7 t c .expand-type .ensures) (then·visit-returns-7 t c .then .given .0 .0) (then·visit-returns-7 t c .then .given .0 .1 .0) (then·visit-returns-7 t c .then .given .1) (c .before .before .before .before .before .before .before .if6 .taken) (c .before .before .before .before .if7 .taken)),
+  (
+    subst (λ (l : List ℕ). Passable (groups t (Start·visit-returns-7 t c)) (dulls t (Start·visit-returns-7 t c)) (held (then·visit-returns-7 t c .then .given .0 .0) (expand-type·visit-returns-7 t c .expand-type .last .1 .1 .1 .1 .1 .1 .1 .0) (expand-type·visit-returns-7 t c .expand-type .last .1 .1 .1 .1 .1 .1 .1 .1 .0) (expand-type·visit-returns-7 t c .expand-type .last .1 .1 .1 .1 .1 .1 .1 .1 .1 .0)) l)
+        (sym (c .before .before .put-number .ensures)) (expanded-calm t (Start·visit-returns-7 t c) (Else2·visit-returns-7 t c .if2 .left) (omega (arith, Else1·visit-returns-7 t c .if1 .left)) (Else3·visit-returns-7 t c .if3 .left) (expand-type·visit-returns-7 t c .expand-type .result) (expand-type·visit-returns-7 t c .expand-type .last .1 .1 .1 .1 .1 .1 .1 .0) (expand-type·visit-returns-7 t c .expand-type .last .1 .1 .1 .1 .1 .1 .1 .1 .0) (expand-type·visit-returns-7 t c .expand-type .last .1 .1 .1 .1 .1 .1 .1 .1 .1 .0) (expand-type·visit-returns-7 t c .expand-type .last .1 .1 .1 .1 .1 .1 .1 .1 .1 .1 .0) (expand-type·visit-returns-7 t c .expand-type .ensures) (then·visit-returns-7 t c .then .given .0 .0) (then·visit-returns-7 t c .then .given .0 .1 .0) (then·visit-returns-7 t c .then .given .1) (c .before .before .before .before .before .before .before .if6 .taken) (c .before .before .before .before .if7 .taken)),
+    expand-type·visit-returns-7 t c .expand-type .ensures .1 .1,
+  ),
 )
 
 visit-same-length-11 : (t : ℕ) → visit-lts.Need-same-length-11 (visit-claims t) (visit-at t) visit.Post
@@ -612,7 +629,7 @@ visit-same-length-14 t c = expand-type·visit-returns-8 t c .expand-type .kept .
 
 visit-returns-8 : (t : ℕ) → visit-lts.Need-returns-8 (visit-claims t) (visit-at t) visit.Post
 unfolding CalmAfter
-visit-returns-8 t c = (expanded-done t (Start·visit-returns-8 t c) (Else2·visit-returns-8 t c .if2 .left) (omega (arith, Else1·visit-returns-8 t c .if1 .left)) (Else3·visit-returns-8 t c .if3 .left) (expand-type·visit-returns-8 t c .expand-type .result) (expand-type·visit-returns-8 t c .expand-type .last .1 .1 .1 .1 .1 .1 .1 .0) (expand-type·visit-returns-8 t c .expand-type .last .1 .1 .1 .1 .1 .1 .1 .1 .0) (expand-type·visit-returns-8 t c .expand-type .last .1 .1 .1 .1 .1 .1 .1 .1 .1 .0) (expand-type·visit-returns-8 t c .expand-type .last .1 .1 .1 .1 .1 .1 .1 .1 .1 .1 .0) (expand-type·visit-returns-8 t c .expand-type .ensures) (then·visit-returns-8 t c .then .given .0 .0) (then·visit-returns-8 t c .then .given .0 .1 .0) (then·visit-returns-8 t c .then .given .1), expanded-passable t (Start·visit-returns-8 t c) (Else2·visit-returns-8 t c .if2 .left) (omega (arith, Else1·visit-returns-8 t c .if1 .left)) (Else3·visit-returns-8 t c .if3 .left) (expand-type·visit-returns-8 t c .expand-type .result) (expand-type·visit-returns-8 t c .expand-type .last .1 .1 .1 .1 .1 .1 .1 .0) (expand-type·visit-returns-8 t c .expand-type .last .1 .1 .1 .1 .1 .1 .1 .1 .0) (expand-type·visit-returns-8 t c .expand-type .last .1 .1 .1 .1 .1 .1 .1 .1 .1 .0) (expand-type·visit-returns-8 t c .expand-type .last .1 .1 .1 .1 .1 .1 .1 .1 .1 .1 .0) (expand-type·visit-returns-8 t c .expand-type .ensures) (then·visit-returns-8 t c .then .given .0 .0) (then·visit-returns-8 t c .then .given .0 .1 .0) (then·visit-returns-8 t c .then .given .1))
+visit-returns-8 t c = (expanded-done t (Start·visit-returns-8 t c) (Else2·visit-returns-8 t c .if2 .left) (omega (arith, Else1·visit-returns-8 t c .if1 .left)) (Else3·visit-returns-8 t c .if3 .left) (expand-type·visit-returns-8 t c .expand-type .result) (expand-type·visit-returns-8 t c .expand-type .last .1 .1 .1 .1 .1 .1 .1 .0) (expand-type·visit-returns-8 t c .expand-type .last .1 .1 .1 .1 .1 .1 .1 .1 .0) (expand-type·visit-returns-8 t c .expand-type .last .1 .1 .1 .1 .1 .1 .1 .1 .1 .0) (expand-type·visit-returns-8 t c .expand-type .last .1 .1 .1 .1 .1 .1 .1 .1 .1 .1 .0) (expand-type·visit-returns-8 t c .expand-type .ensures) (then·visit-returns-8 t c .then .given .0 .0) (then·visit-returns-8 t c .then .given .0 .1 .0) (then·visit-returns-8 t c .then .given .1), (expanded-passable t (Start·visit-returns-8 t c) (Else2·visit-returns-8 t c .if2 .left) (omega (arith, Else1·visit-returns-8 t c .if1 .left)) (Else3·visit-returns-8 t c .if3 .left) (expand-type·visit-returns-8 t c .expand-type .result) (expand-type·visit-returns-8 t c .expand-type .last .1 .1 .1 .1 .1 .1 .1 .0) (expand-type·visit-returns-8 t c .expand-type .last .1 .1 .1 .1 .1 .1 .1 .1 .0) (expand-type·visit-returns-8 t c .expand-type .last .1 .1 .1 .1 .1 .1 .1 .1 .1 .0) (expand-type·visit-returns-8 t c .expand-type .last .1 .1 .1 .1 .1 .1 .1 .1 .1 .1 .0) (expand-type·visit-returns-8 t c .expand-type .ensures) (then·visit-returns-8 t c .then .given .0 .0) (then·visit-returns-8 t c .then .given .0 .1 .0) (then·visit-returns-8 t c .then .given .1), expand-type·visit-returns-8 t c .expand-type .ensures .1 .1))
 
 visit-same-length-15 : (t : ℕ) → visit-lts.Need-same-length-15 (visit-claims t) (visit-at t) visit.Post
 visit-same-length-15 t c = expand-type·visit-returns-9 t c .expand-type .kept .1 .1 .1 .1 .1 .1 .1 .0
@@ -628,7 +645,7 @@ visit-same-length-18 t c = expand-type·visit-returns-9 t c .expand-type .kept .
 
 visit-returns-9 : (t : ℕ) → visit-lts.Need-returns-9 (visit-claims t) (visit-at t) visit.Post
 unfolding CalmAfter
-visit-returns-9 t c = (expanded-done t (Start·visit-returns-9 t c) (Else2·visit-returns-9 t c .if2 .left) (omega (arith, Else1·visit-returns-9 t c .if1 .left)) (Else3·visit-returns-9 t c .if3 .left) (expand-type·visit-returns-9 t c .expand-type .result) (expand-type·visit-returns-9 t c .expand-type .last .1 .1 .1 .1 .1 .1 .1 .0) (expand-type·visit-returns-9 t c .expand-type .last .1 .1 .1 .1 .1 .1 .1 .1 .0) (expand-type·visit-returns-9 t c .expand-type .last .1 .1 .1 .1 .1 .1 .1 .1 .1 .0) (expand-type·visit-returns-9 t c .expand-type .last .1 .1 .1 .1 .1 .1 .1 .1 .1 .1 .0) (expand-type·visit-returns-9 t c .expand-type .ensures) (then·visit-returns-9 t c .then .given .0 .0) (then·visit-returns-9 t c .then .given .0 .1 .0) (then·visit-returns-9 t c .then .given .1), expanded-passable t (Start·visit-returns-9 t c) (Else2·visit-returns-9 t c .if2 .left) (omega (arith, Else1·visit-returns-9 t c .if1 .left)) (Else3·visit-returns-9 t c .if3 .left) (expand-type·visit-returns-9 t c .expand-type .result) (expand-type·visit-returns-9 t c .expand-type .last .1 .1 .1 .1 .1 .1 .1 .0) (expand-type·visit-returns-9 t c .expand-type .last .1 .1 .1 .1 .1 .1 .1 .1 .0) (expand-type·visit-returns-9 t c .expand-type .last .1 .1 .1 .1 .1 .1 .1 .1 .1 .0) (expand-type·visit-returns-9 t c .expand-type .last .1 .1 .1 .1 .1 .1 .1 .1 .1 .1 .0) (expand-type·visit-returns-9 t c .expand-type .ensures) (then·visit-returns-9 t c .then .given .0 .0) (then·visit-returns-9 t c .then .given .0 .1 .0) (then·visit-returns-9 t c .then .given .1))
+visit-returns-9 t c = (expanded-done t (Start·visit-returns-9 t c) (Else2·visit-returns-9 t c .if2 .left) (omega (arith, Else1·visit-returns-9 t c .if1 .left)) (Else3·visit-returns-9 t c .if3 .left) (expand-type·visit-returns-9 t c .expand-type .result) (expand-type·visit-returns-9 t c .expand-type .last .1 .1 .1 .1 .1 .1 .1 .0) (expand-type·visit-returns-9 t c .expand-type .last .1 .1 .1 .1 .1 .1 .1 .1 .0) (expand-type·visit-returns-9 t c .expand-type .last .1 .1 .1 .1 .1 .1 .1 .1 .1 .0) (expand-type·visit-returns-9 t c .expand-type .last .1 .1 .1 .1 .1 .1 .1 .1 .1 .1 .0) (expand-type·visit-returns-9 t c .expand-type .ensures) (then·visit-returns-9 t c .then .given .0 .0) (then·visit-returns-9 t c .then .given .0 .1 .0) (then·visit-returns-9 t c .then .given .1), (expanded-passable t (Start·visit-returns-9 t c) (Else2·visit-returns-9 t c .if2 .left) (omega (arith, Else1·visit-returns-9 t c .if1 .left)) (Else3·visit-returns-9 t c .if3 .left) (expand-type·visit-returns-9 t c .expand-type .result) (expand-type·visit-returns-9 t c .expand-type .last .1 .1 .1 .1 .1 .1 .1 .0) (expand-type·visit-returns-9 t c .expand-type .last .1 .1 .1 .1 .1 .1 .1 .1 .0) (expand-type·visit-returns-9 t c .expand-type .last .1 .1 .1 .1 .1 .1 .1 .1 .1 .0) (expand-type·visit-returns-9 t c .expand-type .last .1 .1 .1 .1 .1 .1 .1 .1 .1 .1 .0) (expand-type·visit-returns-9 t c .expand-type .ensures) (then·visit-returns-9 t c .then .given .0 .0) (then·visit-returns-9 t c .then .given .0 .1 .0) (then·visit-returns-9 t c .then .given .1), expand-type·visit-returns-9 t c .expand-type .ensures .1 .1))
 
 abbrev walk-features-Inv-loop : walk-features-lts.InvT-loop
 walk-features-Inv-loop e nested extends inverses bytes n kept memo₀ out₀ notes₀ calm₀ purpose row inverse prefix len left visits count so-far₀ seen₀ i₀ memo out notes calm so-far seen i =
@@ -637,6 +654,7 @@ walk-features-Inv-loop e nested extends inverses bytes n kept memo₀ out₀ not
     × (onFrom (taken purpose bytes n kept) (groupsIn e nested extends inverses) (visitLink (groupsIn e nested extends inverses) left) inverse (take len prefix) row (going (held so-far memo out notes) seen) i
     ≡ run (taken purpose bytes n kept) (going (held so-far₀ memo₀ out₀ notes₀) visits) (walk (groupsIn e nested extends inverses) (visitLink (groupsIn e nested extends inverses) left) inverse (take len prefix) (rowsIn (groupsIn e nested extends inverses) row)))
     × Passable (groupsIn e nested extends inverses) (Dull purpose bytes n kept) (held so-far memo out notes) calm
+    × Grown (held so-far₀ memo₀ out₀ notes₀) (held so-far memo out notes)
 
 abbrev walk-features-μ-loop : walk-features-lts.MeasureT-loop
 walk-features-μ-loop e nested extends inverses bytes n kept memo₀ out₀ notes₀ calm₀ purpose row inverse prefix len left visits count so-far₀ seen₀ i₀ memo out notes calm so-far seen i = length e / width letterE - i
@@ -673,6 +691,13 @@ module _ (t : ℕ) (c : walk-features-lts.After-belongs (walk-claims t) (walk-fe
   abbrev carried : Held
   carried = held (at-row .loop .so-far) (at-row .loop .memo) (at-row .loop .out) (at-row .loop .notes)
 
+  -- what it was given
+  abbrev started : Held
+  started = held (top .args .tally) (top .args .memo .now) (top .args .out .now) (top .args .notes .now)
+
+  growing : (f : Feature) (h : Held) → Bounded h → Grown h (does f h)
+  growing = grows (top .args .bytes .now) (top .args .n .now) (top .args .kept .now) (top .args .purpose)
+
   abbrev row : ℕ
   row = at-row .loop .i
 
@@ -691,6 +716,13 @@ module _ (t : ℕ) (c : walk-features-lts.After-belongs (walk-claims t) (walk-fe
   abbrev here : State
   here = onFrom does groups-here deeper (top .args .inverse) names-here (top .args .row) (going carried (at-row .loop .seen)) row
 
+  -- what is written behind what stands there now is behind what stood there
+  all-behind : (out notes : List ℕ) → Behind (at-row .loop .so-far) (at-row .loop .out) (at-row .loop .notes) out notes
+      → Behind (top .args .tally) (top .args .out .now) (top .args .notes .now) out notes
+  all-behind out notes =
+      behind-then (top .args .tally) (at-row .loop .so-far) (top .args .memo .now) (top .args .out .now) (top .args .notes .now) (at-row .loop .memo) (at-row .loop .out) (at-row .loop .notes) out notes
+      (at-row .loop .inv .9)
+
   passed : c .belongs .result ≡ false → onward (going carried (at-row .loop .seen)) ≡ here
   passed = row-passed does groups-here deeper (top .args .inverse) names-here (top .args .row) row (c .before .loop-test .taken) carried (at-row .loop .seen) (c .belongs .result) (c .belongs .ensures)
 
@@ -706,14 +738,16 @@ module _ (t : ℕ) (c : walk-features-lts.After-belongs (walk-claims t) (walk-fe
           subst (λ (h : Held). Ready (top .args .purpose) (top .args .bytes .now) (top .args .n .now) (top .args .kept .now) (h .memo)) (sym d)
           (taken-ready (top .args .purpose) (top .args .bytes .now) (top .args .n .now) (top .args .kept .now) f carried (at-row .loop .inv .5))
 
-      listed-passable : Passable groups-here dulls-here a (at-row .loop .calm)
-      listed-passable =
-          subst (λ (h : Held). Passable groups-here dulls-here h (at-row .loop .calm)) (sym d)
-          (passable-stays does dulls-here (passing (top .args .purpose) (top .args .bytes .now) (top .args .n .now) (top .args .kept .now)) groups-here f carried (at-row .loop .calm) (at-row .loop .inv .8))
+      listed-after : Passable groups-here dulls-here a (at-row .loop .calm) × Grown started a
+      listed-after =
+          subst (λ (h : Held). Passable groups-here dulls-here h (at-row .loop .calm) × Grown started h) (sym d) (
+            passable-stays does dulls-here (passing (top .args .purpose) (top .args .bytes .now) (top .args .n .now) (top .args .kept .now)) groups-here f carried (at-row .loop .calm) (at-row .loop .inv .8),
+            grown-then started carried (does f carried) (at-row .loop .inv .9) (growing f carried (at-row .loop .inv .9 .2)),
+          )
 
     module _ (m : to ≡ missing → ⊥) (name : ℕ) (is : name ≡ eName (declaredIn [] [] (top .args .e .now)) row) (r : Walked) (memo out notes calm : List ℕ)
         (e : (stateOf r memo out notes ≡ run does (going carried (at-row .loop .seen)) (deeper to (top .args .inverse) (take (top .args .len + 1) (set (top .args .prefix) (top .args .len) name))))
-        × CalmAfter r groups-here dulls-here memo out notes calm) where
+        × (CalmAfter r groups-here dulls-here memo out notes calm × Behind (at-row .loop .so-far) (at-row .loop .out) (at-row .loop .notes) out notes)) where
       longer : take (top .args .len + 1) (set (top .args .prefix) (top .args .len) name) ≡ names-here ++ eName (declaredIn [] [] (top .args .e .now)) row ∷ []
       longer = prefix-more (top .args .prefix) (top .args .len) name (omega (arith, top .pre .1 .places, top .pre .1 .deep)) ∙ ap (λ (x : ℕ). names-here ++ x ∷ []) is
 
@@ -733,10 +767,15 @@ module _ (t : ℕ) (c : walk-features-lts.After-belongs (walk-claims t) (walk-fe
             done-good does (Ready (top .args .purpose) (top .args .bytes .now) (top .args .n .now) (top .args .kept .now)) (taken-ready (top .args .purpose) (top .args .bytes .now) (top .args .n .now) (top .args .kept .now))
             r memo out notes carried (at-row .loop .seen) (deeper to (top .args .inverse) (take (top .args .len + 1) (set (top .args .prefix) (top .args .len) name))) tally visits (e .0) z (at-row .loop .inv .5)
 
-        nested-passable : Passable groups-here dulls-here (held tally memo out notes) calm
-        nested-passable = after-done groups-here dulls-here r memo out notes calm tally visits z (e .1)
+        nested-after : Passable groups-here dulls-here (held tally memo out notes) calm × Grown started (held tally memo out notes)
+        nested-after = (
+          after-done groups-here dulls-here r memo out notes calm tally visits z (e .1 .0),
+          grown-then started carried (held tally memo out notes) (at-row .loop .inv .9)
+              (done-grown does growing r memo out notes carried (at-row .loop .seen) (deeper to (top .args .inverse) (take (top .args .len + 1) (set (top .args .prefix) (top .args .len) name))) tally visits (e .0) z (at-row .loop .inv .9 .2)),
+        )
 
 walk-features-loop-holds : (t : ℕ) → walk-features-lts.Need-loop-holds (walk-claims t) (walk-features-at t) walk-features.Post walk-features-Inv-loop walk-features-μ-loop
+unfolding Passable
 walk-features-loop-holds t c =
     let s = c .before .before .before .before .before .before .before .before .before .before .before in (
       omega arith,
@@ -748,6 +787,7 @@ walk-features-loop-holds t c =
       s .pre .1 .few,
       rw (rows-start (groupsIn (s .args .e .now) (s .args .nested .now) (s .args .extends .now) (s .args .inverses .now)) (s .args .row)),
       s .pre .1 .passable,
+      grown-nothing (held (s .args .tally) (s .args .memo .now) (s .args .out .now) (s .args .notes .now)) (s .pre .1 .passable .0),
     )
 
 walk-features-belongs-requires : (t : ℕ) → walk-features-lts.Need-belongs-requires (walk-claims t) (walk-features-at t) walk-features.Post walk-features-Inv-loop walk-features-μ-loop
@@ -841,7 +881,7 @@ walk-features-returns t c = (
   stopped t (belongs·walk-features-returns t c) (Then1·walk-features-returns t c .if1 .taken) (number-at·walk-features-returns t c .number-at .result) (number-at·walk-features-returns t c .number-at .ensures) (c .before .before .before .before .before .before .before .before .before .before .before .before .before .before .before .if2 .left) (name-of·walk-features-returns t c .name-of .result) (name-of·walk-features-returns t c .name-of .ensures)
       (visit·walk-features-returns t c .visit .result) (visit·walk-features-returns t c .visit .last .1 .1 .1 .1 .1 .1 .1 .0) (visit·walk-features-returns t c .visit .last .1 .1 .1 .1 .1 .1 .1 .1 .0) (visit·walk-features-returns t c .visit .last .1 .1 .1 .1 .1 .1 .1 .1 .1 .0) (visit·walk-features-returns t c .visit .last .1 .1 .1 .1 .1 .1 .1 .1 .1 .1 .0) (visit·walk-features-returns t c .visit .ensures) (c .enum-told .given .1)
       ∙ At-loop·walk-features-returns t c .loop .inv .7,
-  tt,
+  (tt, all-behind t (belongs·walk-features-returns t c) _ _ (visit·walk-features-returns t c .visit .ensures .1 .1)),
 )
 
 walk-features-enum-known-then : (t : ℕ) → walk-features-lts.Need-enum-known-then (walk-claims t) (walk-features-at t) walk-features.Post walk-features-Inv-loop walk-features-μ-loop
@@ -859,19 +899,26 @@ walk-features-loop-again t c =
     let s = Start·walk-features-loop-again t c in
     let f = c .before in
     elim (c .if1 .came) [
-      | inl w ↦ left-there (Next t f) (w .17) (w .18) (w .19) (w .20) (w .21) (w .22) (
-        omega (arith, c .before .before .loop-test .taken),
-        w .10 .kept .1 .1 .1 .0 ∙ k .loop .inv .1,
-        w .10 .kept .1 .1 .1 .1 .0 ∙ k .loop .inv .2,
-        w .10 .kept .1 .1 .1 .1 .1 .0 ∙ k .loop .inv .3,
-        k .loop .inv .4,
-        listed-ready t f (w .0 .taken) (w .2 .result) (w .2 .ensures) (held (w .10 .result) (w .10 .last .1 .1 .1 .0) (w .10 .last .1 .1 .1 .1 .0) (w .10 .last .1 .1 .1 .1 .1 .0)) _ (feature-is (s .args .e .now) (s .args .inverse) (take (s .args .len) (s .args .prefix)) (k .loop .i) (w .1 .result) (w .4 .result) (w .5 .result) (w .6 .result) (w .1 .ensures) (w .4 .ensures) (w .5 .ensures) (w .6 .ensures)) (w .10 .ensures),
-        k .loop .inv .6,
-        listed t f (w .0 .taken) (w .2 .result) (w .2 .ensures) (held (w .10 .result) (w .10 .last .1 .1 .1 .0) (w .10 .last .1 .1 .1 .1 .0) (w .10 .last .1 .1 .1 .1 .1 .0)) _ (feature-is (s .args .e .now) (s .args .inverse) (take (s .args .len) (s .args .prefix)) (k .loop .i) (w .1 .result) (w .4 .result) (w .5 .result) (w .6 .result) (w .1 .ensures) (w .4 .ensures) (w .5 .ensures) (w .6 .ensures)) (w .10 .ensures) (w .3 .taken) ∙ k .loop .inv .7,
-        listed-passable t f (w .0 .taken) (w .2 .result) (w .2 .ensures) (held (w .10 .result) (w .10 .last .1 .1 .1 .0) (w .10 .last .1 .1 .1 .1 .0) (w .10 .last .1 .1 .1 .1 .1 .0)) _ (feature-is (s .args .e .now) (s .args .inverse) (take (s .args .len) (s .args .prefix)) (k .loop .i) (w .1 .result) (w .4 .result) (w .5 .result) (w .6 .result) (w .1 .ensures) (w .4 .ensures) (w .5 .ensures) (w .6 .ensures)) (w .10 .ensures),
-      )
+      | inl w ↦
+          let a = held (w .10 .result) (w .10 .last .1 .1 .1 .0) (w .10 .last .1 .1 .1 .1 .0) (w .10 .last .1 .1 .1 .1 .1 .0) in
+          let is = feature-is (s .args .e .now) (s .args .inverse) (take (s .args .len) (s .args .prefix)) (k .loop .i) (w .1 .result) (w .4 .result) (w .5 .result) (w .6 .result) (w .1 .ensures) (w .4 .ensures) (w .5 .ensures) (w .6 .ensures) in
+          let p = listed-after t f (w .0 .taken) (w .2 .result) (w .2 .ensures) a _ is (w .10 .ensures) in
+          left-there (Next t f) (w .17) (w .18) (w .19) (w .20) (w .21) (w .22) (
+            omega (arith, c .before .before .loop-test .taken),
+            w .10 .kept .1 .1 .1 .0 ∙ k .loop .inv .1,
+            w .10 .kept .1 .1 .1 .1 .0 ∙ k .loop .inv .2,
+            w .10 .kept .1 .1 .1 .1 .1 .0 ∙ k .loop .inv .3,
+            k .loop .inv .4,
+            listed-ready t f (w .0 .taken) (w .2 .result) (w .2 .ensures) a _ is (w .10 .ensures),
+            k .loop .inv .6,
+            listed t f (w .0 .taken) (w .2 .result) (w .2 .ensures) a _ is (w .10 .ensures) (w .3 .taken) ∙ k .loop .inv .7,
+            p .0,
+            p .1,
+          )
       | inr (inl w) ↦
-          let m = nested-good t f (w .0 .taken) (w .2 .result) (w .2 .ensures) (w .3 .left) (w .1 .result) (w .1 .ensures) (w .8 .result) (w .8 .last .1 .1 .1 .1 .1 .1 .1 .0) (w .8 .last .1 .1 .1 .1 .1 .1 .1 .1 .0) (w .8 .last .1 .1 .1 .1 .1 .1 .1 .1 .1 .0) (w .8 .last .1 .1 .1 .1 .1 .1 .1 .1 .1 .1 .0) (w .8 .ensures) (w .18 .given .0 .0) (w .18 .given .0 .1 .0) (w .18 .given .1) in
+          let l = w .8 .last .1 .1 .1 .1 .1 .1 .1 in
+          let m = nested-good t f (w .0 .taken) (w .2 .result) (w .2 .ensures) (w .3 .left) (w .1 .result) (w .1 .ensures) (w .8 .result) (l .0) (l .1 .0) (l .1 .1 .0) (l .1 .1 .1 .0) (w .8 .ensures) (w .18 .given .0 .0) (w .18 .given .0 .1 .0) (w .18 .given .1) in
+          let p = nested-after t f (w .0 .taken) (w .2 .result) (w .2 .ensures) (w .3 .left) (w .1 .result) (w .1 .ensures) (w .8 .result) (l .0) (l .1 .0) (l .1 .1 .0) (l .1 .1 .1 .0) (w .8 .ensures) (w .18 .given .0 .0) (w .18 .given .0 .1 .0) (w .18 .given .1) in
           left-there (Next t f) (w .20) (w .21) (w .22) (w .23) (w .24) (w .25) (
             omega (arith, c .before .before .loop-test .taken),
             _∙_ {b = length (k .loop .memo)} (w .8 .kept .1 .1 .1 .1 .1 .1 .1 .0) (k .loop .inv .1),
@@ -880,11 +927,12 @@ walk-features-loop-again t c =
             _∙_ {b = length (k .loop .calm)} (w .8 .kept .1 .1 .1 .1 .1 .1 .1 .1 .1 .1 .0) (k .loop .inv .4),
             m .0,
             m .1,
-            nested t f (w .0 .taken) (w .2 .result) (w .2 .ensures) (w .3 .left) (w .1 .result) (w .1 .ensures) (w .8 .result) (w .8 .last .1 .1 .1 .1 .1 .1 .1 .0) (w .8 .last .1 .1 .1 .1 .1 .1 .1 .1 .0) (w .8 .last .1 .1 .1 .1 .1 .1 .1 .1 .1 .0) (w .8 .last .1 .1 .1 .1 .1 .1 .1 .1 .1 .1 .0) (w .8 .ensures) (w .18 .given .0 .0) (w .18 .given .0 .1 .0) (w .18 .given .1) ∙ k .loop .inv .7,
-            nested-passable t f (w .0 .taken) (w .2 .result) (w .2 .ensures) (w .3 .left) (w .1 .result) (w .1 .ensures) (w .8 .result) (w .8 .last .1 .1 .1 .1 .1 .1 .1 .0) (w .8 .last .1 .1 .1 .1 .1 .1 .1 .1 .0) (w .8 .last .1 .1 .1 .1 .1 .1 .1 .1 .1 .0) (w .8 .last .1 .1 .1 .1 .1 .1 .1 .1 .1 .1 .0) (w .8 .ensures) (w .18 .given .0 .0) (w .18 .given .0 .1 .0) (w .18 .given .1),
+            nested t f (w .0 .taken) (w .2 .result) (w .2 .ensures) (w .3 .left) (w .1 .result) (w .1 .ensures) (w .8 .result) (l .0) (l .1 .0) (l .1 .1 .0) (l .1 .1 .1 .0) (w .8 .ensures) (w .18 .given .0 .0) (w .18 .given .0 .1 .0) (w .18 .given .1) ∙ k .loop .inv .7,
+            p .0,
+            p .1,
           )
       | inr (inr w) ↦ left-there (Next t f) (w .1) (w .2) (w .3) (w .4) (w .5) (w .6)
-          (omega (arith, c .before .before .loop-test .taken), k .loop .inv .1, k .loop .inv .2, k .loop .inv .3, k .loop .inv .4, k .loop .inv .5, k .loop .inv .6, passed t f (w .0 .left) ∙ k .loop .inv .7, k .loop .inv .8)
+          (omega (arith, c .before .before .loop-test .taken), k .loop .inv .1, k .loop .inv .2, k .loop .inv .3, k .loop .inv .4, k .loop .inv .5, k .loop .inv .6, passed t f (w .0 .left) ∙ k .loop .inv .7, k .loop .inv .8, k .loop .inv .9)
     ]
 
 walk-features-same-length-5 : (t : ℕ) → walk-features-lts.Need-same-length-5 (walk-claims t) (walk-features-at t) walk-features.Post walk-features-Inv-loop walk-features-μ-loop
@@ -907,7 +955,11 @@ walk-features-returns-2 t c =
       sym (walk-end (taken (s .args .purpose) (s .args .bytes .now) (s .args .n .now) (s .args .kept .now)) (groupsIn (s .args .e .now) (s .args .nested .now) (s .args .extends .now) (s .args .inverses .now)) (visitLink (groupsIn (s .args .e .now) (s .args .nested .now) (s .args .extends .now) (s .args .inverses .now)) (s .args .left)) (s .args .inverse) (take (s .args .len) (s .args .prefix)) (s .args .row)
           (k .loop .i) (held (k .loop .so-far) (k .loop .memo) (k .loop .out) (k .loop .notes)) (k .loop .seen) (c .loop-test .left) (k .loop .inv .6))
           ∙ k .loop .inv .7,
-      k .loop .inv .8,
+      (
+        k .loop .inv .8,
+        behind-then (s .args .tally) (k .loop .so-far) (s .args .memo .now) (s .args .out .now) (s .args .notes .now) (k .loop .memo) (k .loop .out) (k .loop .notes) (k .loop .out) (k .loop .notes) (k .loop .inv .9)
+            (behind-nothing (k .loop .so-far) (k .loop .out) (k .loop .notes)),
+      ),
     )
 
 pub +expand-type+visit+walk-features-spec : {M : Type 1} → statement M

@@ -1,6 +1,5 @@
 -- `links::link_groups` meets its contract. Each table is what its function leaves. Assumes nothing.
 use Rattle.lent.specs.Lent.{withE}
-use Rattle.links.specs.Links.{Holds}
 use borrow.Author.Needs.{needs}
 use Rattle.links.proofs.link_groups.Statement.{statement}
 use Rattle.links.proofs.link_groups.Tie as tie
@@ -21,11 +20,10 @@ same-length-3 : tie.Need-same-length-3
 same-length-3 c = search needs
 
 returns : tie.Need-returns
-unfolding Holds
 returns c =
     λ o.
     let types = c .before .before .before .before .before .before .before .before .link-types .ensures (withE (c .before .before .before .before .before .before .before .before .before .before .before .before .before .before .before .before .before .before .before .before .before .before .before .args .e .now) o) in
-    record { of-nested = c .before .before .link-features .ensures o; of-extends = types .0; of-inverse = types .1 }
+    record { in-nested = c .before .before .link-features .ensures o; in-extends = types .0; in-inverse = types .1 }
 
 pub link-groups-spec : {M : Type 1} → statement M
 link-groups-spec =

@@ -1,21 +1,21 @@
--- `links::link_types` meets its contract. The invariant: both tables have the links of the rows below `row`. The measure: the rows that are left. Assumes nothing.
+-- `links::link_types` meets its contract. The invariant: in both tables the links from row `row` on are left to write. The measure: the rows that are left. Assumes nothing.
 use mathlib.Core.Path.{_≡_, refl, ap, _∙_}
-use Prim.Native.Nat.{_-_, _/_, _<_}
+use Prim.Native.Nat.{_-_, _/_}
 use native.Mathlib.Omega.{arith}
 use lib.ListN.{length, length-set}
 use borrow.Author.Needs.{needs}
 use Rattle.as5506.specs.Tables.{Tables, width, letterU}
 use Rattle.lent.specs.Lent.{withPackages}
-use Rattle.links.specs.Links.{extendsLink, inverseLink, Holds}
-use Rattle.links.proofs.Rows.{extends-at, inverse-at, holds-none, holds-turn, holds-end}
+use Rattle.links.specs.Links.{extendsLink, inverseLink}
+use Rattle.links.proofs.Rows.{extends-at, inverse-at, Filling, filling-all, filling-turn, filling-end}
 use Rattle.links.proofs.link_types.Statement.{statement}
 use Rattle.links.proofs.link_types.Tie as tie
 
 abbrev Inv-loop : tie.InvT-loop
 Inv-loop bytes n p i t q u r extends₀ inverse₀ count row₀ extends inverse row =
     (length extends ≡ length extends₀) × (length inverse ≡ length inverse₀)
-    × ((o : Tables) → Holds (extendsLink (withPackages bytes n p i t q u r o)) extends row)
-    × ((o : Tables) → Holds (inverseLink (withPackages bytes n p i t q u r o)) inverse row)
+    × ((o : Tables) → Filling (extendsLink (withPackages bytes n p i t q u r o)) (length u / width letterU) extends₀ extends row)
+    × ((o : Tables) → Filling (inverseLink (withPackages bytes n p i t q u r o)) (length u / width letterU) inverse₀ inverse row)
 
 abbrev μ-loop : tie.MeasureT-loop
 μ-loop bytes n p i t q u r extends₀ inverse₀ count row₀ extends inverse row = length u / width letterU - row
@@ -40,7 +40,7 @@ Start·loop-again c = Start·link-at-requires-2 (c .before .before .before .befo
 -- end of places
 
 loop-holds : tie.Need-loop-holds Inv-loop μ-loop
-loop-holds c = (refl, refl, λ o. holds-none _ _, λ o. holds-none _ _)
+loop-holds c = (refl, refl, λ o. filling-all _ _ _, λ o. filling-all _ _ _)
 
 extends-package-of-requires : tie.Need-extends-package-of-requires Inv-loop μ-loop
 extends-package-of-requires c κs = search needs
@@ -52,7 +52,7 @@ extends-implementation-of-requires : tie.Need-extends-implementation-of-requires
 extends-implementation-of-requires c κs = search needs
 
 link-at-requires : tie.Need-link-at-requires Inv-loop μ-loop
-link-at-requires c κs = Start·link-at-requires (c .before .before .before) .pre .few-types
+link-at-requires c κs = Start·link-at-requires (c .before .before .before) .pre
 
 put-number-requires : tie.Need-put-number-requires Inv-loop μ-loop
 put-number-requires c κs = search needs
@@ -67,13 +67,13 @@ inverse-implementation-of-requires : tie.Need-inverse-implementation-of-requires
 inverse-implementation-of-requires c κs = search needs
 
 link-at-requires-2 : tie.Need-link-at-requires-2 Inv-loop μ-loop
-link-at-requires-2 c κs = Start·link-at-requires-2 (c .before .before .before) .pre .few-types
+link-at-requires-2 c κs = Start·link-at-requires-2 (c .before .before .before) .pre
 
 put-number-requires-2 : tie.Need-put-number-requires-2 Inv-loop μ-loop
 put-number-requires-2 c κs = search needs
 
 add-row : tie.Need-add-row Inv-loop μ-loop
-add-row c = omega (arith, Start·loop-again c .pre .few-types, In-loop·loop-again c .loop-test .taken)
+add-row c = omega (arith, Start·loop-again c .pre, In-loop·loop-again c .loop-test .taken)
 
 loop-less : tie.Need-loop-less Inv-loop μ-loop
 loop-less c = omega (arith, In-loop·loop-again c .loop-test .taken)
@@ -84,13 +84,11 @@ loop-again c =
     let l = c .before .before .before .before .before .before .before .before .before .before .before .before .before .before .before .before .before .loop in
     let below = In-loop·loop-again c .loop-test .taken in
     let put = c .before .before .before .before .before .before .before .before .before .before .put-number .ensures in
-    let put2 = c .before .before .put-number2 .ensures in
-    let room : l .row < length (l .extends) = omega (arith, below, s .pre .fits-extends, l .inv .0) in
-    let room2 : l .row < length (l .inverse) = omega (arith, below, s .pre .fits-inverse, l .inv .1) in (
+    let put2 = c .before .before .put-number2 .ensures in (
       ap length put ∙ length-set (l .extends) (l .row) _ ∙ l .inv .0,
       ap length put2 ∙ length-set (l .inverse) (l .row) _ ∙ l .inv .1,
-      λ o. holds-turn _ _ _ _ _ room (extends-at (model s o) (l .row) _ _ _ _ (c .before .before .before .before .before .before .before .before .before .before .before .before .before .before .before .extends-package-of .ensures) (c .before .before .before .before .before .before .before .before .before .before .before .before .before .before .extends-type-of .ensures) (c .before .before .before .before .before .before .before .before .before .before .before .before .before .extends-implementation-of .ensures) (c .before .before .before .before .before .before .before .before .before .before .before .before .link-at .ensures o)) put (l .inv .2 o),
-      λ o. holds-turn _ _ _ _ _ room2 (inverse-at (model s o) (l .row) _ _ _ _ (c .before .before .before .before .before .before .before .inverse-package-of .ensures) (c .before .before .before .before .before .before .inverse-type-of .ensures) (c .before .before .before .before .before .inverse-implementation-of .ensures) (c .before .before .before .before .link-at2 .ensures o)) put2 (l .inv .3 o),
+      λ o. filling-turn _ _ _ _ _ _ _ below (extends-at (model s o) (l .row) _ _ _ _ (c .before .before .before .before .before .before .before .before .before .before .before .before .before .before .before .extends-package-of .ensures) (c .before .before .before .before .before .before .before .before .before .before .before .before .before .before .extends-type-of .ensures) (c .before .before .before .before .before .before .before .before .before .before .before .before .before .extends-implementation-of .ensures) (c .before .before .before .before .before .before .before .before .before .before .before .before .link-at .ensures o)) put (l .inv .2 o),
+      λ o. filling-turn _ _ _ _ _ _ _ below (inverse-at (model s o) (l .row) _ _ _ _ (c .before .before .before .before .before .before .before .inverse-package-of .ensures) (c .before .before .before .before .before .before .inverse-type-of .ensures) (c .before .before .before .before .before .inverse-implementation-of .ensures) (c .before .before .before .before .link-at2 .ensures o)) put2 (l .inv .3 o),
     )
 
 same-length : tie.Need-same-length Inv-loop μ-loop
@@ -100,7 +98,7 @@ same-length-2 : tie.Need-same-length-2 Inv-loop μ-loop
 same-length-2 c = c .before .loop .inv .1
 
 returns : tie.Need-returns Inv-loop μ-loop
-returns c = λ o. (holds-end _ _ _ _ (omega arith) (c .before .loop .inv .2 o), holds-end _ _ _ _ (omega arith) (c .before .loop .inv .3 o))
+returns c = λ o. (filling-end _ _ _ _ _ (omega arith) (c .before .loop .inv .2 o), filling-end _ _ _ _ _ (omega arith) (c .before .loop .inv .3 o))
 
 pub link-types-spec : {M : Type 1} → statement M
 link-types-spec =

@@ -7,9 +7,9 @@ use native.Mathlib.Nat.{eq-or-lt-of-le}
 use native.Mathlib.Omega.{arith}
 use lib.ListN.{length, set, getD, length-set}
 use lib.Seq.{getD-set-same, getD-set-other, ext-getD}
-use Rattle.diagnostics.specs.declared.Diagnostic.{Diagnostic}
-use Rattle.diagnostics.specs.Records.{recordAt, recordsFrom}
-use Rattle.diagnostics.proofs.Records.{records-length, records-at}
+use Rattle.conlist_c.specs.declared.diagnostic.Diagnostic.{Diagnostic}
+use Rattle.conlist_c.specs.Records.{recordAt, recordsFrom}
+use Rattle.conlist_c.proofs.Records.{records-length, records-at}
 
 -- ys with the first i records of ns stored at their indices
 abbrev pub fillTo : List ℕ → ℕ → List Diagnostic → List Diagnostic

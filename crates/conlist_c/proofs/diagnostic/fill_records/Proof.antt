@@ -1,4 +1,4 @@
--- `diagnostics::diagnostics_fill` meets its contract: a walk of its MIR, by hand, since Rattle does not cover a slice of structs. The slice is opened
+-- `conlist_c::diagnostic::fill_records` meets its contract: a walk of its MIR, by hand, since Rattle does not cover a slice of structs. The slice is opened
 -- once, before the loop; a turn has `record_at` make the record, takes the element out of the row and stores to it; and the borrow is closed after
 -- the loop. All that the proof knows of `record_at` is that it meets its contract. Assumes nothing.
 use mathlib.Core.Path.{_≡_, refl, sym, _∙_, ap, subst}
@@ -50,19 +50,19 @@ use denote.Triple.Spec.{Meets, tripleOf}
 use denote.Triple.Table.{entered, cited}
 use denote.Triple.Walked.{says, Stays, stay-slice, stay-none-slice, walkOf, goes-slice, goes-none-slice, Walks, ends-at, walked, walk-meets}
 use denote.Exit.{yes}
-use Rattle.diagnostics.specs.Records.{recordAt}
-use Rattle.diagnostics.specs.declared.Diagnostic.{Diagnostic}
-use Rattle.diagnostics.proofs.Filled.{fillTo, fillTo-length, filled}
-use Rattle.diagnostics.proofs.Diagnostic as T
-use Rattle.diagnostics.proofs.Diagnostic.Laws as T′
-use Rattle.diagnostics.proofs.record_at as record-at
-use Rattle.diagnostics.proofs.record_at.Symbol as record-at-def
-use Rattle.diagnostics.proofs.record_at.Symbol.{name as #diagnostics·record-at}
-use Rattle.diagnostics.proofs.record_at.Met as record-at-thm
-use Rattle.diagnostics.proofs.diagnostics_fill.Key.{name as #diagnostics·diagnostics-fill}
-use Rattle.diagnostics.proofs.diagnostics_fill as fill
-use Rattle.diagnostics.proofs.diagnostics_fill.Statement as stated
-use Rattle.diagnostics.proofs.diagnostics_fill.Code as code
+use Rattle.conlist_c.specs.Records.{recordAt}
+use Rattle.conlist_c.specs.declared.diagnostic.Diagnostic.{Diagnostic}
+use Rattle.conlist_c.proofs.Filled.{fillTo, fillTo-length, filled}
+use Rattle.conlist_c.proofs.diagnostic.Diagnostic as T
+use Rattle.conlist_c.proofs.diagnostic.Diagnostic.Laws as T′
+use Rattle.conlist_c.proofs.diagnostic.record_at as record-at
+use Rattle.conlist_c.proofs.diagnostic.record_at.Symbol as record-at-def
+use Rattle.conlist_c.proofs.diagnostic.record_at.Symbol.{name as #conlist_c·diagnostic·record-at}
+use Rattle.conlist_c.proofs.diagnostic.record_at.Met as record-at-thm
+use Rattle.conlist_c.proofs.diagnostic.fill_records.Key.{name as #conlist_c·diagnostic·fill-records}
+use Rattle.conlist_c.proofs.diagnostic.fill_records as fill
+use Rattle.conlist_c.proofs.diagnostic.fill_records.Statement as stated
+use Rattle.conlist_c.proofs.diagnostic.fill_records.Code as code
 
 abbrev Arg : Type 0
 Arg = RefT (List Diagnostic) × (RefT (List ℕ) × Unit {0})
@@ -132,7 +132,7 @@ module _ {M : Type 1} (𝓤 : URA M) (H : Heap 𝓤) (A : Atoms 𝓤) (W : Given
   said : (i : ℕ) (r : Diagnostic) → ent 𝓤 (ensured 𝓤 H A record-at.ended (record-at.clauses 𝓤 H A mem run) (κ′, tt) (s, (i, tt)) tt r) (fact 𝓤 (r ≡ recordAt ns i))
   said i r = exE 𝓤 _ (λ ws. snd∗ 𝓤 (sem 𝓤 H A (lasts record-at.ended (κ′, tt) (s, (i, tt)) ws)) (fact 𝓤 (r ≡ recordAt ns i)))
 
-  module _ (𝓣 : Tables 𝓤 H) (known : Triple 𝓤 (𝓣 .C #diagnostics·record-at) (RecordAt 𝓤 H A mem run)) (room : Room T.the-row n) (l₀ l₁ l₂ l₃ l₄ l₅ l₆ l₇ : ℕ) where
+  module _ (𝓣 : Tables 𝓤 H) (known : Triple 𝓤 (𝓣 .C #conlist_c·diagnostic·record-at) (RecordAt 𝓤 H A mem run)) (room : Room T.the-row n) (l₀ l₁ l₂ l₃ l₄ l₅ l₆ l₇ : ℕ) where
     abbrev C : Calls 𝓤 H
     C = 𝓣 .C
 
@@ -242,7 +242,7 @@ module _ {M : Type 1} (𝓤 : URA M) (H : Heap 𝓤) (A : Atoms 𝓤) (W : Given
     loops : ent 𝓤 (⋆ 𝓤 H A (At 0)) (Wp 𝓤 H C Λ En (loop code.Mir.turn-1) Left)
     loops = via 𝓤 (Inv n) (into n 0 (zero-add n)) (loop-rule 𝓤 H (W .laws) 𝓣 _<_ (Nat·lt-wfRel .wf) En code.Mir.turn-1 Left Inv turns n)
 
-  walk : (𝓣 : Tables 𝓤 H) → Triple 𝓤 (𝓣 .C #diagnostics·record-at) (RecordAt 𝓤 H A mem run) → Room T.the-row n → Room u32 (length ns)
+  walk : (𝓣 : Tables 𝓤 H) → Triple 𝓤 (𝓣 .C #conlist_c·diagnostic·record-at) (RecordAt 𝓤 H A mem run) → Room T.the-row n → Room u32 (length ns)
       → ent 𝓤 (onEntry 𝓤 H A fill.signature (κ, (κ′, tt)) (q, (q′, tt)) x vals) (WpFn 𝓤 H (𝓣 .C) (𝓣 .Λ) code.function (sliceVal (b, o) n ∷ v ∷ []) Post)
   walk 𝓣 known room room′ =
       qed W ((‵ (flft κ q) ⊛ ‵ (flft κ′ q′) ⊛ ‵ ftrue) ∷ ‵ (owns (MutSlice (named 0) κ T.the-row ∷ ShrSlice (named 1) κ′ u32 ∷ []) x vals) ∷ []) ∵ enter ! (𝓣 .C) (𝓣 .Λ) code.function (sliceVal (b, o) n ∷ v ∷ []) _ $
@@ -254,7 +254,7 @@ module _ {M : Type 1} (𝓤 : URA M) (H : Heap 𝓤) (A : Atoms 𝓤) (W : Given
       -- [what numbers owns; true; the row; the open borrow; obs; auth; numbers' token; out's fact; room for _7; …; room for _6; …; room for _5; …; room for _4; …; _3; …; _2; …; _1; …; room for _0; …]
       keep ! (2 ∷ 6 ∷ 0 ∷ 16 ∷ 14 ∷ 12 ∷ 10 ∷ 8 ∷ 20 ∷ 18 ∷ 22 ∷ 3 ∷ 4 ∷ 5 ∷ 23 ∷ 21 ∷ 19 ∷ 17 ∷ 15 ∷ 13 ∷ 11 ∷ 9 ∷ []) $ by ! (loops 𝓣 known room l₀ l₁ l₂ l₃ l₄ l₅ l₆ l₇)))))))))
 
-module _ {M : Type 1} (𝓤 : URA M) (H : Heap 𝓤) (A : Atoms 𝓤) (W : Given 𝓤 H A) (mem : Memory → SProp 𝓤) (run : Routine → Fun 𝓤) (𝓣 : Tables 𝓤 H) (known : Triple 𝓤 (𝓣 .C #diagnostics·record-at) (RecordAt 𝓤 H A mem run)) where
+module _ {M : Type 1} (𝓤 : URA M) (H : Heap 𝓤) (A : Atoms 𝓤) (W : Given 𝓤 H A) (mem : Memory → SProp 𝓤) (run : Routine → Fun 𝓤) (𝓣 : Tables 𝓤 H) (known : Triple 𝓤 (𝓣 .C #conlist_c·diagnostic·record-at) (RecordAt 𝓤 H A mem run)) where
   fill-walks : Walks 𝓤 H A fill.ended stayed (WpFn 𝓤 H (𝓣 .C) (𝓣 .Λ) code.function) (fill.clauses 𝓤 H A mem run)
   fill-walks = walked 𝓤 H A fill.ended stayed (fill.clauses 𝓤 H A mem run) (WpFn 𝓤 H (𝓣 .C) (𝓣 .Λ) code.function)
       (λ κs. (slice-vals, (slice-vals, tt))) (λ κs. (mut-slice-tells (named 0) (κs .0) T.the-row, (shr-slice-tells (named 1) (κs .1 .0) u32, tt)))
@@ -266,10 +266,10 @@ module _ {M : Type 1} (𝓤 : URA M) (H : Heap 𝓤) (A : Atoms 𝓤) (W : Given
       walk-meets 𝓤 H A fill.ended stayed W (goes-slice 𝓤 H A W 2 0 tt (plain (λ _. T.the-row)), (goes-none-slice 𝓤 H A W 2 (1 ∷ []) tt (plain (λ _. u32)) yes, tt))
       (fill.clauses 𝓤 H A mem run) (WpFn 𝓤 H (𝓣 .C) (𝓣 .Λ) code.function) (WpFn-mono 𝓤 H (W .laws) 𝓣 code.function) fill-walks
 
-pub diagnostics-fill-spec : {M : Type 1} → stated.statement M
+pub fill-records-spec : {M : Type 1} → stated.statement M
 unfolding code.routine tablesOf
-diagnostics-fill-spec 𝓤 H 𝓜 𝓖 𝓡 =
+fill-records-spec 𝓤 H 𝓜 𝓖 𝓡 =
     entered 𝓤 H (tripleOf 𝓤 H (𝓖 .A) fill.signature (fill.spec 𝓤 H (𝓖 .A) (𝓜 .mem) (𝓡 .run)))
-    (tables 𝓤 H 𝓜 𝓡 code.env .C) (tables 𝓤 H 𝓜 𝓡 code.env .Λ) #diagnostics·diagnostics-fill code.function (code.unfolded 𝓤 H 𝓜 𝓡)
+    (tables 𝓤 H 𝓜 𝓡 code.env .C) (tables 𝓤 H 𝓜 𝓡 code.env .Λ) #conlist_c·diagnostic·fill-records code.function (code.unfolded 𝓤 H 𝓜 𝓡)
     (fill-meets 𝓤 H (𝓖 .A) (givenOf 𝓤 H 𝓜 𝓖) (𝓜 .mem) (𝓡 .run) (tablesOf 𝓤 H 𝓜 (tables 𝓤 H 𝓜 𝓡 code.env))
-    (cited 𝓤 H (RecordAt 𝓤 H (𝓖 .A) (𝓜 .mem) (𝓡 .run)) 𝓜 𝓡 code.env #diagnostics·record-at record-at-def.routine code.calls-diagnostics·record-at (record-at-thm.met 𝓤 H 𝓜 𝓖 𝓡)))
+    (cited 𝓤 H (RecordAt 𝓤 H (𝓖 .A) (𝓜 .mem) (𝓡 .run)) 𝓜 𝓡 code.env #conlist_c·diagnostic·record-at record-at-def.routine code.calls-conlist-c·diagnostic·record-at (record-at-thm.met 𝓤 H 𝓜 𝓖 𝓡)))

@@ -1,8 +1,8 @@
--- `diagnostics::record_at`: each of the four numbers is read from its place. Assumes nothing.
+-- `conlist_c::diagnostic::record_at`: each of the four numbers is read from its place. Assumes nothing.
 use borrow.Author.Needs.{needs}
-use Rattle.diagnostics.proofs.Records.{record-is}
-use Rattle.diagnostics.proofs.record_at.Statement.{statement}
-use Rattle.diagnostics.proofs.record_at.Tie as tie
+use Rattle.conlist_c.proofs.Records.{record-is}
+use Rattle.conlist_c.proofs.diagnostic.record_at.Statement.{statement}
+use Rattle.conlist_c.proofs.diagnostic.record_at.Tie as tie
 
 mul-number-at : tie.Need-mul-number-at
 mul-number-at c = search needs

@@ -10,8 +10,8 @@ use Rattle.as5506.specs.Lists.{each, zeros, padded}
 use Rattle.as5506.specs.Rows.{Diag}
 use Rattle.as5506.specs.Layout.{diagBlock}
 use Rattle.lent.proofs.Padded.{padded-none, padded-at}
-use Rattle.diagnostics.specs.declared.Diagnostic.{Diagnostic}
-use Rattle.diagnostics.specs.Records.{recordAt, recordsFrom, recordOf, blank}
+use Rattle.conlist_c.specs.declared.diagnostic.Diagnostic.{Diagnostic}
+use Rattle.conlist_c.specs.Records.{recordAt, recordsFrom, recordOf, blank}
 
 -- ---- as many as are asked for, each in its place
 

@@ -1,10 +1,10 @@
-// The diagnostics of a listing, in the caller's own slice of records. The listings leave them as numbers, four each; this crate makes the records.
-// Definitions: specs/Records.antt. Laws for the reader, from the definition's diagnostics to the records: proofs/Records.antt.
+// Diagnostics as records: a listing leaves them as numbers, four each, in room that is lent for them, and the caller's own records are filled from these.
 use as5506::DIAGNOSTIC_NUMBERS;
 ghost use mathlib.Core.Path.{_≡_};
-ghost use Prim.Native.Nat.{_<_};
+ghost use Prim.Native.Nat.{_/_, _<_, _≤_, min};
 ghost use lib.ListN.{length};
-ghost use Rattle.diagnostics.specs.Records.{recordAt, recordsFrom};
+ghost use Rattle.as5506.specs.Layout.{diagNumbers};
+ghost use Rattle.conlist_c.specs.Records.{recordAt, recordsFrom};
 
 // "A diagnostic is code, connection, two numbers".
 #[repr(C)]
@@ -29,8 +29,7 @@ fn record_at(numbers: &[u32], i: usize) -> Diagnostic
 }
 
 // Fills every record from the numbers that a listing has left, with zeros past their end.
-#[no_mangle]
-pub extern "C" fn diagnostics_fill(out: &mut [Diagnostic], numbers: &[u32])
+pub fn fill_records(out: &mut [Diagnostic], numbers: &[u32])
     ensures { λ _. ⌜ now (out .exit) ≡ recordsFrom (now (numbers .entry)) 0 (length (now (out .entry))) ⌝ }
 {
     let mut i = 0;
@@ -38,4 +37,14 @@ pub extern "C" fn diagnostics_fill(out: &mut [Diagnostic], numbers: &[u32])
         out[i] = record_at(numbers, i);
         i += 1;
     }
+}
+
+// How many of the lent numbers a listing may use: four for each record, no more than there are.
+pub fn numbers_for(numbers: usize, records: usize) -> usize
+    ensures { λ z. ⌜ (z ≤ numbers) × (z / diagNumbers ≡ min records (numbers / diagNumbers)) ⌝ }
+{
+    if records < numbers / DIAGNOSTIC_NUMBERS {
+        return records * DIAGNOSTIC_NUMBERS;
+    }
+    numbers
 }
