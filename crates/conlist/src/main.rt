@@ -1,9 +1,9 @@
-// conlist: reads a sheet on standard input and prints the list of its connections on standard output, or the line of a refusal.
+// conlist: reads a sheet on standard input and prints the list of its connections on standard output, or the line of a refusal. Where it cannot
+// read or write it says so on standard error, and prints no list.
 use as5506::SHEET_LENT;
 use as5506::TEXT_LENT;
-use libc::STDIN_FILENO;
-use libc::STDOUT_FILENO;
 use on_sheet::Task;
+use stdio::Input;
 ghost use Rattle.as5506.specs.Program.{conlist as written};
 ghost use Rattle.on_sheet.specs.Tasks.{Writes};
 
@@ -16,8 +16,10 @@ fn conlist(read: &[u8; SHEET_LENT], got: usize, text: &mut [u8; TEXT_LENT]) -> u
 
 fn main() {
     let mut read = [0u8; SHEET_LENT];
-    let got = io::read_full(STDIN_FILENO, &mut read);
+    let Input::Read(got) = stdio::read_input(b"conlist", &mut read) else {
+        return;
+    };
     let mut text = [0u8; TEXT_LENT];
     let used = conlist(&read, got, &mut text);
-    io::write_all(STDOUT_FILENO, &text[..used]);
+    stdio::write_output(b"conlist", &text[..used]);
 }
