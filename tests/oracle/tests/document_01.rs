@@ -1,4 +1,4 @@
-//! What document 01 itself gives: its run and its trial rows.
+//! What document 01 itself gives: its run, which is an example too, and its trial rows.
 
 use std::fs;
 
@@ -25,29 +25,33 @@ fn lines(text: &str, letter: char) -> Vec<&str> {
     lines.filter(|line| line.starts_with(letter)).collect()
 }
 
+/// A file of the repository.
+fn file(path: &str) -> String {
+    let path = format!("{}/../../{path}", env!("CARGO_MANIFEST_DIR"));
+    fs::read_to_string(&path).unwrap_or_else(|error| panic!("{path}: {error}"))
+}
+
+/// The sheet and the list of the run in document 01, which has the sheet's names in words.
+fn run_of_the_document() -> (String, String) {
+    let page = file("docs/01-scope.md");
+    let (_, run) = page.split_once("Input, after `N` lines ").unwrap();
+    let (names, run) = run.split_once(":\n```\n").unwrap();
+    let (rows, run) = run.split_once("```\nOutput:\n```\n").unwrap();
+    let (list, _) = run.split_once("```\n").unwrap();
+    let names: String = names
+        .split(", ")
+        .map(|name| format!("N {name}\n"))
+        .collect();
+    (names + rows, list.to_string())
+}
+
 #[test]
 fn the_run() {
-    let names = [
-        "hub", "pit", "mot", "cmd", "set", "c1", "c2", "p", "t", "reg",
-    ];
-    let mut sheet: String = names.map(|name| format!("N {name}\n")).concat();
-    sheet += "\
-C     0     -     -     7     8     -
-C     1     0     -     7     8     -
-C     2     0     -     7     8     -
-C     9     1     -     7     8     -
-X     5     0     0     1     3     2     4
-X     6     1     0     9     4     -     3
-";
-    let expected = "\
-S     0     0     3     2     2     0     1
-= c1
-< set
-> set
-Z     1     0
-";
+    let (sheet, list) = run_of_the_document();
+    assert_eq!(text(sheet.as_bytes()), list);
     assert_eq!(trial("run of document 01"), sheet.as_bytes());
-    assert_eq!(text(sheet.as_bytes()), expected);
+    assert_eq!(file("examples/run.sheet"), sheet);
+    assert_eq!(file("examples/run.list"), list);
 }
 
 #[test]
