@@ -6,8 +6,9 @@ that another definition of the same paper can be compared with it. Names
 are bytes, numbers do not wrap, rows count from 0.
 
     second_reading.py < sheet            prints the answer
-    second_reading.py --stream FILE      compares a stream of cases
-    second_reading.py --stream FILE --marks   and counts every rule met
+
+It marks every rule that it applies. `stream` beside it compares a stream of
+cases, and counts these marks.
 """
 
 import collections
@@ -266,37 +267,124 @@ def mark(rule, when=True):
 
 
 # ---------------------------------------------------------------------------
-# Letters and fields.
+# Letters and fields. A change of the sheet's form edits the table FIELDS; all
+# else goes by it.
 
-MISSING = 4294967295
-LETTERS = "NCFXPITQUER"
+# A field has a name here; it holds one of the things below; it may be missing
+# or not; it takes so many columns of its line and so many numbers of its row.
+Field = collections.namedtuple("Field", "name holds may_be_missing columns numbers")
 
-# "name" is a name number; "C" and "P" are rows of that table; "holder" is a
-# row of T or of U; (word, n) is a number 0 to n; "any" is any number.
-# A ? at the end means that the field may be missing.
+# A name number; a row of T or of U, by the row's holder kind; any number. A
+# letter stands for a row of its table, (word, n) for a number 0 to n.
+NAME, HOLDER, ANY = "name number", "holder row", "any number"
 KIND = ("kind", 9)
 FLAG = ("flag", 1)
-REFERENCE = ["name?", "name?", "name?"]
+
+
+# "decimal fields of six columns"; "lent tables of 32-bit numbers, one row per sheet
+# line"
+def field(name, holds, columns=6, numbers=1):
+    """A ? behind the name, as in 01, means that the field may be missing."""
+    return Field(name.rstrip("?"), holds, name.endswith("?"), columns, numbers)
+
+
+# "(package?, type?, implementation?)"
+REFERENCE = ("_package", "_type", "_implementation")
+
+
+def reference(word):
+    return [field(word + part + "?", NAME) for part in REFERENCE]
+
+
+# "Letters stand in this order"
 FIELDS = {
-    "C": ["name", "C?", "any?", "name", "name", "name?"],
-    "F": ["name", "C", KIND],
-    "X": ["name", "C", ("kind", 4), "name?", "name?", "name?", "name?"],
-    "P": ["name"],
-    "I": ["P", "name"],
-    "T": ["P", "name", FLAG],
-    "Q": ["P", "name", "name", FLAG],
-    "U": ["P", "name", FLAG] + REFERENCE + REFERENCE,
-    "E": [("holder kind", 1), "holder", "name", KIND, ("direction?", 2)] + REFERENCE,
-    "R": ["P", ("what", 2), "name", "name", "name?"],
+    "C": [field("name", NAME), field("parent?", "C"), field("array_index?", ANY),
+          field("package", NAME), field("type", NAME), field("pattern?", NAME)],
+    "F": [field("name", NAME), field("owner", "C"), field("kind", KIND)],
+    "X": [field("name", NAME), field("owner", "C"), field("kind", ("kind", 4)),
+          field("source_subcomponent?", NAME), field("source_feature?", NAME),
+          field("destination_subcomponent?", NAME), field("destination_feature?", NAME)],
+    "P": [field("name", NAME)],
+    "I": [field("package", "P"), field("name", NAME)],
+    "T": [field("package", "P"), field("name", NAME), field("private", FLAG)],
+    "Q": [field("package", "P"), field("type", NAME), field("implementation", NAME),
+          field("private", FLAG)],
+    "U": [field("package", "P"), field("name", NAME), field("private", FLAG)]
+         + reference("extends") + reference("inverse"),
+    "E": [field("holder_kind", ("holder kind", 1)), field("holder", HOLDER), field("name", NAME),
+          field("kind", KIND), field("direction?", ("direction", 2))] + reference("classifier"),
+    "R": [field("package", "P"), field("what", ("what", 2)), field("alias", NAME),
+          field("original_package", NAME), field("original_name?", NAME)],
 }
-WIDTH = {letter: len(fields) for letter, fields in FIELDS.items()}
-WIDTH["N"] = 2  # offset, length
+LETTERS = "N" + "".join(FIELDS)
+
+# The rows of each letter by the names of their fields, a missing one None. A row of
+# N says where in the byte table its name begins, and how long it is.
+ROWS = {letter: collections.namedtuple(letter, [form.name for form in forms])
+        for letter, forms in FIELDS.items()}
+ROWS["N"] = collections.namedtuple("N", "offset length")
+
+# How many numbers a row has, and how many bytes a line without its LF.
+WIDTH = {letter: sum(form.numbers for form in forms) for letter, forms in FIELDS.items()}
+WIDTH["N"] = len(ROWS["N"]._fields)
+LINE = {letter: 1 + sum(form.columns for form in forms) for letter, forms in FIELDS.items()}
+
+# "a missing field as 4,294,967,295"
+MISSING = 4294967295
 
 
-def may_be_missing(field):
-    word = field if isinstance(field, str) else field[0]
-    return word.endswith("?")
+def numbers_of(form, value):
+    """The numbers of the row that a field takes: the low one first, if several."""
+    if value is None:
+        return [MISSING] * form.numbers
+    assert value >> 32 * form.numbers == 0
+    return [value >> 32 * part & 0xFFFFFFFF for part in range(form.numbers)]
 
+
+def value_of(form, numbers):
+    """The value of a field with these numbers; None where it is missing."""
+    if form.may_be_missing and numbers == [MISSING] * form.numbers:
+        return None
+    value = 0
+    for number in reversed(numbers):
+        value = value << 32 | number
+    return value
+
+
+def row_of(letter, numbers):
+    """The row that has these numbers."""
+    if letter == "N":
+        return ROWS["N"](*numbers)
+    values, at = [], 0
+    for form in FIELDS[letter]:
+        values.append(value_of(form, numbers[at:at + form.numbers]))
+        at += form.numbers
+    return ROWS[letter](*values)
+
+
+def numbers_of_row(letter, values):
+    """The numbers of a row with these values of its fields."""
+    if letter == "N":
+        return list(values)
+    pairs = zip(FIELDS[letter], values)
+    return [number for form, value in pairs for number in numbers_of(form, value)]
+
+
+def reference_of(row, word):
+    """The three fields of a reference: package, type, implementation."""
+    return tuple(getattr(row, word + part) for part in REFERENCE)
+
+
+def ends_of(row):
+    """Of an X row: source subcomponent and feature, destination subcomponent and feature."""
+    return (row.source_subcomponent, row.source_feature,
+            row.destination_subcomponent, row.destination_feature)
+
+
+# "The table is the order of checks.": the numbers of each place.
+REFUSALS = {"sheet": [1], "line": [2, 3, 4, 5], "tables": [10, 6, 7, 8, 9],
+            "lists": [13, 11, 14, 12], "text": [15]}
+BEFORE_LISTINGS = REFUSALS["sheet"] + REFUSALS["line"] + REFUSALS["tables"]
 
 Refusal = collections.namedtuple("Refusal", "number letter place")
 Tables = collections.namedtuple("Tables", "bytes_table tables")
@@ -321,18 +409,30 @@ NUMBER = re.compile(rb" *(0|[1-9][0-9]*)\Z")
 # "a letter, then decimal fields of six columns, right-justified with spaces, no
 # leading zeros. A lone `-` in the last column means missing, allowed only in
 # fields marked ?."
-def read_field(columns, missing_allowed):
-    """The number, or None where the field is against the rules."""
-    if columns == b"     -":
-        mark("4: missing where not allowed", not missing_allowed)
-        return MISSING if missing_allowed else None
+def read_field(columns, form):
+    """The field's numbers of the row, or None where it is against the rules."""
+    if columns.lstrip(b" ") == b"-":
+        mark("4: missing where not allowed", not form.may_be_missing)
+        return numbers_of(form, None) if form.may_be_missing else None
     found = NUMBER.match(columns)
     if not found:
         digits = columns.lstrip(b" ")
         zero = digits.isdigit() and digits.startswith(b"0")
         mark("4: leading zero" if zero else "4: field is no right-justified number")
         return None
-    return int(found.group(1))
+    return numbers_of(form, int(found.group(1)))
+
+
+def read_row(letter, line):
+    """The numbers of a row, or None where a field is against the rules."""
+    row, at = [], 1
+    for form in FIELDS[letter]:
+        numbers = read_field(line[at:at + form.columns], form)
+        if numbers is None:
+            return None
+        row.extend(numbers)
+        at += form.columns
+    return row
 
 
 # "`N`: one space, then a name of 1 to 63 bytes, each 09 or 20 to 7E hexadecimal."
@@ -381,16 +481,12 @@ def read_sheet(sheet, bytes_room, rooms):
                 return Refusal(4, "-", place)
             row = [len(bytes_table), len(name)]
         else:
-            if len(line) != 1 + 6 * WIDTH[letter]:
+            if len(line) != LINE[letter]:
                 mark("4: length of the line")
                 return Refusal(4, "-", place)
-            row = []
-            for number, field in enumerate(FIELDS[letter]):
-                start = 1 + 6 * number
-                value = read_field(line[start:start + 6], may_be_missing(field))
-                if value is None:
-                    return Refusal(4, "-", place)
-                row.append(value)
+            row = read_row(letter, line)
+            if row is None:
+                return Refusal(4, "-", place)
         # 5: "that letter's lent table, or at `N` the byte table, has no place"
         room = rooms.get(letter, 0) // WIDTH[letter]
         if len(tables[letter]) // WIDTH[letter] >= room:
@@ -415,7 +511,7 @@ def read_sheet(sheet, bytes_room, rooms):
 def rows_of(tables, letter):
     numbers = tables.get(letter, [])
     width = WIDTH[letter]
-    return [tuple(numbers[at:at + width]) for at in range(0, len(numbers), width)]
+    return [row_of(letter, numbers[at:at + width]) for at in range(0, len(numbers), width)]
 
 
 # "The table is the order of checks." "6 to 10 each go over all tables in letter
@@ -457,28 +553,28 @@ def check_10(bytes_table, tables):
 # "a row or name number past its table, or a kind, flag, direction or what past
 # its range"
 def check_6(rows):
-    for letter in LETTERS[1:]:
+    for letter, forms in FIELDS.items():
         for row, values in enumerate(rows[letter]):
-            for field, value in zip(FIELDS[letter], values):
-                if value == MISSING and may_be_missing(field):
+            for form, value in zip(forms, values):
+                if value is None or form.holds == ANY:
                     continue
-                if isinstance(field, tuple):
-                    word, end = field[0].rstrip("?"), field[1] + 1
-                else:
-                    word = field.rstrip("?")
-                    if word == "any":
-                        continue
-                    if word == "holder":
-                        # the first field of the row was good
-                        end = len(rows["T" if values[0] == 0 else "U"])
-                    else:
-                        end = len(rows["N" if word == "name" else word])
-                    word = {"name": "name number", "C": "component row",
-                            "P": "package row", "holder": "holder row"}[word]
+                word, end = end_of(form.holds, values, rows)
                 if value >= end:
                     mark("6: " + word)
                     return Refusal(6, letter, row)
     return None
+
+
+def end_of(holds, values, rows):
+    """What a field holds in a word, and the first number past it."""
+    if isinstance(holds, tuple):
+        word, last = holds
+        return word, last + 1
+    if holds == NAME:
+        return NAME, len(rows["N"])
+    if holds == HOLDER:  # the holder kind stands before it, and was good
+        return HOLDER, len(rows["T" if values.holder_kind == 0 else "U"])
+    return {"C": "component row", "P": "package row"}[holds], len(rows[holds])
 
 
 # "no component 0, or it has a parent, or another's parent is missing or not a
@@ -487,70 +583,77 @@ def check_7(rows):
     if not rows["C"]:
         mark("7: no component 0")
         return Refusal(7, "C", 0)
-    for row, (_, parent, _, _, _, _) in enumerate(rows["C"]):
+    for row, component in enumerate(rows["C"]):
         if row == 0:
-            if parent != MISSING:
+            if component.parent is not None:
                 mark("7: component 0 has a parent")
                 return Refusal(7, "C", 0)
-        elif parent == MISSING:
+        elif component.parent is None:
             mark("7: parent missing")
             return Refusal(7, "C", row)
-        elif parent >= row:
+        elif component.parent >= row:
             mark("7: parent not smaller")
             return Refusal(7, "C", row)
     return None
 
 
 # "a reference with a package or implementation and no type"
-def reference_against_8(package, type_name, implementation):
-    if type_name != MISSING:
+def reference_against_8(row, word):
+    package, type_name, implementation = reference_of(row, word)
+    if type_name is not None:
         return False
-    mark("8: package without type", package != MISSING)
-    mark("8: implementation without type", package == MISSING and implementation != MISSING)
-    return package != MISSING or implementation != MISSING
+    mark("8: package without type", package is not None)
+    mark("8: implementation without type", package is None and implementation is not None)
+    return package is not None or implementation is not None
 
 
 # "an end with a subcomponent and no feature; a reference with a package or
 # implementation and no type; a rename of what = 0 with an original name, or 1 or 2
 # without"
 def check_8(rows):
-    for row, (_, _, _, source_sub, source, destination_sub, destination) in enumerate(rows["X"]):
-        if (source_sub != MISSING and source == MISSING) or \
-                (destination_sub != MISSING and destination == MISSING):
+    for row, values in enumerate(rows["X"]):
+        source_sub, source, destination_sub, destination = ends_of(values)
+        if (source_sub is not None and source is None) or \
+                (destination_sub is not None and destination is None):
             mark("8: end without feature")
             return Refusal(8, "X", row)
     for row, values in enumerate(rows["U"]):
-        if reference_against_8(*values[3:6]) or reference_against_8(*values[6:9]):
+        if reference_against_8(values, "extends") or reference_against_8(values, "inverse"):
             return Refusal(8, "U", row)
     for row, values in enumerate(rows["E"]):
-        if reference_against_8(*values[5:8]):
+        if reference_against_8(values, "classifier"):
             return Refusal(8, "E", row)
-    for row, (_, what, _, _, original) in enumerate(rows["R"]):
-        if what == 0 and original != MISSING:
+    for row, values in enumerate(rows["R"]):
+        if values.what == 0 and values.original_name is not None:
             mark("8: package rename with a name")
             return Refusal(8, "R", row)
-        if what != 0 and original == MISSING:
+        if values.what != 0 and values.original_name is None:
             mark("8: other rename without a name")
             return Refusal(8, "R", row)
     return None
 
 
 # "two P rows, or two rows of one package in T, Q, U or one kind of R, with equal
-# folded keys (Q: the pair)"
+# folded keys (Q: the pair)": the fields that are equal as they are, and the names
+# that are the key.
+KEYS = {
+    "P": ([], ["name"]),
+    "T": (["package"], ["name"]),
+    "Q": (["package"], ["type", "implementation"]),
+    "U": (["package"], ["name"]),
+    "R": (["package", "what"], ["alias"]),
+}
+
+
 def check_9(rows, names):
-    key = [fold(name) for name in names]
-    keys = {
-        "P": [key[row[0]] for row in rows["P"]],
-        "T": [(row[0], key[row[1]]) for row in rows["T"]],
-        "Q": [(row[0], key[row[1]], key[row[2]]) for row in rows["Q"]],
-        "U": [(row[0], key[row[1]]) for row in rows["U"]],
-        "R": [(row[0], row[1], key[row[2]]) for row in rows["R"]],
-    }
+    folded = [fold(name) for name in names]
     words = {"P": "packages", "T": "component types", "Q": "implementations",
              "U": "group types", "R": "renames"}
-    for letter in "PTQUR":
+    for letter, (equal, key) in KEYS.items():
         seen = set()
-        for row, one in enumerate(keys[letter]):
+        for row, values in enumerate(rows[letter]):
+            one = tuple(getattr(values, field) for field in equal)
+            one += tuple(folded[getattr(values, field)] for field in key)
             if one in seen:
                 mark("9: " + words[letter])
                 return Refusal(9, letter, row)
@@ -569,33 +672,37 @@ class Model:
         self.names = [bytes(bytes_table[offset:offset + length]) for offset, length in rows["N"]]
 
         def name(number):
-            return None if number == MISSING else self.names[number]
+            return None if number is None else self.names[number]
 
         self.name = name
         self.children = collections.defaultdict(list)
         for row, values in enumerate(rows["C"]):
-            self.children[values[1]].append(row)
+            self.children[values.parent].append(row)
         self.features = collections.defaultdict(list)
         for row, values in enumerate(rows["F"]):
-            self.features[values[1]].append(row)
+            self.features[values.owner].append(row)
         self.connections = collections.defaultdict(list)
         for row, values in enumerate(rows["X"]):
-            self.connections[values[1]].append(row)
+            self.connections[values.owner].append(row)
         self.declared = collections.defaultdict(list)
         for row, values in enumerate(rows["E"]):
-            self.declared[values[0], values[1]].append(row)
+            self.declared[values.holder_kind, values.holder].append(row)
         self.imports = collections.defaultdict(list)
-        for package, imported in rows["I"]:
-            self.imports[package].append(name(imported))
+        for values in rows["I"]:
+            self.imports[values.package].append(name(values.name))
 
         # By folded keys.
-        self.packages = {fold(name(values[0])): row for row, values in enumerate(rows["P"])}
-        self.types = {(values[0], fold(name(values[1]))): row for row, values in enumerate(rows["T"])}
-        self.implementations = {(values[0], fold(name(values[1])), fold(name(values[2]))): row
-                                for row, values in enumerate(rows["Q"])}
-        self.groups = {(values[0], fold(name(values[1]))): row for row, values in enumerate(rows["U"])}
-        self.renames = {(package, what, fold(name(alias))): (name(original), name(original_name))
-                        for package, what, alias, original, original_name in rows["R"]}
+        self.packages = {fold(name(values.name)): row for row, values in enumerate(rows["P"])}
+        self.types = {(values.package, fold(name(values.name))): row
+                      for row, values in enumerate(rows["T"])}
+        self.implementations = {
+            (values.package, fold(name(values.type)), fold(name(values.implementation))): row
+            for row, values in enumerate(rows["Q"])}
+        self.groups = {(values.package, fold(name(values.name))): row
+                       for row, values in enumerate(rows["U"])}
+        self.renames = {(values.package, values.what, fold(name(values.alias))):
+                        (name(values.original_package), name(values.original_name))
+                        for values in rows["R"]}
 
         # Answers already given, so that equal questions are asked once.
         self.found_children = {}
@@ -603,12 +710,10 @@ class Model:
         self.chain_counts = {}
         self.visits = {}
 
-    def reference(self, three):
+    def reference(self, row, word):
         """(package or None, type, implementation or None), or None where missing."""
-        package, type_name, implementation = three
-        if type_name == MISSING:
-            return None
-        return self.name(package), self.name(type_name), self.name(implementation)
+        package, type_name, implementation = map(self.name, reference_of(row, word))
+        return None if type_name is None else (package, type_name, implementation)
 
 
 # ---------------------------------------------------------------------------
@@ -630,23 +735,21 @@ def in_one_package(model, package_key, type_name, implementation, own):
         mark("implementation name asks only Q", type_row is not None or group_row is not None)
         if row is None:
             return None
-        letter, private = "Q", model.rows["Q"][row][3]
-        spelled = model.name(model.rows["Q"][row][1])
+        letter, spelled = "Q", model.rows["Q"][row].type
     elif type_row is not None:
-        letter, row, private = "T", type_row, model.rows["T"][type_row][2]
-        spelled = model.name(model.rows["T"][row][1])
+        letter, row, spelled = "T", type_row, model.rows["T"][type_row].name
     elif group_row is not None:
-        letter, row, private = "U", group_row, model.rows["U"][group_row][2]
-        spelled = model.name(model.rows["U"][row][1])
+        letter, row, spelled = "U", group_row, model.rows["U"][group_row].name
     else:
         return None
 
+    private = model.rows[letter][row].private
     if private and not own:
         mark("private " + letter + " from outside gives nothing")
         mark("U not tried after a private T", letter == "T" and group_row is not None)
         return None
     mark("private hit from the own package", private)
-    mark("key found in another spelling", spelled != type_name)
+    mark("key found in another spelling", model.name(spelled) != type_name)
     mark("T before U", letter == "T" and group_row is not None)
     mark("U found", letter == "U")
     return letter, row, package
@@ -754,7 +857,7 @@ Feature = collections.namedtuple("Feature", "name kind direction prefix number")
 # without one it is listed itself."
 def parts_of_group(model, group):
     values = model.rows["U"][group]
-    extends, inverse_of = model.reference(values[3:6]), model.reference(values[6:9])
+    extends, inverse_of = model.reference(values, "extends"), model.reference(values, "inverse")
     declared = model.declared[1, group]
     if inverse_of is not None:
         mark("inverse_of hides own features", bool(declared) or extends is not None)
@@ -763,14 +866,14 @@ def parts_of_group(model, group):
     if extends is not None:
         parts.append(Deeper(extends, None, False))
     for row in declared:
-        _, _, name, kind, direction, *three = model.rows["E"][row]
-        classifier = model.reference(three)
-        if kind == 8 and classifier is not None:
+        feature = model.rows["E"][row]
+        name, classifier = model.name(feature.name), model.reference(feature, "classifier")
+        if feature.kind == 8 and classifier is not None:
             mark("nested group with a classifier")
-            parts.append(Deeper(classifier, model.name(name), False))
+            parts.append(Deeper(classifier, name, False))
         else:
-            mark("nested group without one", kind == 8)
-            parts.append(Own(row, model.name(name), fold(model.name(name)), kind, direction))
+            mark("nested group without one", feature.kind == 8)
+            parts.append(Own(row, name, fold(name), feature.kind, feature.direction))
     return parts
 
 
@@ -793,7 +896,7 @@ def visit(model, asking, reference, depth):
         if found is None or found[0] != "U":
             mark("reference to no group type")
         else:
-            package = model.name(model.rows["P"][found[2]][0])
+            package = model.name(model.rows["P"][found[2]].name)
             parts = parts_of_group(model, found[1])
     count, names = 1, collections.Counter()
     for part in parts:
@@ -828,7 +931,7 @@ def features(model, asking, reference, wanted, inverse=False, prefix=None, depth
     for part in this.parts:
         if isinstance(part, Own):
             if part.key in wanted:
-                number = model.rows["E"][part.row][2]
+                number = model.rows["E"][part.row].name
                 yield Feature(part.name, part.kind, turned(part.direction, inverse), prefix, number)
             continue
         inside = prefix
@@ -867,26 +970,28 @@ def find_children_by_name(model, owner, wanted):
         return model.found_children[key]
     equal, array, unindexed = [], [], []
     for child in model.children[owner]:
-        name, _, index = model.rows["C"][child][:3]
-        if model.name(name) == wanted:
+        component = model.rows["C"][child]
+        if model.name(component.name) == wanted:
             equal.append(child)
-        elif fold(base_name_of(model.name(name))) == fold(wanted):
-            (unindexed if index == MISSING else array).append(child)
+        elif fold(base_name_of(model.name(component.name))) == fold(wanted):
+            (unindexed if component.array_index is None else array).append(child)
     if equal:
         mark("byte-equal child")
         mark("byte-equal child hides array children", bool(array) and b"[" not in wanted)
         found = equal
     elif b"[" in wanted:
+        children = [model.rows["C"][child] for child in model.children[owner]]
         mark("wanted name with [ has no array rule",
-             any(fold(base_name_of(model.name(model.rows["C"][child][0]))) == fold(base_name_of(wanted))
-                 and model.rows["C"][child][2] != MISSING for child in model.children[owner]))
+             any(fold(base_name_of(model.name(component.name))) == fold(base_name_of(wanted))
+                 and component.array_index is not None for component in children))
         found = []
     else:
+        elements = [model.rows["C"][child] for child in array]
         mark("array rule by base name", bool(array))
         mark("array rule with other case",
-             any(base_name_of(model.name(model.rows["C"][child][0])) != wanted for child in array))
+             any(base_name_of(model.name(component.name)) != wanted for component in elements))
         mark("array rule needs an array index", bool(unindexed))
-        mark("array index 0 is an index", any(model.rows["C"][child][2] == 0 for child in array))
+        mark("array index 0 is an index", any(component.array_index == 0 for component in elements))
         found = array
     mark("no child found", not found)
     model.found_children[key] = found
@@ -907,7 +1012,7 @@ def says_one_to_one(text):
 
 
 def is_one_to_one(model, component):
-    text = model.name(model.rows["C"][component][5])
+    text = model.name(model.rows["C"][component].pattern)
     if text is None:
         mark("missing pattern is all to all")
         return False
@@ -930,7 +1035,7 @@ def steps(model, side, component, feature):
     found, used = [], 0
     for connection in model.connections[component]:
         source_sub, source, destination_sub, destination = \
-            (model.name(number) for number in model.rows["X"][connection][3:7])
+            map(model.name, ends_of(model.rows["X"][connection]))
         if side == SOURCE:
             sub, inner, other_sub, outer = source_sub, source, destination_sub, destination
         else:
@@ -999,23 +1104,24 @@ def traced_listing(model, rows_room, diagnostics_room, limit=MAX_STEPS):
     work = []  # per X row: what stands at either end, and how the two are paired
     total = 0
     for x, values in enumerate(model.rows["X"]):
-        _, owner, _, source_sub, source, destination_sub, destination = values
+        owner = values.owner
+        source_sub, source, destination_sub, destination = ends_of(values)
 
         # "An end without feature: diagnostic 1, once, nothing more."
-        if source == MISSING or destination == MISSING:
+        if source is None or destination is None:
             mark("diagnostic 1")
             mark("diagnostic 1 once for both ends", source == destination)
             diagnostics.append(Diagnostic(1, x, 0, 0))
             continue
 
         # "Neither: nothing."
-        if source_sub == MISSING and destination_sub == MISSING:
+        if source_sub is None and destination_sub is None:
             mark("neither end with a subcomponent")
             continue
 
         # "One with subcomponent: only if the owner has no parent"
-        both = source_sub != MISSING and destination_sub != MISSING
-        if not both and model.rows["C"][owner][1] != MISSING:
+        both = source_sub is not None and destination_sub is not None
+        if not both and model.rows["C"][owner].parent is not None:
             mark("one end below the root gives nothing")
             continue
 
@@ -1023,12 +1129,12 @@ def traced_listing(model, rows_room, diagnostics_room, limit=MAX_STEPS):
         # end is the owner and is not traced."
         place = "both ends: " if both else "one end at the root: "
         sources = destinations = None
-        if source_sub != MISSING:
+        if source_sub is not None:
             sources = find_children_by_name(model, owner, model.name(source_sub))
             if not sources:
                 mark(place + "diagnostic 2")
                 diagnostics.append(Diagnostic(2, x, source_sub, 0))
-        if destination_sub != MISSING:
+        if destination_sub is not None:
             destinations = find_children_by_name(model, owner, model.name(destination_sub))
             if not destinations:
                 mark(place + "diagnostic 3")
@@ -1075,10 +1181,11 @@ def traced_listing(model, rows_room, diagnostics_room, limit=MAX_STEPS):
 
     rows = []
     for x, sources, destinations, one_to_one in work:
-        name, owner, kind, _, source, _, destination = model.rows["X"][x]
+        values = model.rows["X"][x]
+        source, destination = values.source_feature, values.destination_feature
         # "the other end is the owner and is not traced."
-        starts = [owner] if sources is None else sources
-        ends = [owner] if destinations is None else destinations
+        starts = [values.owner] if sources is None else sources
+        ends = [values.owner] if destinations is None else destinations
         # "Pairs up to the shorter list, or all, source outermost."
         if one_to_one:
             pairs = list(zip(starts, ends))
@@ -1097,7 +1204,8 @@ def traced_listing(model, rows_room, diagnostics_room, limit=MAX_STEPS):
                         if step not in path:
                             path.append(step)
                     mark("path with source and destination steps", bool(a_steps) and bool(b_steps))
-                    rows.append(Row(x, kind, a, b, path, model.name(name), a_feature, b_feature))
+                    rows.append(Row(x, values.kind, a, b, path, model.name(values.name),
+                                    a_feature, b_feature))
     return rows, diagnostics
 
 
@@ -1113,7 +1221,7 @@ FEATURE_KIND_TO_CONNECTION_KIND = [0, 0, 0, 4, 1, 1, 1, 1, 2, 3]
 
 # "first found child, or the owner where no subcomponent is named; skip if none."
 def endpoint_component(model, owner, subcomponent):
-    if subcomponent == MISSING:
+    if subcomponent is None:
         mark("group list: the owner itself")
         return owner
     found = find_children_by_name(model, owner, model.name(subcomponent))
@@ -1130,11 +1238,11 @@ def endpoint_component(model, owner, subcomponent):
 def endpoint_reference(model, component, feature):
     """(asking package, type name) to expand, or None."""
     key = fold(feature)
-    _, _, _, package, type_name, _ = model.rows["C"][component]
-    package, type_name = model.name(package), model.name(type_name)
+    own = model.rows["C"][component]
+    package, type_name = model.name(own.package), model.name(own.type)
 
-    kinds = [model.rows["F"][row][2] for row in model.features[component]
-             if fold(model.name(model.rows["F"][row][0])) == key]
+    kinds = [model.rows["F"][row].kind for row in model.features[component]
+             if fold(model.name(model.rows["F"][row].name)) == key]
     if 8 not in kinds:
         mark("none: F row of another kind" if kinds else "none: no F row of that name")
         return None
@@ -1146,19 +1254,19 @@ def endpoint_reference(model, component, feature):
 
     passed_over = False
     for row in model.declared[0, found[1]]:
-        _, _, name, kind, _, *three = model.rows["E"][row]
-        if fold(model.name(name)) != key:
+        declared = model.rows["E"][row]
+        if fold(model.name(declared.name)) != key:
             continue
-        if kind != 8:
+        if declared.kind != 8:
             passed_over = True
             continue
-        classifier = model.reference(three)
+        classifier = model.reference(declared, "classifier")
         if classifier is None:
             mark("none: no classifier")
             return None
         later = [other for other in model.declared[0, found[1]] if other > row
-                 and fold(model.name(model.rows["E"][other][2])) == key
-                 and model.rows["E"][other][3] == 8]
+                 and fold(model.name(model.rows["E"][other].name)) == key
+                 and model.rows["E"][other].kind == 8]
         mark("first E row of kind 8", passed_over or bool(later))
         asking = package if classifier[0] is None else classifier[0]
         mark("asking package is the component's" if classifier[0] is None
@@ -1169,7 +1277,7 @@ def endpoint_reference(model, component, feature):
         bare = model.packages.get(fold(asking)), fold(classifier[1])
         mark("private group found from outside", fold(asking) != fold(package)
              and bare not in model.types and bare in model.groups
-             and model.rows["U"][model.groups[bare]][2] == 1)
+             and model.rows["U"][model.groups[bare]].private == 1)
         return asking, classifier[1]
     mark("none: no E row")
     return None
@@ -1194,14 +1302,14 @@ def group_listing(model, rows_room, diagnostics_room, composed_room):
     work = []
     total = total_diagnostics = 0
     for x, values in enumerate(model.rows["X"]):
-        _, owner, kind, source_sub, source, destination_sub, destination = values
-        if kind != 2:
+        source_sub, source, destination_sub, destination = ends_of(values)
+        if values.kind != 2:
             continue
-        if source == MISSING or destination == MISSING:
+        if source is None or destination is None:
             mark("group list: an end is missing")
             continue
-        a = endpoint_component(model, owner, source_sub)
-        b = endpoint_component(model, owner, destination_sub)
+        a = endpoint_component(model, values.owner, source_sub)
+        b = endpoint_component(model, values.owner, destination_sub)
         if a is None or b is None:
             continue
         a_asks = endpoint_reference(model, a, model.name(source))
@@ -1238,7 +1346,8 @@ def group_listing(model, rows_room, diagnostics_room, composed_room):
     # `feature_kind_to_connection_kind`, both of the source feature"
     rows, composed = [], []
     for x, a, b, a_asks, b_asks, matched, _ in work:
-        name, _, _, _, source, _, destination = model.rows["X"][x]
+        values = model.rows["X"][x]
+        source, destination = model.name(values.source_feature), model.name(values.destination_feature)
         first = {}  # first destination feature per folded last name
         a_reference, b_reference = (None, a_asks[1], None), (None, b_asks[1], None)
         for feature in features(model, a_asks[0], a_reference, matched):
@@ -1251,12 +1360,11 @@ def group_listing(model, rows_room, diagnostics_room, composed_room):
             mark("kind of the source feature", other.kind != feature.kind)
             mark("first of several destination features",
                  visit(model, b_asks[0], b_reference, 0).names[key] > 1)
-            mark_spelling(model, a, model.name(source))
-            mark_spelling(model, b, model.name(destination))
+            mark_spelling(model, a, source)
+            mark_spelling(model, b, destination)
             row = Row(x, FEATURE_KIND_TO_CONNECTION_KIND[feature.kind], a, b, [x],
-                      model.name(name) + b"." + feature.name,
-                      expanded_name(model.name(source), feature),
-                      expanded_name(model.name(destination), other))
+                      model.name(values.name) + b"." + feature.name,
+                      expanded_name(source, feature), expanded_name(destination, other))
             rows.append(row)
             # "Each row's names (row, source, destination) lie unseparated in the
             # output of composed names."
@@ -1284,7 +1392,7 @@ def group_listing(model, rows_room, diagnostics_room, composed_room):
 def mark_spelling(model, component, group):
     """For the marks only: does the component spell its group otherwise?"""
     mark("group spelled as in the X row",
-         all(model.name(model.rows["F"][row][0]) != group for row in model.features[component]))
+         all(model.name(model.rows["F"][row].name) != group for row in model.features[component]))
 
 
 # ---------------------------------------------------------------------------
@@ -1335,8 +1443,8 @@ def row_text(row):
 # names."
 def diagnostic_text(model, diagnostic):
     code, x, first, second = diagnostic
-    name = model.name(model.rows["X"][x][0])
-    owner = model.name(model.rows["C"][model.rows["X"][x][1]][0])
+    connection = model.rows["X"][x]
+    name, owner = model.name(connection.name), model.name(model.rows["C"][connection.owner].name)
     path = [owner, name]
     if code == 1:
         message = b"connection '%b': missing endpoint" % name
@@ -1381,10 +1489,23 @@ def refusal_text(number, letter="-", place=0):
     return b"R" + columns([number, place]) + b" " + letter.encode() + b"\n"
 
 
+# The same line, read again: the refusal that a text tells, unless it is a list.
+def refusal_of(text):
+    if not text.startswith(b"R"):
+        return None
+    return Refusal(int(text[1:7]), text[14:15].decode(), int(text[7:13]))
+
+
+def refused_before_the_listings(text):
+    refusal = refusal_of(text)
+    return refusal is not None and refusal.number in BEFORE_LISTINGS
+
+
 # "It reads standard input and lends 256 `N` rows, 96 of each other letter, a byte table
 # of 16,384, per listing 64 rows and 64 diagnostics, 4,096 bytes for composed names,
 # 8,192 for text."
-CONLIST_ROOMS = {letter: (256 if letter == "N" else 96) * WIDTH[letter] for letter in LETTERS}
+CONLIST_LINES = {letter: 256 if letter == "N" else 96 for letter in LETTERS}
+CONLIST_ROOMS = {letter: CONLIST_LINES[letter] * WIDTH[letter] for letter in LETTERS}
 CONLIST_BYTES = 16384
 CONLIST_ROWS = 64
 CONLIST_DIAGNOSTICS = 64
@@ -1392,15 +1513,20 @@ CONLIST_COMPOSED = 4096
 CONLIST_TEXT = 8192
 
 
+def read(sheet):
+    """What the reader makes of these bytes, with tables as `conlist` lends them."""
+    return read_sheet(sheet, CONLIST_BYTES, CONLIST_ROOMS)
+
+
 def answer(sheet):
     """What `conlist` prints for these bytes."""
-    read = read_sheet(sheet, CONLIST_BYTES, CONLIST_ROOMS)
-    if isinstance(read, Refusal):
-        return refusal_text(*read)
-    refused = check_tables(read.bytes_table, read.tables)
+    tables = read(sheet)
+    if isinstance(tables, Refusal):
+        return refusal_text(*tables)
+    refused = check_tables(*tables)
     if refused:
         return refusal_text(*refused)
-    model = Model(read.bytes_table, read.tables)
+    model = Model(*tables)
     lists = listings_of_model(model, CONLIST_ROWS, CONLIST_DIAGNOSTICS,
                               CONLIST_ROWS, CONLIST_DIAGNOSTICS, CONLIST_COMPOSED)
     if isinstance(lists, int):
@@ -1416,60 +1542,7 @@ def answer(sheet):
 # ---------------------------------------------------------------------------
 # The command line.
 
-HEADER = re.compile(rb"V([ 0-9]{5}[0-9])([ 0-9]{5}[0-9]) (.*)\Z", re.DOTALL)
-
-
-def cases(stream):
-    """(label, sheet, expected text) of a stream of cases."""
-    at = 0
-    while at < len(stream):
-        end = stream.find(b"\n", at)
-        found = HEADER.match(stream[at:end]) if end >= 0 else None
-        if not found:
-            raise ValueError("no header line at byte %d of the stream" % at)
-        sheet_length, text_length = int(found.group(1)), int(found.group(2))
-        at = end + 1 + sheet_length + text_length
-        if at > len(stream):
-            raise ValueError("the stream ends inside its last case")
-        sheet = stream[end + 1:end + 1 + sheet_length]
-        yield found.group(3).decode("latin-1"), sheet, stream[end + 1 + sheet_length:at]
-
-
-def run_stream(path, with_marks):
-    with open(path, "rb") as file:
-        stream = file.read()
-    count = compared = differing = 0
-    for label, sheet, expected in cases(stream):
-        count += 1
-        got = answer(sheet)
-        if expected:
-            compared += 1
-            if got != expected:
-                differing += 1
-                print("differs: " + label)
-    if with_marks:
-        for rule in RULES:
-            print("%8d  %s" % (marks[rule], rule))
-    met = sum(1 for rule in RULES if marks[rule])
-    print("%d cases, %d compared, %d differ; %d of %d rules met"
-          % (count, compared, differing, met, len(RULES)))
-    return 1 if differing else 0
-
-
-def main(arguments):
-    if not arguments:
-        sys.stdout.buffer.write(answer(sys.stdin.buffer.read()))
-        return 0
-    if arguments[0] == "--stream" and (len(arguments) == 2 or arguments[2:] == ["--marks"]):
-        try:
-            return run_stream(arguments[1], len(arguments) == 3)
-        except (OSError, ValueError) as problem:
-            print(problem, file=sys.stderr)
-            return 2
-    print("usage: second_reading.py < sheet, or second_reading.py --stream FILE [--marks]",
-          file=sys.stderr)
-    return 2
-
-
 if __name__ == "__main__":
-    sys.exit(main(sys.argv[1:]))
+    if sys.argv[1:]:
+        sys.exit("usage: second_reading.py < sheet")
+    sys.stdout.buffer.write(answer(sys.stdin.buffer.read()))

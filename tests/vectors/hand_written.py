@@ -1,56 +1,8 @@
 """The sheets written by hand: the trial rows of document 01, single points of its rules, and where the Rust goes another
 way than AS5506 or document 01. Each is as small as it can be."""
 
-NOTHING = (None, None, None)
-
-
-class Sheet:
-    """A sheet in the making. Names are given as text; each gets one N row."""
-
-    def __init__(self):
-        self.names = []
-        self.rows = {letter: [] for letter in "CFXPITQUER"}
-
-    def name(self, text):
-        if text is None:
-            return None
-        if text not in self.names:
-            self.names.append(text)
-        return self.names.index(text)
-
-    def add(self, letter, *fields):
-        self.rows[letter].append(fields)
-        return len(self.rows[letter]) - 1
-
-    def component(self, name, parent=None, index=None, pattern=None, package="p", type_name="t"):
-        return self.add("C", self.name(name), parent, index, self.name(package), self.name(type_name), self.name(pattern))
-
-    def feature(self, name, owner, kind=8):
-        return self.add("F", self.name(name), owner, kind)
-
-    def connection(self, name, owner, kind, *ends):
-        return self.add("X", self.name(name), owner, kind, *map(self.name, ends))
-
-    def package(self, name):
-        return self.add("P", self.name(name))
-
-    def type(self, package, name, private=0):
-        return self.add("T", package, self.name(name), private)
-
-    def group_type(self, package, name, private=0, extends=NOTHING, inverse_of=NOTHING):
-        return self.add("U", package, self.name(name), private, *map(self.name, extends), *map(self.name, inverse_of))
-
-    def declared(self, holder_kind, holder, name, kind=0, direction=None, classifier=NOTHING):
-        return self.add("E", holder_kind, holder, self.name(name), kind, direction, *map(self.name, classifier))
-
-    def rename(self, package, what, alias, original_package, original_name=None):
-        return self.add("R", package, what, *map(self.name, (alias, original_package, original_name)))
-
-    def bytes(self):
-        lines = ["N " + name for name in self.names]
-        for letter, rows in self.rows.items():
-            lines += [letter + "".join("     -" if f is None else "%6d" % f for f in row) for row in rows]
-        return "".join(line + "\n" for line in lines).encode("ascii")
+from second_reading import CONLIST_LINES, LETTERS
+from sheets import NOTHING, Sheet
 
 
 def one_group(classifier):
@@ -352,15 +304,15 @@ def full_table(letter, more=0):
         "F": lambda number: sheet.feature("y", 0, 0),
         "X": lambda number: sheet.connection("c", 0, 0, None, "g", None, "g"),
         "P": lambda number: sheet.package("y%d" % number),
-        "I": lambda number: sheet.add("I", 0, sheet.name("p")),
+        "I": lambda number: sheet.add("I", package=0, name="p"),
         "T": lambda number: sheet.type(0, "y%d" % number),
-        "Q": lambda number: sheet.add("Q", 0, sheet.name("t"), sheet.name("y%d" % number), 0),
+        "Q": lambda number: sheet.add("Q", package=0, type="t", implementation="y%d" % number),
         "U": lambda number: sheet.group_type(0, "y%d" % number),
         "E": lambda number: sheet.declared(0, 0, "y"),
         "R": lambda number: sheet.rename(0, 0, "y%d" % number, "p"),
-    }[letter]
-    rows, places = (sheet.names, 256) if letter == "N" else (sheet.rows[letter], 96)
-    while len(rows) < places + more:
+    }.get(letter, lambda number: sheet.add(letter))
+    rows = sheet.names if letter == "N" else sheet.rows[letter]
+    while len(rows) < CONLIST_LINES[letter] + more:
         add(len(rows))
     return sheet
 
@@ -410,7 +362,7 @@ ACCEPTED = {
     "65 group diagnostics": unmatched_features(65),
     "8,192 bytes of text": text_bytes(1330),
     "8,193 bytes of text": text_bytes(1331),
-    **{"full table " + letter: full_table(letter) for letter in "NCFXPITQUER"},
+    **{"full table " + letter: full_table(letter) for letter in LETTERS},
 }
 
 # File name -> sheet: see docs/DIFFERENCES.md.
