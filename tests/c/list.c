@@ -8,14 +8,34 @@
 #define COUNT(slice) (sizeof(slice) / sizeof(slice)[0])
 #define WHOLE(slice) slice, COUNT(slice)
 
-/* what `conlist_read_sheet` tells of the tables, and of each table as much as was read */
-static uint64_t read[13];
-#define TABLES                                                                                                         \
-    bytes, read[1], n, read[2] * 2, c, read[3] * 6, f, read[4] * 3, x, read[5] * 7, p, read[6], i, read[7] * 2, t,     \
-        read[8] * 3, q, read[9] * 4, u, read[10] * 9, e, read[11] * 8, r, read[12] * 5
+/* the letters in their order, each with the numbers of a row and the rows that are lent */
+#define LETTERS(EACH)                                                                                                  \
+    EACH(n, 2, 256)                                                                                                    \
+    EACH(c, 6, 96)                                                                                                     \
+    EACH(f, 3, 96)                                                                                                     \
+    EACH(x, 7, 96)                                                                                                     \
+    EACH(p, 1, 96)                                                                                                     \
+    EACH(i, 2, 96)                                                                                                     \
+    EACH(t, 3, 96)                                                                                                     \
+    EACH(q, 4, 96)                                                                                                     \
+    EACH(u, 9, 96)                                                                                                     \
+    EACH(e, 8, 96)                                                                                                     \
+    EACH(r, 5, 96)
 
 static uint8_t sheet[16385], text[8192], bytes[16384];
-static uint32_t n[512], c[576], f[288], x[672], p[96], i[192], t[288], q[384], u[864], e[768], r[480];
+#define SLICE(letter, numbers, rows) static uint32_t letter[(numbers) * (rows)];
+LETTERS(SLICE)
+#define WHOLE_TABLE(letter, numbers, rows) WHOLE(letter),
+
+/* what `conlist_read_sheet` tells of the tables, and of each table as much as was read */
+#define ROWS_OF(letter, numbers, rows) rows_of_##letter,
+enum { refused, bytes_of_names, LETTERS(ROWS_OF) numbers_told };
+static uint64_t read[numbers_told];
+#define READ_TABLE(letter, numbers, rows) , letter, read[rows_of_##letter] * (numbers)
+#define TABLES bytes, read[bytes_of_names] LETTERS(READ_TABLE)
+
+#define NUMBERS_OF(letter, numbers, rows) numbers_of_##letter = numbers,
+enum { LETTERS(NUMBERS_OF) };
 
 /* the outputs of a listing by itself, and of both in one call */
 static uint32_t rows[64 * 49], diagnostics[64 * 4], group_rows[64 * 49], group_diagnostics[64 * 4], features[64 * 14];
@@ -62,9 +82,8 @@ int main(void) {
     size_t length = fread(sheet, 1, sizeof sheet, stdin);
     fwrite(text, 1, conlist_list_sheet(sheet, length, WHOLE(text)), stdout);
 
-    conlist_read_sheet(sheet, length, WHOLE(bytes), WHOLE(n), WHOLE(c), WHOLE(f), WHOLE(x), WHOLE(p), WHOLE(i), WHOLE(t),
-                       WHOLE(q), WHOLE(u), WHOLE(e), WHOLE(r), read);
-    expect(read[0] == 0, "the sheet is refused");
+    conlist_read_sheet(sheet, length, WHOLE(bytes), LETTERS(WHOLE_TABLE) read);
+    expect(read[refused] == 0, "the sheet is refused");
     uint64_t checked[3], traced[3], grouped[3], both[5], expanded[3];
     conlist_check_tables(TABLES, checked);
     expect(checked[0] == 0 && checked[1] == 0 && checked[2] == 0, "the tables are refused");
@@ -99,8 +118,9 @@ int main(void) {
     expect_group();
 
     /* the first number of a package is its name; a group type begins with its package and its name */
-    for (uint64_t row = 0; row < read[10]; row++) {
-        conlist_expand_feature_group(TABLES, WHOLE(features), p[u[row * 9]], u[row * 9 + 1], false, expanded);
+    for (uint64_t row = 0; row < read[rows_of_u]; row++) {
+        const uint32_t *group = &u[row * numbers_of_u];
+        conlist_expand_feature_group(TABLES, WHOLE(features), p[group[0] * numbers_of_p], group[1], false, expanded);
         expect(expanded[0] == 0 && expanded[2] > 0, "a group type is not found");
         for (size_t place = expanded[1] * 14; place < COUNT(features); place++)
             expect(features[place] == 0, "unused output of features is not zero");

@@ -1,7 +1,9 @@
 //! Sheets whose text is known, refused ones above all: the text of each, what the reader leaves, and every call on tables that are
 //! read but not accepted.
 
-use oracle::sheet::Sheet;
+use oracle::letters::{LETTERS, row_numbers};
+use oracle::listing::{REFUSALS_OF_LINES, REFUSALS_OF_TABLES, refusal_of};
+use oracle::sheet::{SHEET_BYTES, Sheet, rows_lent};
 use oracle::stream::Case;
 
 use crate::lent::Lent;
@@ -9,14 +11,12 @@ use crate::library;
 use crate::tables::Tables;
 use crate::{text, unaccepted};
 
-const WIDTHS: [usize; 11] = [2, 6, 3, 7, 1, 2, 3, 4, 9, 8, 5];
-
 /// How often what was met, over all sheets.
 #[derive(Default)]
 pub struct Met {
     pub read: usize,
-    /// Sheets that the reader refuses, 1 to 5.
-    pub refused: [usize; 5],
+    /// Sheets that the reader refuses, by their refusal.
+    pub refused: [usize; REFUSALS_OF_LINES.len()],
     pub text: text::Met,
     pub unaccepted: unaccepted::Met,
 }
@@ -26,14 +26,15 @@ pub fn compare(case: &Case, met: &mut Met) -> Result<(), String> {
     let refusal = refusal_of(&case.text);
     match (read(&case.sheet)?, refusal) {
         (Err(told), Some(refusal)) if told == refusal => {
-            met.refused[told[0] as usize - 1] += 1;
+            let place = REFUSALS_OF_LINES.iter().position(|&own| own == told[0]);
+            met.refused[place.expect("a refusal of the reader")] += 1;
             Ok(())
         }
         (Err(told), _) => Err(format!("the reader told {told:?}")),
-        (Ok(_), Some([1..=5, ..])) => {
+        (Ok(_), Some([number, ..])) if REFUSALS_OF_LINES.contains(&number) => {
             Err("the reader took a sheet that it has to refuse".to_string())
         }
-        (Ok(tables), Some(refusal @ [6..=9, ..])) => {
+        (Ok(tables), Some(refusal)) if REFUSALS_OF_TABLES.contains(&refusal[0]) => {
             unaccepted::refused(&tables, refusal, &mut met.unaccepted)
         }
         (Ok(tables), _) => {
@@ -55,26 +56,13 @@ pub fn read_again(bytes: &[u8], sheet: &Sheet) -> Result<(), String> {
     }
 }
 
-/// The refusal that a text tells.
-fn refusal_of(text: &[u8]) -> Option<[u64; 3]> {
-    let text = text.strip_prefix(b"R")?;
-    let number = |part: &[u8]| {
-        String::from_utf8_lossy(part)
-            .trim()
-            .parse()
-            .expect("a number")
-    };
-    Some([number(&text[..6]), number(&text[6..12]), text[13].into()])
-}
-
 /// The tables that the reader makes, as conlist lends them, cut to the rows that it counts; or its refusal, with zeros in all of
 /// them.
 fn read(sheet: &[u8]) -> Result<Result<Tables, [u64; 3]>, String> {
-    let mut bytes = Lent::<u8>::of_length(16_384);
-    let mut letters: Vec<Lent<u32>> = WIDTHS
+    let mut bytes = Lent::<u8>::of_length(SHEET_BYTES);
+    let mut letters: Vec<Lent<u32>> = LETTERS
         .iter()
-        .enumerate()
-        .map(|(rank, width)| Lent::of_length(if rank == 0 { 256 } else { 96 } * width))
+        .map(|&letter| Lent::of_length(rows_lent(letter) * row_numbers(letter)))
         .collect();
     let lent: Vec<&mut [u32]> = letters.iter_mut().map(Lent::lend).collect();
     let told = library::read_sheet(sheet, bytes.lend(), lent);
@@ -94,7 +82,7 @@ fn read(sheet: &[u8]) -> Result<Result<Tables, [u64; 3]>, String> {
     };
     for (rank, letter) in letters.iter().enumerate() {
         tables.letters[rank] = letter
-            .used(told[rank + 2] as usize * WIDTHS[rank])?
+            .used(told[rank + 2] as usize * row_numbers(LETTERS[rank]))?
             .to_vec();
     }
     Ok(Ok(tables))

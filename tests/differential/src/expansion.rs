@@ -2,6 +2,7 @@
 //! instrumented copy.
 
 use oracle::MOST_VISITS;
+use oracle::letters::{component_type, group_type, package};
 use oracle::model::{self, FeatureNames, Renames};
 use oracle::sheet::Sheet;
 use oracle::visits;
@@ -32,7 +33,7 @@ pub struct Met {
 pub fn compare(sheet: &Sheet, renames: Renames, met: &mut Met) -> Result<(), String> {
     let tables = Tables::of(sheet);
     let scope = model::scope(sheet, FeatureNames::OfTheSheet, renames);
-    let packages = sheet.rows(b'P').into_iter().filter_map(|row| row[0]);
+    let packages = sheet.packages.iter().filter_map(|row| row[package::NAME]);
     let asked: Vec<(u32, u32)> = packages
         .flat_map(|package| groups(sheet).into_iter().map(move |group| (package, group)))
         .take(MOST_ASKED)
@@ -73,9 +74,10 @@ pub fn compare(sheet: &Sheet, renames: Renames, met: &mut Met) -> Result<(), Str
 
 /// The name numbers that are asked for.
 fn groups(sheet: &Sheet) -> Vec<u32> {
-    let types = sheet.rows(b'T').into_iter().take(1);
-    let rows = sheet.rows(b'U').into_iter().chain(types);
-    rows.filter_map(|row| row[1]).chain([0]).collect()
+    let types = sheet.types.iter().map(|row| row[component_type::NAME]);
+    let groups = sheet.group_types.iter().map(|row| row[group_type::NAME]);
+    let names = groups.chain(types.take(1)).flatten();
+    names.chain([0]).collect()
 }
 
 fn name(sheet: &Sheet, number: u32) -> Name {

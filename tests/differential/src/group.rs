@@ -191,25 +191,12 @@ pub fn rows_of(numbers: &[u32], names: &[u8]) -> Result<Vec<Row>, String> {
     let mut rest = names;
     let mut rows = Vec::new();
     for row in numbers.chunks(ROW_NUMBERS) {
-        let (path, unused) = row[8..].split_at(row[7] as usize);
-        if unused.iter().any(|&left| left != 0) {
-            return Err("an unused place of a path is not zero".to_string());
-        }
-        let mut next = |length: u32| {
+        let names = listed::name_numbers(row).map(|length| {
             let (name, behind) = rest.split_at(length as usize);
             rest = behind;
             String::from_utf8(name.to_vec()).expect("the bytes of names")
-        };
-        rows.push(Row {
-            connection: row[0],
-            kind: row[1],
-            source: row[2],
-            destination: row[3],
-            path: path.to_vec(),
-            name: next(row[4]),
-            source_feature: next(row[5]),
-            destination_feature: next(row[6]),
         });
+        rows.push(listed::row(row, names)?);
     }
     if rest.is_empty() {
         Ok(rows)

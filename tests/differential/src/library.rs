@@ -1,5 +1,7 @@
 //! The library's calls. A slice crosses as two arguments, its pointer and its length.
 
+use oracle::letters::LETTERS;
+
 use crate::tables::Tables;
 
 /// A diagnostic as a record.
@@ -12,74 +14,52 @@ pub struct Diagnostic {
     pub second: u32,
 }
 
-/// Declares a call that takes the twelve tables first.
-macro_rules! over_tables {
-    ($name:ident($($argument:ident: $kind:ty),*)) => {
+/// Hands a name for the table of each letter, in the order of the letters, to a macro.
+macro_rules! with_letters {
+    ($to:ident! $($rest:tt)*) => {
+        $to! { [n c f x p i t q u e r] $($rest)* }
+    };
+}
+
+/// Declares a call: what comes before the tables, the kinds of the byte table and of the others, and what comes behind them.
+macro_rules! declare {
+    ([$($letter:ident)*] $name:ident(
+        $($before:ident: $kind_before:ty,)* [$bytes:ty, $numbers:ty] $(, $argument:ident: $kind:ty)*
+    )) => {
         unsafe extern "C" {
             fn $name(
-                bytes: *const u8,
+                $($before: $kind_before,)*
+                bytes: $bytes,
                 bytes_length: usize,
-                n: *const u32,
-                n_length: usize,
-                c: *const u32,
-                c_length: usize,
-                f: *const u32,
-                f_length: usize,
-                x: *const u32,
-                x_length: usize,
-                p: *const u32,
-                p_length: usize,
-                i: *const u32,
-                i_length: usize,
-                t: *const u32,
-                t_length: usize,
-                q: *const u32,
-                q_length: usize,
-                u: *const u32,
-                u_length: usize,
-                e: *const u32,
-                e_length: usize,
-                r: *const u32,
-                r_length: usize,
+                $($letter: $numbers, _: usize,)*
                 $($argument: $kind),*
             );
         }
     };
 }
 
+/// Declares a call that takes the tables first.
+macro_rules! over_tables {
+    ($name:ident($($argument:ident: $kind:ty),*)) => {
+        with_letters! { declare! $name([*const u8, *const u32] $(, $argument: $kind)*) }
+    };
+}
+
 /// Makes such a call. The caller has seen to it that no slice overlaps another.
 macro_rules! call {
-    ($name:ident, $tables:expr, $($argument:expr),*) => {{
-        let [n, c, f, x, p, i, t, q, u, e, r] = &$tables.letters;
+    ([$($letter:ident)*] $name:ident, $tables:expr, $($argument:expr),*) => {{
+        let [$($letter),*] = &$tables.letters;
         let bytes = &$tables.bytes;
         $name(
             bytes.as_ptr(),
             bytes.len(),
-            n.as_ptr(),
-            n.len(),
-            c.as_ptr(),
-            c.len(),
-            f.as_ptr(),
-            f.len(),
-            x.as_ptr(),
-            x.len(),
-            p.as_ptr(),
-            p.len(),
-            i.as_ptr(),
-            i.len(),
-            t.as_ptr(),
-            t.len(),
-            q.as_ptr(),
-            q.len(),
-            u.as_ptr(),
-            u.len(),
-            e.as_ptr(),
-            e.len(),
-            r.as_ptr(),
-            r.len(),
+            $($letter.as_ptr(), $letter.len(),)*
             $($argument),*
         )
     }};
+    ($($call:tt)*) => {
+        with_letters! { call! $($call)* }
+    };
 }
 
 over_tables!(conlist_check_tables(told: *mut u64));
@@ -359,75 +339,34 @@ pub fn list_sheet(sheet: &[u8], text: &mut [u8]) -> usize {
     unsafe { conlist_list_sheet(sheet.as_ptr(), sheet.len(), text.as_mut_ptr(), text.len()) }
 }
 
-unsafe extern "C" {
-    fn conlist_read_sheet(
-        sheet: *const u8,
-        sheet_length: usize,
-        bytes: *mut u8,
-        bytes_length: usize,
-        n: *mut u32,
-        n_length: usize,
-        c: *mut u32,
-        c_length: usize,
-        f: *mut u32,
-        f_length: usize,
-        x: *mut u32,
-        x_length: usize,
-        p: *mut u32,
-        p_length: usize,
-        i: *mut u32,
-        i_length: usize,
-        t: *mut u32,
-        t_length: usize,
-        q: *mut u32,
-        q_length: usize,
-        u: *mut u32,
-        u_length: usize,
-        e: *mut u32,
-        e_length: usize,
-        r: *mut u32,
-        r_length: usize,
-        told: *mut u64,
-    );
+with_letters! { declare! conlist_read_sheet(sheet: *const u8, sheet_length: usize, [*mut u8, *mut u32], told: *mut u64) }
+
+/// Calls the reader with tables to be filled.
+macro_rules! read {
+    ([$($letter:ident)*] $sheet:expr, $bytes:expr, $letters:expr, $told:expr) => {{
+        let [$($letter),*] = $letters;
+        conlist_read_sheet(
+            $sheet.as_ptr(),
+            $sheet.len(),
+            $bytes.as_mut_ptr(),
+            $bytes.len(),
+            $($letter.as_mut_ptr(), $letter.len(),)*
+            $told,
+        )
+    }};
 }
+
+/// How many numbers the reader tells.
+const READ: usize = 2 + LETTERS.len();
 
 /// 0, the bytes of names and the rows of each letter, or a refusal's number, place and letter and zeros. `letters` has a table
 /// for each letter in the order of the letters.
-pub fn read_sheet(sheet: &[u8], bytes: &mut [u8], letters: Vec<&mut [u32]>) -> [u64; 13] {
-    let mut told = [u64::MAX; 13];
-    let [n, c, f, x, p, i, t, q, u, e, r]: [&mut [u32]; 11] =
-        letters.try_into().expect("a table for each letter");
+pub fn read_sheet(sheet: &[u8], bytes: &mut [u8], letters: Vec<&mut [u32]>) -> [u64; READ] {
+    let mut told = [u64::MAX; READ];
+    let letters: [&mut [u32]; LETTERS.len()] = letters.try_into().expect("a table for each letter");
     // SAFETY: as above.
     unsafe {
-        conlist_read_sheet(
-            sheet.as_ptr(),
-            sheet.len(),
-            bytes.as_mut_ptr(),
-            bytes.len(),
-            n.as_mut_ptr(),
-            n.len(),
-            c.as_mut_ptr(),
-            c.len(),
-            f.as_mut_ptr(),
-            f.len(),
-            x.as_mut_ptr(),
-            x.len(),
-            p.as_mut_ptr(),
-            p.len(),
-            i.as_mut_ptr(),
-            i.len(),
-            t.as_mut_ptr(),
-            t.len(),
-            q.as_mut_ptr(),
-            q.len(),
-            u.as_mut_ptr(),
-            u.len(),
-            e.as_mut_ptr(),
-            e.len(),
-            r.as_mut_ptr(),
-            r.len(),
-            told.as_mut_ptr(),
-        );
-    }
+        with_letters! { read! sheet, bytes, letters, told.as_mut_ptr() }
+    };
     told
 }

@@ -24,6 +24,7 @@ use std::process::ExitCode;
 
 use generate::{Sort, case};
 use oracle::Options;
+use oracle::listing::{REFUSALS_OF_LINES, REFUSALS_OF_TABLES};
 use oracle::model::Renames;
 use oracle::sheet::Sheet;
 use oracle::stream::{self, Case};
@@ -151,8 +152,8 @@ impl Met {
             text.sheets, text.refused, text.bytes, text.calls,
         );
         println!(
-            "tables not accepted: {}, refused 10: {}; {} calls",
-            self.unaccepted.tables, self.unaccepted.refused[4], self.unaccepted.calls,
+            "tables not accepted: {}, refused {REFUSALS_OF_TABLES:?}: {:?}; {} calls",
+            self.unaccepted.tables, self.unaccepted.refused, self.unaccepted.calls,
         );
     }
 
@@ -187,7 +188,7 @@ fn known_texts() -> ExitCode {
         }
     }
     println!(
-        "{cases} sheets with known texts, {differing} differ; refused 1 to 5: {:?}, refused 6 to 10: {:?}, {} read and accepted; {} calls for text, {} on tables",
+        "{cases} sheets with known texts, {differing} differ; refused {REFUSALS_OF_LINES:?}: {:?}, refused {REFUSALS_OF_TABLES:?}: {:?}, {} read and accepted; {} calls for text, {} on tables",
         met.refused, met.unaccepted.refused, met.read, met.text.calls, met.unaccepted.calls,
     );
     if differing == 0 && cases > 0 {

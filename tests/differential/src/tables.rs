@@ -1,6 +1,7 @@
 //! The tables of a model as a caller lends them.
 
-use oracle::sheet::{LETTERS, NAME_ROWS, Sheet};
+use oracle::letters::{LETTERS, ROW_LETTERS, Sheet, name};
+use oracle::sheet::NAME_ROWS;
 
 /// A missing field.
 pub const MISSING: u32 = u32::MAX;
@@ -9,7 +10,7 @@ pub const MISSING: u32 = u32::MAX;
 #[derive(Clone, Debug, PartialEq, Eq)]
 pub struct Tables {
     pub bytes: Vec<u8>,
-    pub letters: [Vec<u32>; 11],
+    pub letters: [Vec<u32>; LETTERS.len()],
 }
 
 impl Tables {
@@ -24,10 +25,9 @@ impl Tables {
             tables.letters[0].extend([offset, name.len() as u32]);
             tables.bytes.extend(name.bytes());
         }
-        for (rank, &letter) in LETTERS.iter().enumerate().skip(1) {
+        for (&letter, table) in ROW_LETTERS.iter().zip(&mut tables.letters[1..]) {
             for row in sheet.rows(letter) {
-                let numbers = row.iter().map(|field| field.unwrap_or(MISSING));
-                tables.letters[rank].extend(numbers);
+                table.extend(row.iter().map(|field| field.unwrap_or(MISSING)));
             }
         }
         tables
@@ -37,8 +37,8 @@ impl Tables {
     /// The group listing works in other room then.
     pub fn with_more_names(&self) -> Tables {
         let mut tables = self.clone();
-        let first = [self.letters[0][0], self.letters[0][1]];
-        while tables.letters[0].len() / 2 <= NAME_ROWS {
+        let first = &self.letters[0][..name::NUMBERS];
+        while tables.letters[0].len() / name::NUMBERS <= NAME_ROWS {
             tables.letters[0].extend(first);
         }
         tables

@@ -1,5 +1,7 @@
 //! Sheet bytes to text bytes: `list_sheet` against a text that is known.
 
+use oracle::listing::{TEXT_BYTES, refusal_line};
+
 use crate::lent::Lent;
 use crate::library;
 
@@ -12,21 +14,16 @@ pub struct Met {
     pub refused: usize,
 }
 
-/// What conlist lends for its text.
-const TEXT: usize = 8192;
-
-/// A refusal's line.
-const LINE: usize = 16;
-
 /// Holds the library to `expected`, the text of conlist: in an output as conlist lends it, in one that is exactly full, and in
 /// shorter ones, where 15 takes the place of a list and nothing that of a refusal.
 pub fn compare(sheet: &[u8], expected: &[u8], met: &mut Met) -> Result<(), String> {
     met.sheets += 1;
     met.bytes += expected.len();
     met.refused += usize::from(expected.starts_with(b"R"));
-    prints(sheet, TEXT, expected, met)?;
-    // A list of more than 8,192 bytes is 15 in conlist, and stands in a longer output.
-    let fifteen = b"R    15     0 -\n";
+    prints(sheet, TEXT_BYTES, expected, met)?;
+    // A list that is too long is 15 in conlist, and stands in a longer output.
+    let fifteen = refusal_line(15).into_bytes();
+    let line = fifteen.len();
     if expected == fifteen {
         return Ok(());
     }
@@ -36,11 +33,11 @@ pub fn compare(sheet: &[u8], expected: &[u8], met: &mut Met) -> Result<(), Strin
     if expected.starts_with(b"R") {
         prints(sheet, short, b"", met)?;
     } else {
-        let told: &[u8] = if short < LINE { b"" } else { fifteen };
+        let told: &[u8] = if short < line { b"" } else { &fifteen };
         prints(sheet, short, told, met)?;
     }
-    let tiny = if expected.len() < LINE { expected } else { b"" };
-    prints(sheet, LINE - 1, tiny, met)
+    let tiny = if expected.len() < line { expected } else { b"" };
+    prints(sheet, line - 1, tiny, met)
 }
 
 fn prints(sheet: &[u8], length: usize, expected: &[u8], met: &mut Met) -> Result<(), String> {

@@ -1,5 +1,6 @@
 //! The traced listing: `compute_semantic_connections` against the original's.
 
+use oracle::letters::connection;
 use oracle::listing::{Listing, Row};
 use oracle::sheet::Sheet;
 use oracle::{model, traced};
@@ -119,22 +120,13 @@ fn listed(
 
 /// A row of the output, its name numbers as names.
 fn row_of(sheet: &Sheet, numbers: &[u32]) -> Result<Row, String> {
-    let name = |number: u32| sheet.names[number as usize].clone();
-    let (path, unused) = numbers[8..].split_at(numbers[7] as usize);
-    if unused.iter().any(|&left| left != 0) {
-        return Err("an unused place of a path is not zero".to_string());
-    }
-    if Some(numbers[4]) != sheet.connections[numbers[0] as usize][0] {
+    let names = listed::name_numbers(numbers);
+    let row = listed::row(
+        numbers,
+        names.map(|number| sheet.names[number as usize].clone()),
+    )?;
+    if Some(names[0]) != sheet.connections[row.connection as usize][connection::NAME] {
         return Err("a row has another name number than its connection".to_string());
     }
-    Ok(Row {
-        connection: numbers[0],
-        kind: numbers[1],
-        source: numbers[2],
-        destination: numbers[3],
-        path: path.to_vec(),
-        name: name(numbers[4]),
-        source_feature: name(numbers[5]),
-        destination_feature: name(numbers[6]),
-    })
+    Ok(row)
 }

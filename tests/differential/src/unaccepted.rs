@@ -1,7 +1,9 @@
 //! Tables that are not accepted: the checks and every listing give the same refusal, leave zeros in their outputs and their
 //! inputs as they were.
 
-use oracle::sheet::{LETTERS, Sheet};
+use oracle::letters::{LETTERS, name, row_numbers};
+use oracle::listing::REFUSALS_OF_TABLES;
+use oracle::sheet::{NAME_BYTES, Sheet};
 
 use crate::lent::Lent;
 use crate::library::{self, Outputs};
@@ -9,7 +11,6 @@ use crate::records;
 use crate::tables::Tables;
 use crate::{DIAGNOSTIC_NUMBERS, ROW_NUMBERS};
 
-const WIDTHS: [usize; 11] = [2, 6, 3, 7, 1, 2, 3, 4, 9, 8, 5];
 const ROWS: usize = 4096;
 
 /// How often what was met, over all sheets.
@@ -17,8 +18,8 @@ const ROWS: usize = 4096;
 pub struct Met {
     pub tables: usize,
     pub calls: usize,
-    /// Tables by their refusal, 6 to 10.
-    pub refused: [usize; 5],
+    /// Tables by their refusal.
+    pub refused: [usize; REFUSALS_OF_TABLES.len()],
 }
 
 /// A refusal's number, place and letter.
@@ -27,43 +28,48 @@ pub type Refusal = [u64; 3];
 /// Tables of a model that are spoilt at one place or two, by `seed`, with the refusal that they earn: 10 in its three ways.
 pub fn compare(sheet: &Sheet, seed: usize, met: &mut Met) -> Result<(), String> {
     let tables = Tables::of(sheet);
-    let rank = seed % 11;
-    let later = (rank + seed % 3).min(10);
+    let rank = seed % LETTERS.len();
+    let later = (rank + seed % 3).min(LETTERS.len() - 1);
+    let width = |rank: usize| row_numbers(LETTERS[rank]);
 
     // a table of no whole number of rows, and perhaps a later one as well
     let mut broken = tables.clone();
-    spoil(&mut broken.letters[later], WIDTHS[later]);
-    spoil(&mut broken.letters[rank], WIDTHS[rank]);
-    if let Some(first) = (0..11).find(|&k| broken.letters[k].len() % WIDTHS[k] != 0) {
+    spoil(&mut broken.letters[later], width(later));
+    spoil(&mut broken.letters[rank], width(rank));
+    let mut ranks = 0..LETTERS.len();
+    if let Some(first) = ranks.find(|&rank| broken.letters[rank].len() % width(rank) != 0) {
         refused(&broken, [10, 0, LETTERS[first].into()], met)?;
     }
 
     // too many rows; a broken row of an earlier table comes first
     let mut long = tables.clone();
-    long.letters[rank].resize((ROWS + 1 + seed % 5) * WIDTHS[rank], 0);
+    long.letters[rank].resize((ROWS + 1 + seed % 5) * width(rank), 0);
     refused(&long, [10, ROWS as u64, LETTERS[rank].into()], met)?;
     if rank > 0 {
         long.letters[0].push(0);
         refused(&long, [10, 0, LETTERS[0].into()], met)?;
     }
 
-    // a name past the byte table, of no byte, of more than 63, or of a byte that no name has
-    let names = tables.letters[0].len() / 2;
+    // a name past the byte table, of no byte, of one more than the longest, or of a byte that no name has
+    let names = tables.letters[0].len() / name::NUMBERS;
     if names > 0 {
         let row = seed % names;
         let mut named = tables.clone();
-        let (offset, length) = (named.letters[0][row * 2], named.letters[0][row * 2 + 1]);
+        let bytes = named.bytes.len() as u32;
+        let mut rows = named.letters[0].chunks_mut(name::NUMBERS);
+        let numbers = rows.nth(row).expect("a row of N");
         match seed % 6 {
-            0 => named.letters[0][row * 2] = named.bytes.len() as u32 - length + 1,
-            1 => named.letters[0][row * 2 + 1] = 0,
-            2 => named.letters[0][row * 2] = u32::MAX,
-            3 => named.letters[0][row * 2 + 1] = u32::MAX,
+            0 => numbers[name::OFFSET] = bytes - numbers[name::LENGTH] + 1,
+            1 => numbers[name::LENGTH] = 0,
+            2 => numbers[name::OFFSET] = u32::MAX,
+            3 => numbers[name::LENGTH] = u32::MAX,
             4 => {
-                named.letters[0][row * 2] = named.bytes.len() as u32;
-                named.letters[0][row * 2 + 1] = 64;
-                named.bytes.extend([b'x'; 64]);
+                let long = [b'x'; NAME_BYTES + 1];
+                numbers[name::OFFSET] = bytes;
+                numbers[name::LENGTH] = long.len() as u32;
+                named.bytes.extend(long);
             }
-            _ => named.bytes[offset as usize] = 0x7F,
+            _ => named.bytes[numbers[name::OFFSET] as usize] = 0x7F,
         }
         refused(&named, [10, row as u64, b'N'.into()], met)?;
     }
@@ -79,7 +85,8 @@ fn spoil(table: &mut Vec<u32>, width: usize) {
 /// Holds the checks and every call to a refusal.
 pub fn refused(tables: &Tables, refusal: Refusal, met: &mut Met) -> Result<(), String> {
     met.tables += 1;
-    met.refused[refusal[0] as usize - 6] += 1;
+    let place = REFUSALS_OF_TABLES.iter().position(|&own| own == refusal[0]);
+    met.refused[place.expect("a refusal of tables")] += 1;
     met.calls += 8;
     let before = tables.clone();
     expect("check_tables", library::check_tables(tables), refusal)?;

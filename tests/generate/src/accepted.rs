@@ -1,8 +1,9 @@
 //! Accepted sheets: a model of some profile, its rows in another order,
 //! sometimes filled up to the sizes that `conlist` lends.
 
+use oracle::letters::{Field, Meaning, ROW_LETTERS, Sheet, columns};
 use oracle::model::Renames;
-use oracle::sheet::{Field, NAME_BYTES, NAME_ROWS, SHEET_BYTES, Sheet, TABLE_ROWS};
+use oracle::sheet::{NAME_BYTES, NAME_ROWS, SHEET_BYTES, TABLE_ROWS};
 use oracle::{MOST_VISITS, endpoint};
 
 use crate::draft::Draft;
@@ -133,14 +134,15 @@ fn reorder_components(draft: &mut Draft) {
     let sheet = &mut draft.sheet;
     let components = order.iter().map(|&row| sheet.components[row as usize]);
     sheet.components = components.collect();
-    for component in &mut sheet.components {
-        component[1] = moved(component[1]);
-    }
-    for feature in &mut sheet.features {
-        feature[1] = moved(feature[1]);
-    }
-    for connection in &mut sheet.connections {
-        connection[1] = moved(connection[1]);
+    for &letter in ROW_LETTERS {
+        for row in 0..sheet.rows(letter).len() {
+            let fields = sheet.row_mut(letter, row);
+            for column in columns(letter) {
+                if column.meaning == Meaning::Row(b'C') {
+                    fields[column.place] = moved(fields[column.place]);
+                }
+            }
+        }
     }
 }
 

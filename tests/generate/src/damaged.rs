@@ -8,13 +8,16 @@
 // Every damage of lines has the same signature, also one that adds no line.
 #![allow(clippy::ptr_arg)]
 
-use oracle::sheet::{
-    Field, LETTERS, Meaning, NAME_BYTES, NAME_ROWS, SHEET_BYTES, TABLE_ROWS, bound, columns,
+use oracle::letters::{
+    Column, Field, LETTERS, Meaning, ROW_LETTERS, blank, columns, component, connection,
+    declared_feature, group_type, rank, rename,
 };
+use oracle::listing::refusal_line;
+use oracle::sheet::{KEYS, NAME_BYTES, NAME_ROWS, SHEET_BYTES, TABLE_ROWS, bound, bytes_of};
 use oracle::{Options, conlist};
 
 use crate::accepted::attempted_of;
-use crate::draft::{Draft, GROUP_CONNECTION, Holder, NO_REFERENCE};
+use crate::draft::{Draft, GROUP_CONNECTION, Holder, NO_REFERENCE, put_reference};
 use crate::random::Random;
 
 type Line = Vec<u8>;
@@ -135,11 +138,7 @@ fn with_damages(seed: u64, damages: &[Damage]) -> Vec<u8> {
             damage(random, &mut lines);
         }
     }
-    let mut bytes = Vec::new();
-    for line in lines {
-        bytes.extend(line);
-        bytes.push(b'\n');
-    }
+    let mut bytes = bytes_of(lines);
     for damage in damages {
         if let Damage::Bytes(damage) = damage {
             damage(random, &mut bytes);
@@ -150,7 +149,7 @@ fn with_damages(seed: u64, damages: &[Damage]) -> Vec<u8> {
 
 /// A sheet of this profile whose listing earns this refusal.
 fn refused_listing(seed: u64, refusal: u32, profile: &str) -> Vec<u8> {
-    let line = format!("R{refusal:6}     0 -\n");
+    let line = refusal_line(refusal);
     for attempt in 0..1000 {
         let sheet = attempted_of(seed, attempt, profile);
         if conlist(&sheet, Options::default()) == Ok(line.clone()) {
@@ -209,6 +208,11 @@ fn every_letter(draft: &mut Draft) {
     draft.connection(root, GROUP_CONNECTION, [axis, bus, None, bus]);
     draft.connection(first, 0, [motor, position, motor, position]);
     draft.connection(root, 0, [None, position, None, None]);
+    for &letter in ROW_LETTERS {
+        if draft.sheet.rows(letter).is_empty() {
+            draft.sheet.push(letter, &blank(letter));
+        }
+    }
 }
 
 // Damages of the bytes.
@@ -245,7 +249,7 @@ fn last_line_without_lf(random: &mut Random, bytes: &mut Vec<u8>) {
                 bytes.push(b'R');
             }
         }
-        2 => bytes.push(random.pick(b"NCFXPITQUERZ \r\x00\xff")),
+        2 => bytes.push(random.pick(&[LETTERS, b"Z \r\x00\xff"].concat())),
         _ => bytes.extend(random.pick(&[&b"N late"[..], b"R     0", b"C     x", b"\r"])),
     }
 }
@@ -255,7 +259,8 @@ fn last_line_without_lf(random: &mut Random, bytes: &mut Vec<u8>) {
 /// The place of a line with a row and its letter still whole, if there is one.
 fn some_row_line(random: &mut Random, lines: &[Line]) -> Option<usize> {
     some_line(random, lines, |line| {
-        line.len() > 6 && !columns(line[0]).is_empty()
+        let first = line.first().and_then(|&letter| columns(letter).first());
+        first.is_some_and(|column| line.len() >= column.characters().end)
     })
 }
 
@@ -272,7 +277,9 @@ fn some_line(random: &mut Random, lines: &[Line], holds: impl Fn(&Line) -> bool)
 
 fn letter_unknown(random: &mut Random, lines: &mut Vec<Line>) {
     let place = random.below(lines.len());
-    let letter = random.pick(b"nxcABDGHJKLMOSVWYZ09 -#@\x00\x09\x0d\x7f\x80\xff");
+    let mut unknown = b"nxcABDGHJKLMOSVWYZ09 -#@\x00\x09\x0d\x7f\x80\xff".to_vec();
+    unknown.retain(|&letter| rank(letter).is_none());
+    let letter = random.pick(&unknown);
     match random.chance(80) {
         true => match lines[place].first_mut() {
             Some(first) => *first = letter,
@@ -288,10 +295,7 @@ fn empty_line(random: &mut Random, lines: &mut Vec<Line>) {
 }
 
 fn letter_out_of_order(random: &mut Random, lines: &mut Vec<Line>) {
-    let order = |line: &Line| {
-        let letter = line.first();
-        LETTERS.iter().position(|known| Some(known) == letter)
-    };
+    let order = |line: &Line| line.first().and_then(|&letter| rank(letter));
     let late = random.range(1, lines.len() - 1);
     let earlier: Vec<usize> = (0..late)
         .filter(|&place| order(&lines[place]) < order(&lines[late]))
@@ -313,14 +317,15 @@ fn length_of_the_line(random: &mut Random, lines: &mut Vec<Line>) {
         return;
     };
     let line = &mut lines[place];
+    let last = columns(line[0]).last().expect("a row's letter").width;
     match random.below(8) {
         0 => {
             line.pop();
         }
         1 => line.push(b' '),
         2 => line.push(b'\r'),
-        3 => line.extend(b"     0"),
-        4 => line.truncate(line.len() - 6),
+        3 => line.extend(format!("{:last$}", 0).bytes()),
+        4 => line.truncate(line.len().saturating_sub(last)),
         5 => line.truncate(1),
         6 => line.insert(1, b' '),
         _ => {
@@ -330,28 +335,30 @@ fn length_of_the_line(random: &mut Random, lines: &mut Vec<Line>) {
     }
 }
 
-/// Puts another field into a random column of a random row for which this holds.
+/// Puts another field into a random column of a random row for which this holds. In a column that is wider than the field its first
+/// character stands more often.
 fn put_field(
     random: &mut Random,
     lines: &mut [Line],
-    field: &[u8; 6],
-    allowed: impl Fn(Meaning, bool) -> bool,
+    field: &[u8],
+    allowed: impl Fn(&Column) -> bool,
 ) {
     let mut places = Vec::new();
     for (place, line) in lines.iter().enumerate() {
         let Some(&letter) = line.first() else {
             continue;
         };
-        for (column, (meaning, may_miss)) in columns(letter).iter().enumerate() {
-            let start = 1 + 6 * column;
-            if allowed(*meaning, *may_miss) && line.len() >= start + 6 {
-                places.push((place, start));
+        for column in columns(letter) {
+            if allowed(column) && line.len() >= column.characters().end {
+                places.push((place, column.characters()));
             }
         }
     }
     if !places.is_empty() {
-        let (place, start) = random.pick(&places);
-        lines[place][start..start + 6].copy_from_slice(field);
+        let (place, characters) = random.pick(&places);
+        let mut wide = vec![field[0]; characters.len() - field.len()];
+        wide.extend(field);
+        lines[place][characters].copy_from_slice(&wide);
     }
 }
 
@@ -381,18 +388,18 @@ fn field_is_no_number(random: &mut Random, lines: &mut Vec<Line>) {
         b"     /",
         b"     :",
     ]);
-    put_field(random, lines, field, |_, _| true);
+    put_field(random, lines, field, |_| true);
 }
 
 fn leading_zero(random: &mut Random, lines: &mut Vec<Line>) {
     let field = random.pick(&[
         b"    00", b"    01", b"   001", b"000000", b"000001", b"   010",
     ]);
-    put_field(random, lines, field, |_, _| true);
+    put_field(random, lines, field, |_| true);
 }
 
 fn missing_not_allowed(random: &mut Random, lines: &mut Vec<Line>) {
-    put_field(random, lines, b"     -", |_, may_miss| !may_miss);
+    put_field(random, lines, b"     -", |column| !column.may_miss);
 }
 
 fn name_without_space(random: &mut Random, lines: &mut Vec<Line>) {
@@ -464,13 +471,15 @@ fn too_many_rows(random: &mut Random, lines: &mut Vec<Line>) {
 // Damages of the tables.
 
 /// Puts a number past its bound into a random field with such a meaning.
-fn past(draft: &mut Draft, wanted: impl Fn(u8, usize, Meaning) -> bool) {
+fn past(draft: &mut Draft, wanted: impl Fn(Meaning) -> bool) {
     let mut places = Vec::new();
-    for &letter in &LETTERS[1..] {
+    for &letter in ROW_LETTERS {
         for (row, fields) in draft.sheet.rows(letter).iter().enumerate() {
-            for (column, (meaning, _)) in columns(letter).iter().enumerate() {
-                if wanted(letter, column, *meaning) {
-                    places.push((letter, row, column, bound(&draft.sheet, *meaning, fields)));
+            for column in columns(letter) {
+                if wanted(column.meaning)
+                    && let Some(bound) = bound(&draft.sheet, column.meaning, fields)
+                {
+                    places.push((letter, row, column, bound));
                 }
             }
         }
@@ -480,61 +489,67 @@ fn past(draft: &mut Draft, wanted: impl Fn(u8, usize, Meaning) -> bool) {
     }
     let (letter, row, column, bound) = draft.random.pick(&places);
     let number = match draft.random.below(5) {
-        0..=2 => bound as u32,
-        3 => bound as u32 + draft.random.range(1, 3) as u32,
+        0..=2 => bound,
+        3 => bound + draft.random.range(1, 3),
         _ => 999_999,
     };
-    draft.sheet.row_mut(letter, row)[column] = Some(number);
+    column.put(draft.sheet.row_mut(letter, row), Some(number as u64));
 }
 
 fn name_past_its_table(draft: &mut Draft) {
-    past(draft, |_, _, meaning| meaning == Meaning::Name);
+    past(draft, |meaning| meaning == Meaning::Name);
 }
 
 fn component_past_its_table(draft: &mut Draft) {
-    past(draft, |_, _, meaning| meaning == Meaning::Row(b'C'));
+    past(draft, |meaning| meaning == Meaning::Row(b'C'));
 }
 
 fn package_past_its_table(draft: &mut Draft) {
-    past(draft, |_, _, meaning| meaning == Meaning::Row(b'P'));
+    past(draft, |meaning| meaning == Meaning::Row(b'P'));
 }
 
 fn holder_past_its_table(draft: &mut Draft) {
-    past(draft, |_, _, meaning| meaning == Meaning::Holder);
+    past(draft, |meaning| meaning == Meaning::Holder);
+}
+
+/// The same for what the table of letters calls a kind, a flag and so on.
+fn past_its_range(draft: &mut Draft, word: &str) {
+    past(
+        draft,
+        |meaning| matches!(meaning, Meaning::Below(called, _) if called == word),
+    );
 }
 
 fn kind_past_its_range(draft: &mut Draft) {
-    past(draft, |letter, _, meaning| match meaning {
-        Meaning::Below(10) => true,
-        Meaning::Below(5) => letter == b'X',
-        _ => false,
-    });
+    past_its_range(draft, "kind");
 }
 
 fn flag_past_its_range(draft: &mut Draft) {
-    past(draft, |letter, _, meaning| {
-        meaning == Meaning::Below(2) && letter != b'E'
-    });
+    past_its_range(draft, "flag");
 }
 
 fn holder_kind_past_its_range(draft: &mut Draft) {
-    past(draft, |letter, column, _| letter == b'E' && column == 0);
+    past_its_range(draft, "holder kind");
 }
 
 fn direction_past_its_range(draft: &mut Draft) {
-    past(draft, |letter, column, _| letter == b'E' && column == 4);
+    past_its_range(draft, "direction");
 }
 
 fn what_past_its_range(draft: &mut Draft) {
-    past(draft, |letter, column, _| letter == b'R' && column == 1);
+    past_its_range(draft, "what");
 }
 
 fn no_component(draft: &mut Draft) {
-    draft.sheet.components.clear();
-    // Otherwise features or connections have owners past the table.
+    draft.sheet.clear(b'C');
+    // Otherwise features, connections and the like have owners past the table.
     if draft.random.chance(80) {
-        draft.sheet.features.clear();
-        draft.sheet.connections.clear();
+        for &letter in ROW_LETTERS {
+            let mut columns = columns(letter).iter();
+            if columns.any(|column| column.meaning == Meaning::Row(b'C')) {
+                draft.sheet.clear(letter);
+            }
+        }
     }
     if draft.random.chance(20) {
         let names = draft.sheet.names.clone();
@@ -550,7 +565,7 @@ fn component_rows(draft: &Draft) -> u32 {
 fn root_has_a_parent(draft: &mut Draft) {
     if component_rows(draft) > 0 {
         let parent = draft.random.below(component_rows(draft) as usize);
-        draft.sheet.components[0][1] = Some(parent as u32);
+        draft.sheet.components[0][component::PARENT] = Some(parent as u32);
     }
 }
 
@@ -562,7 +577,7 @@ fn some_child(draft: &mut Draft) -> Option<u32> {
 
 fn parent_missing(draft: &mut Draft) {
     if let Some(child) = some_child(draft) {
-        draft.sheet.components[child as usize][1] = None;
+        draft.sheet.components[child as usize][component::PARENT] = None;
     }
 }
 
@@ -570,7 +585,7 @@ fn parent_not_smaller(draft: &mut Draft) {
     if let Some(child) = some_child(draft) {
         let rows: Vec<u32> = (child..component_rows(draft)).collect();
         let parent = draft.random.pick(&rows);
-        draft.sheet.components[child as usize][1] = Some(parent);
+        draft.sheet.components[child as usize][component::PARENT] = Some(parent);
     }
 }
 
@@ -585,18 +600,25 @@ fn change_row(draft: &mut Draft, letter: u8, change: impl Fn(&mut Random, &mut [
 
 fn end_without_feature(draft: &mut Draft) {
     change_row(draft, b'X', |random, fields| {
-        let end = random.pick(&[3, 5]);
-        fields[end] = Some(0);
-        fields[end + 1] = None;
+        let (subcomponent, feature) = random.pick(&[
+            (connection::SOURCE, connection::SOURCE_FEATURE),
+            (connection::DESTINATION, connection::DESTINATION_FEATURE),
+        ]);
+        fields[subcomponent] = Some(0);
+        fields[feature] = None;
     });
 }
 
 /// Takes the type out of a reference of a U or E row.
 fn reference_without_type(draft: &mut Draft, package: Field, implementation: Field) {
-    let (letter, starts) = draft.random.pick(&[(b'U', [3, 6]), (b'E', [5, 5])]);
+    let of_group_types = [group_type::EXTENDS_PACKAGE, group_type::INVERSE_PACKAGE];
+    let of_features = [declared_feature::CLASSIFIER_PACKAGE; 2];
+    let (letter, places) = draft
+        .random
+        .pick(&[(b'U', of_group_types), (b'E', of_features)]);
     change_row(draft, letter, |random, fields| {
-        let start = random.pick(&starts);
-        fields[start..start + 3].copy_from_slice(&[package, None, implementation]);
+        let place = random.pick(&places);
+        put_reference(fields, place, [package, None, implementation]);
     });
 }
 
@@ -611,20 +633,22 @@ fn implementation_without_type(draft: &mut Draft) {
 
 fn package_rename_with_a_name(draft: &mut Draft) {
     change_row(draft, b'R', |_, fields| {
-        fields[1] = Some(0);
-        fields[4] = Some(0);
+        fields[rename::WHAT] = Some(0);
+        fields[rename::ORIGINAL_NAME] = Some(0);
     });
 }
 
 fn rename_without_a_name(draft: &mut Draft) {
     change_row(draft, b'R', |random, fields| {
-        fields[1] = Some(random.pick(&[1, 2]));
-        fields[4] = None;
+        fields[rename::WHAT] = Some(random.pick(&[1, 2]));
+        fields[rename::ORIGINAL_NAME] = None;
     });
 }
 
 /// Adds a row with the key of another in another spelling, somewhere below it.
-fn clash(draft: &mut Draft, letter: u8, name_columns: &[usize]) {
+fn clash(draft: &mut Draft, letter: u8) {
+    let key = KEYS.iter().find(|key| key.letter == letter);
+    let names = key.expect("a letter with keys").names;
     let rows = draft.sheet.rows(letter);
     if rows.is_empty() {
         return;
@@ -633,9 +657,9 @@ fn clash(draft: &mut Draft, letter: u8, name_columns: &[usize]) {
     for _ in 0..draft.random.pick(&[1, 1, 1, 2]) {
         let original = draft.random.below(rows.len());
         let mut clashing = rows[original].clone();
-        for &column in name_columns {
-            let text = draft.text(clashing[column]);
-            clashing[column] = draft.spelled(&text, 70);
+        for &name in names {
+            let text = draft.text(clashing[name]);
+            clashing[name] = draft.spelled(&text, 70);
         }
         let place = draft.random.range(original + 1, rows.len());
         rows.insert(place, clashing);
@@ -650,21 +674,21 @@ fn clash(draft: &mut Draft, letter: u8, name_columns: &[usize]) {
 }
 
 fn clashing_packages(draft: &mut Draft) {
-    clash(draft, b'P', &[0]);
+    clash(draft, b'P');
 }
 
 fn clashing_types(draft: &mut Draft) {
-    clash(draft, b'T', &[1]);
+    clash(draft, b'T');
 }
 
 fn clashing_implementations(draft: &mut Draft) {
-    clash(draft, b'Q', &[1, 2]);
+    clash(draft, b'Q');
 }
 
 fn clashing_group_types(draft: &mut Draft) {
-    clash(draft, b'U', &[1]);
+    clash(draft, b'U');
 }
 
 fn clashing_renames(draft: &mut Draft) {
-    clash(draft, b'R', &[2]);
+    clash(draft, b'R');
 }

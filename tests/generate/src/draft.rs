@@ -1,12 +1,13 @@
 //! A sheet in the making. Everything added keeps it accepted: rows are only
 //! added where there is room, and only under keys that are still free.
 
-use oracle::sheet::{Field, NAME_ROWS, Sheet, TABLE_ROWS};
+use oracle::letters::{
+    Field, Reference, Sheet, component, component_type, connection, declared_feature, feature,
+    group_type, implementation, import, package, rename,
+};
+use oracle::sheet::{NAME_ROWS, TABLE_ROWS};
 
 use crate::random::Random;
-
-/// A reference: package?, type?, implementation?.
-pub type Reference = [Field; 3];
 
 pub const NO_REFERENCE: Reference = [None; 3];
 
@@ -88,8 +89,13 @@ impl Draft {
         if row == TABLE_ROWS {
             return (row - 1) as u32;
         }
-        let fields = [name, parent, array_index, None, None, None];
-        self.sheet.components.push(fields);
+        self.sheet.components.push(component::row([
+            (component::NAME, name),
+            (component::PARENT, parent),
+            (component::ARRAY_INDEX, array_index),
+            (component::PACKAGE, None),
+            (component::TYPE, None),
+        ]));
         row as u32
     }
 
@@ -104,28 +110,33 @@ impl Draft {
 
     pub fn children(&self, owner: u32) -> Vec<u32> {
         let rows = self.sheet.components.iter().zip(0..);
-        rows.filter(|(fields, _)| fields[1] == Some(owner))
+        rows.filter(|(fields, _)| fields[component::PARENT] == Some(owner))
             .map(|(_, row)| row)
             .collect()
     }
 
     pub fn component_name(&self, component: u32) -> String {
-        self.text(self.sheet.components[component as usize][0])
+        self.text(self.sheet.components[component as usize][component::NAME])
     }
 
     pub fn set_classifier(&mut self, component: u32, package: Field, type_name: Field) {
         let fields = &mut self.sheet.components[component as usize];
-        [fields[3], fields[4]] = [package, type_name];
+        fields[component::PACKAGE] = package;
+        fields[component::TYPE] = type_name;
     }
 
     pub fn set_pattern(&mut self, component: u32, pattern: &str) {
         let name = self.name(pattern);
-        self.sheet.components[component as usize][5] = name;
+        self.sheet.components[component as usize][component::PATTERN] = name;
     }
 
     pub fn feature(&mut self, name: Field, owner: u32, kind: u32) {
         if self.sheet.features.len() < TABLE_ROWS {
-            self.sheet.features.push([name, Some(owner), Some(kind)]);
+            self.sheet.features.push(feature::row([
+                (feature::NAME, name),
+                (feature::OWNER, Some(owner)),
+                (feature::KIND, Some(kind)),
+            ]));
         }
     }
 
@@ -142,43 +153,58 @@ impl Draft {
         };
         let name = self.name(&name);
         let [src, src_feature, dst, dst_feature] = ends;
-        let (owner, kind) = (Some(owner), Some(kind));
-        let fields = [name, owner, kind, src, src_feature, dst, dst_feature];
-        self.sheet.connections.push(fields);
+        self.sheet.connections.push(connection::row([
+            (connection::NAME, name),
+            (connection::OWNER, Some(owner)),
+            (connection::KIND, Some(kind)),
+            (connection::SOURCE, src),
+            (connection::SOURCE_FEATURE, src_feature),
+            (connection::DESTINATION, dst),
+            (connection::DESTINATION_FEATURE, dst_feature),
+        ]));
     }
 
     pub fn package(&mut self, name: Field) -> Option<u32> {
         let packages = &self.sheet.packages;
-        let taken = packages.iter().any(|row| self.equal_folded(row[0], name));
+        let taken = packages
+            .iter()
+            .any(|row| self.equal_folded(row[package::NAME], name));
         if taken || packages.len() == TABLE_ROWS {
             return None;
         }
-        self.sheet.packages.push([name]);
+        let fields = package::row([(package::NAME, name)]);
+        self.sheet.packages.push(fields);
         Some(self.sheet.packages.len() as u32 - 1)
     }
 
     pub fn package_name(&self, package: u32) -> String {
-        self.text(self.sheet.packages[package as usize][0])
+        self.text(self.sheet.packages[package as usize][package::NAME])
     }
 
     pub fn import(&mut self, package: u32, name: Field) {
         if self.sheet.imports.len() < TABLE_ROWS {
-            self.sheet.imports.push([Some(package), name]);
+            self.sheet.imports.push(import::row([
+                (import::PACKAGE, Some(package)),
+                (import::NAME, name),
+            ]));
         }
     }
 
     pub fn component_type(&mut self, package: u32, name: Field, private: bool) -> Option<u32> {
         let package = Some(package);
         let types = &self.sheet.types;
-        let taken = types
-            .iter()
-            .any(|row| row[0] == package && self.equal_folded(row[1], name));
+        let taken = types.iter().any(|row| {
+            row[component_type::PACKAGE] == package
+                && self.equal_folded(row[component_type::NAME], name)
+        });
         if taken || types.len() == TABLE_ROWS {
             return None;
         }
-        self.sheet
-            .types
-            .push([package, name, Some(u32::from(private))]);
+        self.sheet.types.push(component_type::row([
+            (component_type::PACKAGE, package),
+            (component_type::NAME, name),
+            (component_type::PRIVATE, Some(u32::from(private))),
+        ]));
         Some(self.sheet.types.len() as u32 - 1)
     }
 
@@ -186,50 +212,57 @@ impl Draft {
         let package = Some(package);
         let implementations = &self.sheet.implementations;
         let taken = implementations.iter().any(|row| {
-            row[0] == package
-                && self.equal_folded(row[1], type_name)
-                && self.equal_folded(row[2], name)
+            row[implementation::PACKAGE] == package
+                && self.equal_folded(row[implementation::TYPE], type_name)
+                && self.equal_folded(row[implementation::NAME], name)
         });
         if !taken && implementations.len() < TABLE_ROWS {
-            let private = Some(u32::from(private));
-            let fields = [package, type_name, name, private];
-            self.sheet.implementations.push(fields);
+            self.sheet.implementations.push(implementation::row([
+                (implementation::PACKAGE, package),
+                (implementation::TYPE, type_name),
+                (implementation::NAME, name),
+                (implementation::PRIVATE, Some(u32::from(private))),
+            ]));
         }
     }
 
     pub fn group_type(&mut self, package: u32, name: Field, private: bool) -> Option<u32> {
         let package = Some(package);
         let group_types = &self.sheet.group_types;
-        let taken = group_types
-            .iter()
-            .any(|row| row[0] == package && self.equal_folded(row[1], name));
+        let taken = group_types.iter().any(|row| {
+            row[group_type::PACKAGE] == package && self.equal_folded(row[group_type::NAME], name)
+        });
         if taken || group_types.len() == TABLE_ROWS {
             return None;
         }
-        let mut fields = [None; 9];
-        fields[..3].copy_from_slice(&[package, name, Some(u32::from(private))]);
-        self.sheet.group_types.push(fields);
+        self.sheet.group_types.push(group_type::row([
+            (group_type::PACKAGE, package),
+            (group_type::NAME, name),
+            (group_type::PRIVATE, Some(u32::from(private))),
+        ]));
         Some(self.sheet.group_types.len() as u32 - 1)
     }
 
     pub fn group_type_name(&self, group_type: u32) -> Field {
-        self.sheet.group_types[group_type as usize][1]
+        self.sheet.group_types[group_type as usize][group_type::NAME]
     }
 
     pub fn group_type_package(&self, group_type: u32) -> u32 {
-        self.sheet.group_types[group_type as usize][0].expect("a P row")
+        self.sheet.group_types[group_type as usize][group_type::PACKAGE].expect("a P row")
     }
 
     pub fn set_private(&mut self, group_type: u32) {
-        self.sheet.group_types[group_type as usize][2] = Some(1);
+        self.sheet.group_types[group_type as usize][group_type::PRIVATE] = Some(1);
     }
 
     pub fn set_extends(&mut self, group_type: u32, reference: Reference) {
-        self.sheet.group_types[group_type as usize][3..6].copy_from_slice(&reference);
+        let fields = &mut self.sheet.group_types[group_type as usize];
+        put_reference(fields, group_type::EXTENDS_PACKAGE, reference);
     }
 
     pub fn set_inverse_of(&mut self, group_type: u32, reference: Reference) {
-        self.sheet.group_types[group_type as usize][6..9].copy_from_slice(&reference);
+        let fields = &mut self.sheet.group_types[group_type as usize];
+        put_reference(fields, group_type::INVERSE_PACKAGE, reference);
     }
 
     /// Adds a declared feature with a random direction.
@@ -248,21 +281,19 @@ impl Draft {
             Holder::Type(row) => (0, row),
             Holder::GroupType(row) => (1, row),
         };
-        let [package, type_name, implementation] = reference;
-        self.sheet.declared_features.push([
-            Some(holder_kind),
-            Some(holder),
-            name,
-            Some(kind),
-            direction,
-            package,
-            type_name,
-            implementation,
+        let mut fields = declared_feature::row([
+            (declared_feature::HOLDER_KIND, Some(holder_kind)),
+            (declared_feature::HOLDER, Some(holder)),
+            (declared_feature::NAME, name),
+            (declared_feature::KIND, Some(kind)),
+            (declared_feature::DIRECTION, direction),
         ]);
+        put_reference(&mut fields, declared_feature::CLASSIFIER_PACKAGE, reference);
+        self.sheet.declared_features.push(fields);
     }
 
     pub fn package_rename(&mut self, package: u32, alias: Field, original: Field) {
-        self.rename([Some(package), Some(0), alias, original, None]);
+        self.rename(package, 0, alias, [original, None]);
     }
 
     /// `what` is 1 for a classifier, 2 for a feature group. Unless the draft is
@@ -270,19 +301,34 @@ impl Draft {
     pub fn named_rename(&mut self, package: u32, what: u32, alias: Field, original: [Field; 2]) {
         let kept = self.wild || text_form_keeps(&self.text(original[0]), &self.text(original[1]));
         if kept {
-            self.rename([Some(package), Some(what), alias, original[0], original[1]]);
+            self.rename(package, what, alias, original);
         }
     }
 
-    fn rename(&mut self, fields: [Field; 5]) {
+    /// `original` is a package's name and, unless a package is renamed, a name in it.
+    fn rename(&mut self, package: u32, what: u32, alias: Field, original: [Field; 2]) {
+        let (package, what) = (Some(package), Some(what));
         let renames = &self.sheet.renames;
-        let taken = renames
-            .iter()
-            .any(|row| row[..2] == fields[..2] && self.equal_folded(row[2], fields[2]));
+        let taken = renames.iter().any(|row| {
+            row[rename::PACKAGE] == package
+                && row[rename::WHAT] == what
+                && self.equal_folded(row[rename::ALIAS], alias)
+        });
         if !taken && renames.len() < TABLE_ROWS {
-            self.sheet.renames.push(fields);
+            self.sheet.renames.push(rename::row([
+                (rename::PACKAGE, package),
+                (rename::WHAT, what),
+                (rename::ALIAS, alias),
+                (rename::ORIGINAL_PACKAGE, original[0]),
+                (rename::ORIGINAL_NAME, original[1]),
+            ]));
         }
     }
+}
+
+/// Puts a reference into a row, its package at this place.
+pub fn put_reference(row: &mut [Field], package: usize, reference: Reference) {
+    row[package..package + reference.len()].copy_from_slice(&reference);
 }
 
 /// Whether `Pkg::Type`, split at the first `::` and trimmed, gives the two names back.

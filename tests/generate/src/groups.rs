@@ -1,11 +1,10 @@
 //! Models for the group listing: packages, types, feature groups that extend,
 //! invert and nest one another, and connections between them.
 
-use oracle::sheet::{Field, TABLE_ROWS};
+use oracle::letters::{Field, Reference, component, component_type, declared_feature, feature};
+use oracle::sheet::TABLE_ROWS;
 
-use crate::draft::{
-    Draft, FEATURE_GROUP, GROUP_CONNECTION, Holder, NO_REFERENCE, Reference, base_name,
-};
+use crate::draft::{Draft, FEATURE_GROUP, GROUP_CONNECTION, Holder, NO_REFERENCE, base_name};
 
 const PACKAGES: &[&str] = &["p", "lib", "Base", "x y", "q.q", "Pk", "sub[1]", "z:w"];
 const TYPES: &[&str] = &[
@@ -224,7 +223,8 @@ impl Draft {
 
     fn group_features_of_types(&mut self) {
         for type_row in 0..self.sheet.types.len() as u32 {
-            let asking = self.sheet.types[type_row as usize][0].expect("a P row");
+            let asking = self.sheet.types[type_row as usize][component_type::PACKAGE];
+            let asking = asking.expect("a P row");
             for _ in 0..self.random.range(1, 4) {
                 let text = self.random.pick(GROUP_FEATURES);
                 let name = self.spelled(text, 12);
@@ -300,7 +300,7 @@ impl Draft {
     /// of a T row.
     pub fn classify_components(&mut self) {
         for component in 0..self.sheet.components.len() {
-            if self.sheet.components[component][3].is_none() {
+            if self.sheet.components[component][component::PACKAGE].is_none() {
                 let [package, type_name] = self.classifier_of_component();
                 self.set_classifier(component as u32, package, type_name);
             }
@@ -315,9 +315,10 @@ impl Draft {
                 (package, self.text(self.group_type_name(group_type)))
             }
             8.. if !self.sheet.types.is_empty() => {
-                let [package, name, _] = self.random.pick(&self.sheet.types.clone());
-                let package = self.package_name(package.expect("a P row"));
-                (package, self.text(name))
+                let found = self.random.pick(&self.sheet.types);
+                let package = found[component_type::PACKAGE].expect("a P row");
+                let name = self.text(found[component_type::NAME]);
+                (self.package_name(package), name)
             }
             _ => (
                 self.some_package().to_string(),
@@ -330,21 +331,25 @@ impl Draft {
     /// The names of the group features that a component's type declares, as far
     /// as its package and type name tell without any rename.
     fn declared_groups(&self, component: u32) -> Vec<Field> {
-        let [_, _, _, package, type_name, _] = self.sheet.components[component as usize];
-        let (package, type_name) = (self.sheet.name(package), self.sheet.name(type_name));
+        let own = &self.sheet.components[component as usize];
+        let package = self.sheet.name(own[component::PACKAGE]);
+        let type_name = self.sheet.name(own[component::TYPE]);
         let found = self.sheet.types.iter().position(|row| {
-            let home = self.package_name(row[0].expect("a P row"));
-            home.eq_ignore_ascii_case(package)
-                && self.sheet.name(row[1]).eq_ignore_ascii_case(type_name)
+            let home = self.package_name(row[component_type::PACKAGE].expect("a P row"));
+            let name = self.sheet.name(row[component_type::NAME]);
+            home.eq_ignore_ascii_case(package) && name.eq_ignore_ascii_case(type_name)
         });
         let Some(found) = found else {
             return Vec::new();
         };
-        let holder = [Some(0), Some(found as u32)];
         let declared = self.sheet.declared_features.iter();
         declared
-            .filter(|row| row[..2] == holder && row[3] == Some(FEATURE_GROUP))
-            .map(|row| row[2])
+            .filter(|row| {
+                row[declared_feature::HOLDER_KIND] == Some(0)
+                    && row[declared_feature::HOLDER] == Some(found as u32)
+                    && row[declared_feature::KIND] == Some(FEATURE_GROUP)
+            })
+            .map(|row| row[declared_feature::NAME])
             .collect()
     }
 
@@ -413,8 +418,8 @@ impl Draft {
     fn group_feature_of(&mut self, component: u32) -> Field {
         let features = self.sheet.features.iter();
         let names: Vec<Field> = features
-            .filter(|row| row[1] == Some(component))
-            .map(|row| row[0])
+            .filter(|row| row[feature::OWNER] == Some(component))
+            .map(|row| row[feature::NAME])
             .collect();
         let text = match names.is_empty() || self.random.chance(5) {
             true => self.random.pick(GROUP_FEATURES).to_string(),

@@ -4,9 +4,9 @@
 //! Each group type has a feature with a name of its own, so that rows and
 //! diagnostics tell which one was found.
 
-use oracle::sheet::Field;
+use oracle::letters::{Field, Reference, package};
 
-use crate::draft::{Draft, FEATURE_GROUP, GROUP_CONNECTION, Holder, NO_REFERENCE, Reference};
+use crate::draft::{Draft, FEATURE_GROUP, GROUP_CONNECTION, Holder, NO_REFERENCE};
 
 const PACKAGES: &[&str] = &["p0", "p1", "p2", "p3", "Long.Pkg"];
 const TYPES: &[&str] = &["a", "b", "c"];
@@ -192,7 +192,7 @@ impl Draft {
         for package in 0..names.packages.len() {
             let name = self.name(&format!("s{package}"));
             let row = self.component(name, Some(0), None);
-            let home = self.sheet.packages[package][0];
+            let home = self.sheet.packages[package][package::NAME];
             let device = self.spelled("dev", 10);
             self.set_classifier(row, home, device);
             for number in 0..GROUPS {
@@ -384,7 +384,7 @@ fn import_under_a_package_alias(draft: &mut Draft, scene: &Scene) -> Reference {
 
 /// A private group of the own package, asked by an alias of that package.
 fn own_package_by_an_alias(draft: &mut Draft, scene: &Scene) -> Reference {
-    let own = draft.sheet.packages[0][0];
+    let own = draft.sheet.packages[0][package::NAME];
     draft.package_rename(0, scene.alias, own);
     let found = draft.group_type(0, scene.item, true);
     draft.feature_of_its_own(found.expect("a new name"));

@@ -1,6 +1,8 @@
 //! Models at the edges of the depth limit, the visit limit and the sizes of
 //! `conlist`'s outputs, a little below and a little above.
 
+use oracle::letters::connection;
+
 use crate::draft::{Draft, FEATURE_GROUP, GROUP_CONNECTION, Holder, NO_REFERENCE};
 
 impl Draft {
@@ -186,7 +188,7 @@ impl Draft {
         let reference = [None, self.group_type_name(other), None];
         self.declared_feature(Holder::Type(0), link, FEATURE_GROUP, reference);
         self.feature(link, 2, FEATURE_GROUP);
-        self.sheet.connections[0][6] = link;
+        self.sheet.connections[0][connection::DESTINATION_FEATURE] = link;
         for number in 0..self.random.below(5) {
             self.plain_feature(other, &format!("k{number}"), 0);
         }

@@ -1,6 +1,6 @@
 //! Models for the traced listing: trees of components, arrays, chains.
 
-use oracle::sheet::Field;
+use oracle::letters::Field;
 
 use crate::draft::{Draft, base_name};
 

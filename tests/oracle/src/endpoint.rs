@@ -13,8 +13,8 @@ use spar_hir_def::item_tree::FeatureKind;
 use spar_hir_def::name::{ClassifierRef, Name};
 use spar_hir_def::resolver::{GlobalScope, ResolvedClassifier};
 
+use crate::letters::{Field, Sheet, component, connection, ends, feature};
 use crate::model::{self, FeatureNames, Renames};
-use crate::sheet::{Field, Sheet};
 use crate::traced::children_by_name;
 use crate::visits;
 
@@ -46,11 +46,12 @@ impl AskedGroup {
 pub fn endpoints(sheet: &Sheet, scope: &GlobalScope) -> Vec<Endpoint> {
     let mut endpoints = Vec::new();
     for (connection, row) in sheet.connections.iter().enumerate() {
-        let [_, owner, kind, src, src_feature, dst, dst_feature] = *row;
+        let [src, src_feature, dst, dst_feature] = ends(row);
+        let kind = row[connection::KIND];
         if kind != Some(2) || src_feature.is_none() || dst_feature.is_none() {
             continue;
         }
-        let owner = owner.expect("an owner");
+        let owner = row[connection::OWNER].expect("an owner");
         let components = (
             first_child_or_owner(sheet, owner, src),
             first_child_or_owner(sheet, owner, dst),
@@ -87,16 +88,17 @@ fn asked_group(
     feature: Field,
 ) -> Option<AskedGroup> {
     let wanted = sheet.name(feature);
-    let is_group = sheet.features.iter().any(|[name, owner, kind]| {
-        let same_name = sheet.name(*name).eq_ignore_ascii_case(wanted);
-        same_name && *owner == Some(component) && *kind == Some(8)
+    let is_group = sheet.features.iter().any(|row| {
+        let same_name = sheet.name(row[feature::NAME]).eq_ignore_ascii_case(wanted);
+        same_name && row[feature::OWNER] == Some(component) && row[feature::KIND] == Some(8)
     });
     if !is_group {
         return None;
     }
-    let [_, _, _, package, type_name, _] = sheet.components[component as usize];
-    let package = model::name(sheet, package);
-    let type_ref = ClassifierRef::qualified(package.clone(), model::name(sheet, type_name));
+    let row = &sheet.components[component as usize];
+    let package = model::name(sheet, row[component::PACKAGE]);
+    let type_name = model::name(sheet, row[component::TYPE]);
+    let type_ref = ClassifierRef::qualified(package.clone(), type_name);
     let ResolvedClassifier::ComponentType { loc, .. } =
         scope.resolve_classifier(&package, &type_ref)
     else {

@@ -8,9 +8,9 @@ use spar_hir_def::name::Name;
 use spar_hir_def::resolver::GlobalScope;
 
 use crate::endpoint::{self, AskedGroup, Endpoint};
+use crate::letters::{Sheet, connection, declared_feature};
 use crate::listing::{Diagnostic, Listing};
 use crate::model::{self, FeatureNames, Renames};
-use crate::sheet::Sheet;
 use crate::traced;
 
 /// Runs the original on an instance that it has traced before. What comes to
@@ -46,7 +46,8 @@ fn numbered(
             continue;
         };
         for row in unmatched_rows(scope, &by_row, source, destination) {
-            unmatched.push((pair[0].connection, sheet.declared_features[row][2]));
+            let feature = sheet.declared_features[row][declared_feature::NAME];
+            unmatched.push((pair[0].connection, feature));
         }
     }
     assert_eq!(unmatched.len(), given.len());
@@ -55,7 +56,7 @@ fn numbered(
         .map(|(own, (connection, feature))| {
             let message = format!(
                 "feature group connection '{}': source feature '{}' has no matching destination feature (STPA-REQ-011)",
-                sheet.name(sheet.connections[connection][0]),
+                sheet.name(sheet.connections[connection][connection::NAME]),
                 sheet.name(feature),
             );
             assert_eq!(own.message, message);
@@ -111,7 +112,8 @@ pub fn size(sheet: &Sheet, renames: Renames) -> Size {
     let scope = model::scope(sheet, FeatureNames::OfTheSheet, renames);
     let mut size = Size::default();
     for pair in endpoint::endpoints(sheet, &scope).chunks(2) {
-        let connection = sheet.name(sheet.connections[pair[0].connection][0]);
+        let row = &sheet.connections[pair[0].connection];
+        let connection = sheet.name(row[connection::NAME]);
         add_pair(&mut size, &scope, connection, &pair[0], &pair[1]);
     }
     size

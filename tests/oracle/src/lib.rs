@@ -7,6 +7,7 @@
 
 pub mod endpoint;
 pub mod group;
+pub mod letters;
 pub mod listing;
 pub mod model;
 pub mod resolve;

@@ -72,16 +72,41 @@ fn put_diagnostic(text: &mut String, diagnostic: &Diagnostic) {
     }
 }
 
-/// Numbers as in the sheet: six columns each, longer ones in full.
+/// The columns of a number that is printed.
+const COLUMNS: usize = 6;
+
+/// Numbers as they are printed: longer ones stand in full.
 pub fn put_numbers<T: std::fmt::Display>(text: &mut String, numbers: impl IntoIterator<Item = T>) {
     for number in numbers {
-        text.push_str(&format!("{number:6}"));
+        text.push_str(&format!("{number:COLUMNS$}"));
     }
+}
+
+/// The refusals before any listing, which the original does not know: those of
+/// the sheet and its lines, and those of the tables.
+pub const REFUSALS_OF_LINES: [u64; 5] = [1, 2, 3, 4, 5];
+pub const REFUSALS_OF_TABLES: [u64; 5] = [6, 7, 8, 9, 10];
+
+pub fn is_before_the_listings(refusal: u64) -> bool {
+    REFUSALS_OF_LINES.contains(&refusal) || REFUSALS_OF_TABLES.contains(&refusal)
 }
 
 /// The line of a refusal by a listing or by the text: these have no place.
 pub fn refusal_line(refusal: u32) -> String {
-    format!("R{refusal:6}{:6} -\n", 0)
+    let mut line = String::from("R");
+    put_numbers(&mut line, [refusal, 0]);
+    line + " -\n"
+}
+
+/// The refusal that a text tells, unless it is a list: number, place, letter.
+pub fn refusal_of(text: &[u8]) -> Option<[u64; 3]> {
+    let (numbers, letter) = text.strip_prefix(b"R")?.split_at_checked(2 * COLUMNS)?;
+    let [number, place] = [&numbers[..COLUMNS], &numbers[COLUMNS..]].map(|columns| {
+        let number = std::str::from_utf8(columns).ok()?;
+        number.trim_start().parse().ok()
+    });
+    let letter = letter.strip_prefix(b" ")?.first()?;
+    Some([number?, place?, u64::from(*letter)])
 }
 
 /// The refusal that the traced listing earns in `conlist`.

@@ -18,7 +18,10 @@ use spar_hir_def::name::{ClassifierRef, Name};
 use spar_hir_def::properties::PropertyMap;
 use spar_hir_def::resolver::{CiName, GlobalScope};
 
-use crate::sheet::{Field, Sheet};
+use crate::letters::{
+    Field, Reference, Sheet, column_at, component, component_type, connection, declared_feature,
+    ends, feature, group_type, implementation, import, package, reference, rename,
+};
 
 /// How the renames of classifiers and feature groups come into the scope.
 #[derive(Clone, Copy, Debug, Default, PartialEq, Eq)]
@@ -110,13 +113,13 @@ fn renames_kind(field: Field) -> RenamesKind {
     }
 }
 
-/// A reference (package?, type?, implementation?), unless it is missing.
-pub fn classifier_ref(sheet: &Sheet, fields: &[Field]) -> Option<ClassifierRef> {
-    fields[1]?;
+/// A reference, unless it is missing.
+pub fn classifier_ref(sheet: &Sheet, reference: Reference) -> Option<ClassifierRef> {
+    let [package, type_name, implementation] = reference;
     Some(ClassifierRef {
-        package: optional_name(sheet, fields[0]),
-        type_name: name(sheet, fields[1]),
-        impl_name: optional_name(sheet, fields[2]),
+        package: optional_name(sheet, package),
+        type_name: optional_name(sheet, type_name)?,
+        impl_name: optional_name(sheet, implementation),
     })
 }
 
@@ -139,18 +142,18 @@ pub fn scope(sheet: &Sheet, feature_names: FeatureNames, renames: Renames) -> Gl
 
 fn add_declared_features(tree: &mut ItemTree, sheet: &Sheet, feature_names: FeatureNames) {
     for (row, fields) in sheet.declared_features.iter().enumerate() {
-        let [holder_kind, _, feature, kind, direction_field, ..] = *fields;
-        let by_row = feature_names == FeatureNames::Rows && holder_kind == Some(1);
+        let of_group_type = fields[declared_feature::HOLDER_KIND] == Some(1);
+        let classifier = reference(fields, declared_feature::CLASSIFIER_PACKAGE);
         tree.features.alloc(Feature {
-            name: if by_row {
+            name: if feature_names == FeatureNames::Rows && of_group_type {
                 Name::new(&format!("e{row}"))
             } else {
-                name(sheet, feature)
+                name(sheet, fields[declared_feature::NAME])
             },
-            kind: feature_kind(kind),
-            direction: direction_field.map(direction),
+            kind: feature_kind(fields[declared_feature::KIND]),
+            direction: fields[declared_feature::DIRECTION].map(direction),
             access_kind: None,
-            classifier: classifier_ref(sheet, &fields[5..8]),
+            classifier: classifier_ref(sheet, classifier),
             is_refined: false,
             array_dimensions: vec![],
             property_associations: vec![],
@@ -161,16 +164,17 @@ fn add_declared_features(tree: &mut ItemTree, sheet: &Sheet, feature_names: Feat
 /// The features that a T row (holder kind 0) or U row (holder kind 1) declares.
 fn held_features(sheet: &Sheet, holder_kind: u32, holder: usize) -> Vec<FeatureIdx> {
     rows_where(&sheet.declared_features, |fields| {
-        fields[0] == Some(holder_kind) && fields[1] == Some(holder as u32)
+        fields[declared_feature::HOLDER_KIND] == Some(holder_kind)
+            && fields[declared_feature::HOLDER] == Some(holder as u32)
     })
 }
 
 fn add_component_types(tree: &mut ItemTree, sheet: &Sheet) {
-    for (row, [_, type_name, private]) in sheet.types.iter().enumerate() {
+    for (row, fields) in sheet.types.iter().enumerate() {
         tree.component_types.alloc(ComponentTypeItem {
-            name: name(sheet, *type_name),
+            name: name(sheet, fields[component_type::NAME]),
             category: ComponentCategory::System,
-            is_public: *private == Some(0),
+            is_public: fields[component_type::PRIVATE] == Some(0),
             extends: None,
             features: held_features(sheet, 0, row),
             flow_specs: vec![],
@@ -185,12 +189,12 @@ fn add_component_types(tree: &mut ItemTree, sheet: &Sheet) {
 }
 
 fn add_component_implementations(tree: &mut ItemTree, sheet: &Sheet) {
-    for [_, type_name, implementation, private] in &sheet.implementations {
+    for fields in &sheet.implementations {
         tree.component_impls.alloc(ComponentImplItem {
-            type_name: name(sheet, *type_name),
-            impl_name: name(sheet, *implementation),
+            type_name: name(sheet, fields[implementation::TYPE]),
+            impl_name: name(sheet, fields[implementation::NAME]),
             category: ComponentCategory::System,
-            is_public: *private == Some(0),
+            is_public: fields[implementation::PRIVATE] == Some(0),
             extends: None,
             subcomponents: vec![],
             connections: vec![],
@@ -209,11 +213,13 @@ fn add_component_implementations(tree: &mut ItemTree, sheet: &Sheet) {
 
 fn add_group_types(tree: &mut ItemTree, sheet: &Sheet) {
     for (row, fields) in sheet.group_types.iter().enumerate() {
+        let extends = reference(fields, group_type::EXTENDS_PACKAGE);
+        let inverse_of = reference(fields, group_type::INVERSE_PACKAGE);
         tree.feature_group_types.alloc(FeatureGroupTypeItem {
-            name: name(sheet, fields[1]),
-            is_public: fields[2] == Some(0),
-            extends: classifier_ref(sheet, &fields[3..6]),
-            inverse_of: classifier_ref(sheet, &fields[6..9]),
+            name: name(sheet, fields[group_type::NAME]),
+            is_public: fields[group_type::PRIVATE] == Some(0),
+            extends: classifier_ref(sheet, extends),
+            inverse_of: classifier_ref(sheet, inverse_of),
             features: held_features(sheet, 1, row),
             prototypes: vec![],
         });
@@ -221,29 +227,32 @@ fn add_group_types(tree: &mut ItemTree, sheet: &Sheet) {
 }
 
 fn add_renames(tree: &mut ItemTree, sheet: &Sheet) {
-    for [_, what, alias, original_package, original_name] in &sheet.renames {
-        let package = name(sheet, *original_package);
+    for fields in &sheet.renames {
+        let package = name(sheet, fields[rename::ORIGINAL_PACKAGE]);
         tree.renames.alloc(RenamesItem {
-            alias: name(sheet, *alias),
-            original: match original_name {
+            alias: name(sheet, fields[rename::ALIAS]),
+            original: match optional_name(sheet, fields[rename::ORIGINAL_NAME]) {
                 None => package,
-                Some(_) => Name::new(&format!("{package}::{}", name(sheet, *original_name))),
+                Some(original) => Name::new(&format!("{package}::{original}")),
             },
-            kind: renames_kind(*what),
+            kind: renames_kind(fields[rename::WHAT]),
         });
     }
 }
 
 fn add_packages(tree: &mut ItemTree, sheet: &Sheet) {
-    for (row, [package]) in sheet.packages.iter().enumerate() {
+    for (row, fields) in sheet.packages.iter().enumerate() {
         let own = Some(row as u32);
-        let imports = sheet.imports.iter().filter(|fields| fields[0] == own);
+        let imports = sheet.imports.iter();
+        let imports = imports.filter(|fields| fields[import::PACKAGE] == own);
         tree.packages.alloc(Package {
-            name: name(sheet, *package),
-            with_clauses: imports.map(|fields| name(sheet, fields[1])).collect(),
+            name: name(sheet, fields[package::NAME]),
+            with_clauses: imports
+                .map(|fields| name(sheet, fields[import::NAME]))
+                .collect(),
             public_items: items(sheet, own, Some(0)),
             private_items: items(sheet, own, Some(1)),
-            renames: rows_where(&sheet.renames, |fields| fields[0] == own),
+            renames: rows_where(&sheet.renames, |fields| fields[rename::PACKAGE] == own),
         });
     }
 }
@@ -251,13 +260,13 @@ fn add_packages(tree: &mut ItemTree, sheet: &Sheet) {
 /// The items of a package that are all public (private 0) or all private (1).
 fn items(sheet: &Sheet, package: Field, private: Field) -> Vec<ItemRef> {
     let types = rows_where(&sheet.types, |fields| {
-        fields[0] == package && fields[2] == private
+        fields[component_type::PACKAGE] == package && fields[component_type::PRIVATE] == private
     });
     let implementations = rows_where(&sheet.implementations, |fields| {
-        fields[0] == package && fields[3] == private
+        fields[implementation::PACKAGE] == package && fields[implementation::PRIVATE] == private
     });
     let group_types = rows_where(&sheet.group_types, |fields| {
-        fields[0] == package && fields[2] == private
+        fields[group_type::PACKAGE] == package && fields[group_type::PRIVATE] == private
     });
     let types = types.into_iter().map(ItemRef::ComponentType);
     let implementations = implementations.into_iter().map(ItemRef::ComponentImpl);
@@ -267,22 +276,23 @@ fn items(sheet: &Sheet, package: Field, private: Field) -> Vec<ItemRef> {
 
 /// Replaces what the original made of the renames' text by the pair of the R row.
 fn put_exact_renames(scope: &mut GlobalScope, sheet: &Sheet) {
-    for [package, what, alias, original_package, original_name] in &sheet.renames {
-        if original_name.is_none() {
+    for fields in &sheet.renames {
+        let Some(original) = optional_name(sheet, fields[rename::ORIGINAL_NAME]) else {
             continue;
-        }
-        let package = sheet.packages[package.expect("a P row") as usize][0];
+        };
+        let package = fields[rename::PACKAGE].expect("a P row") as usize;
+        let package = sheet.packages[package][package::NAME];
         let package_scope = scope
             .packages
             .get_mut(&CiName::new(&name(sheet, package)))
             .expect("every P row is in the scope");
-        let renames = match what {
+        let renames = match fields[rename::WHAT] {
             Some(1) => &mut package_scope.classifier_renames,
             _ => &mut package_scope.feature_group_renames,
         };
         renames.insert(
-            CiName::new(&name(sheet, *alias)),
-            (name(sheet, *original_package), name(sheet, *original_name)),
+            CiName::new(&name(sheet, fields[rename::ALIAS])),
+            (name(sheet, fields[rename::ORIGINAL_PACKAGE]), original),
         );
     }
 }
@@ -298,7 +308,7 @@ pub fn instance_with_connection(sheet: &Sheet, connection: usize) -> SystemInsta
 }
 
 fn instance_with(sheet: &Sheet, keep: impl Fn(usize) -> bool) -> SystemInstance {
-    let connections: Vec<[Field; 7]> = sheet
+    let connections: Vec<Connection> = sheet
         .connections
         .iter()
         .enumerate()
@@ -309,12 +319,12 @@ fn instance_with(sheet: &Sheet, keep: impl Fn(usize) -> bool) -> SystemInstance 
     for row in 0..sheet.components.len() {
         add_component(&mut instance, sheet, row, &connections);
     }
-    for [feature, owner, kind] in &sheet.features {
+    for fields in &sheet.features {
         instance.features.alloc(FeatureInstance {
-            name: name(sheet, *feature),
-            kind: feature_kind(*kind),
+            name: name(sheet, fields[feature::NAME]),
+            kind: feature_kind(fields[feature::KIND]),
             direction: None,
-            owner: index(owner.expect("an owner")),
+            owner: index(fields[feature::OWNER].expect("an owner")),
             classifier: None,
             access_kind: None,
             array_index: None,
@@ -322,18 +332,22 @@ fn instance_with(sheet: &Sheet, keep: impl Fn(usize) -> bool) -> SystemInstance 
         });
     }
     for fields in &connections {
+        let [src, src_feature, dst, dst_feature] = ends(fields);
         instance.connections.alloc(ConnectionInstance {
-            name: name(sheet, fields[0]),
-            kind: connection_kind(fields[2]),
+            name: name(sheet, fields[connection::NAME]),
+            kind: connection_kind(fields[connection::KIND]),
             is_bidirectional: false,
-            owner: index(fields[1].expect("an owner")),
-            src: connection_end(sheet, fields[3], fields[4]),
-            dst: connection_end(sheet, fields[5], fields[6]),
+            owner: index(fields[connection::OWNER].expect("an owner")),
+            src: connection_end(sheet, src, src_feature),
+            dst: connection_end(sheet, dst, dst_feature),
             in_modes: vec![],
         });
     }
     instance
 }
+
+/// An X row.
+type Connection = [Field; connection::NUMBERS];
 
 fn empty_instance() -> SystemInstance {
     SystemInstance {
@@ -359,26 +373,27 @@ fn add_component(
     instance: &mut SystemInstance,
     sheet: &Sheet,
     row: usize,
-    connections: &[[Field; 7]],
+    connections: &[Connection],
 ) {
-    let [component, parent, array_index, package, type_name, pattern] = sheet.components[row];
+    let fields = &sheet.components[row];
     let own = Some(row as u32);
     let added = instance.components.alloc(ComponentInstance {
-        name: name(sheet, component),
+        name: name(sheet, fields[component::NAME]),
         category: ComponentCategory::System,
-        type_name: name(sheet, type_name),
+        type_name: name(sheet, fields[component::TYPE]),
         impl_name: None,
-        package: name(sheet, package),
-        parent: parent.map(index),
-        children: rows_where(&sheet.components, |fields| fields[1] == own),
-        features: rows_where(&sheet.features, |fields| fields[1] == own),
-        connections: rows_where(connections, |fields| fields[1] == own),
+        package: name(sheet, fields[component::PACKAGE]),
+        parent: fields[component::PARENT].map(index),
+        children: rows_where(&sheet.components, |other| other[component::PARENT] == own),
+        features: rows_where(&sheet.features, |other| other[feature::OWNER] == own),
+        connections: rows_where(connections, |other| other[connection::OWNER] == own),
         flows: vec![],
         modes: vec![],
         mode_transitions: vec![],
-        array_index: array_index.map(u64::from),
+        array_index: column_at(component::COLUMNS, component::ARRAY_INDEX).number(fields),
         in_modes: vec![],
     });
+    let pattern = fields[component::PATTERN];
     if pattern.is_some() {
         let mut properties = PropertyMap::new();
         properties.put("", "Connection_Pattern", sheet.name(pattern));

@@ -6,8 +6,8 @@
 use spar_hir_def::name::ClassifierRef;
 use spar_hir_def::resolver::ResolvedClassifier;
 
+use crate::letters::{Sheet, component, declared_feature, group_type, package, reference};
 use crate::model::{self, FeatureNames, Renames};
-use crate::sheet::{Field, Sheet};
 
 /// What a reference resolves to.
 #[derive(Clone, Copy, Debug, PartialEq, Eq)]
@@ -61,8 +61,10 @@ fn found(resolved: &ResolvedClassifier) -> Found {
 }
 
 fn asking_packages(sheet: &Sheet) -> Vec<u32> {
-    let packages = sheet.packages.iter().filter_map(|fields| fields[0]);
-    let of_components = sheet.components.iter().filter_map(|fields| fields[3]);
+    let packages = sheet.packages.iter();
+    let packages = packages.filter_map(|fields| fields[package::NAME]);
+    let of_components = sheet.components.iter();
+    let of_components = of_components.filter_map(|fields| fields[component::PACKAGE]);
     let mut asking: Vec<u32> = packages.chain(of_components).collect();
     asking.sort_unstable();
     asking.dedup();
@@ -71,20 +73,22 @@ fn asking_packages(sheet: &Sheet) -> Vec<u32> {
 
 fn references(sheet: &Sheet) -> Vec<(u8, usize, u32, ClassifierRef)> {
     let mut references = Vec::new();
-    let mut add = |letter, row, place, fields: &[Field]| {
-        if let Some(reference) = model::classifier_ref(sheet, fields) {
+    let mut add = |letter, row, place, reference| {
+        if let Some(reference) = model::classifier_ref(sheet, reference) {
             references.push((letter, row, place, reference));
         }
     };
     for (row, fields) in sheet.group_types.iter().enumerate() {
-        add(b'U', row, 0, &fields[3..6]);
-        add(b'U', row, 1, &fields[6..9]);
+        add(b'U', row, 0, reference(fields, group_type::EXTENDS_PACKAGE));
+        add(b'U', row, 1, reference(fields, group_type::INVERSE_PACKAGE));
     }
     for (row, fields) in sheet.declared_features.iter().enumerate() {
-        add(b'E', row, 2, &fields[5..8]);
+        let classifier = reference(fields, declared_feature::CLASSIFIER_PACKAGE);
+        add(b'E', row, 2, classifier);
     }
-    for (row, [_, _, _, package, type_name, _]) in sheet.components.iter().enumerate() {
-        add(b'C', row, 2, &[*package, *type_name, None]);
+    for (row, fields) in sheet.components.iter().enumerate() {
+        let own_type = [fields[component::PACKAGE], fields[component::TYPE], None];
+        add(b'C', row, 2, own_type);
     }
     references
 }

@@ -1,131 +1,31 @@
 //! The sheet: its tables, and the test whether it is accepted.
 //!
-//! The oracle does not say which of the refusals 1 to 10 a sheet earns. It only
-//! has to know that it may build a model from it.
+//! The oracle does not say which of the refusals before the listings a sheet
+//! earns. It only has to know that it may build a model from it.
 
 use std::collections::HashSet;
 
-/// A field of a row; `None` is the sheet's `-`.
-pub type Field = Option<u32>;
-
-/// The letters in the order in which their lines stand.
-pub const LETTERS: &[u8; 11] = b"NCFXPITQUER";
+use crate::letters::{
+    self, Column, Meaning, ROW_LETTERS, columns, component, component_type, declared_feature, ends,
+    group_type, implementation, package, reference, rename,
+};
+pub use crate::letters::{Field, Sheet};
 
 /// What `conlist` lends: bytes of sheet, `N` rows, rows of any other letter.
 pub const SHEET_BYTES: usize = 16_384;
 pub const NAME_ROWS: usize = 256;
 pub const TABLE_ROWS: usize = 96;
 
-/// The longest name.
-pub const NAME_BYTES: usize = 63;
-
-/// What the number in a column means.
-#[derive(Clone, Copy, Debug, PartialEq, Eq)]
-pub enum Meaning {
-    /// A name number.
-    Name,
-    /// A row of the table with this letter.
-    Row(u8),
-    /// A kind, flag, direction or what: a number below this one.
-    Below(u32),
-    /// An array index: any number.
-    Index,
-    /// The holder of a declared feature: a T or a U row, as the row's first field says.
-    Holder,
-}
-
-/// A column: its meaning, and whether `-` is allowed in it.
-pub type Column = (Meaning, bool);
-
-const NAME: Column = (Meaning::Name, false);
-const NAME_OR_MISSING: Column = (Meaning::Name, true);
-const COMPONENT: Column = (Meaning::Row(b'C'), false);
-const PACKAGE: Column = (Meaning::Row(b'P'), false);
-const FEATURE_KIND: Column = (Meaning::Below(10), false);
-const FLAG: Column = (Meaning::Below(2), false);
-
-/// The columns of a letter's rows; none for `N` and for what is no letter.
-pub fn columns(letter: u8) -> &'static [Column] {
+/// How many rows of a letter `conlist` lends.
+pub fn rows_lent(letter: u8) -> usize {
     match letter {
-        b'C' => &[
-            NAME,
-            (Meaning::Row(b'C'), true),
-            (Meaning::Index, true),
-            NAME,
-            NAME,
-            NAME_OR_MISSING,
-        ],
-        b'F' => &[NAME, COMPONENT, FEATURE_KIND],
-        b'X' => &[
-            NAME,
-            COMPONENT,
-            (Meaning::Below(5), false),
-            NAME_OR_MISSING,
-            NAME_OR_MISSING,
-            NAME_OR_MISSING,
-            NAME_OR_MISSING,
-        ],
-        b'P' => &[NAME],
-        b'I' => &[PACKAGE, NAME],
-        b'T' => &[PACKAGE, NAME, FLAG],
-        b'Q' => &[PACKAGE, NAME, NAME, FLAG],
-        b'U' => &[
-            PACKAGE,
-            NAME,
-            FLAG,
-            NAME_OR_MISSING,
-            NAME_OR_MISSING,
-            NAME_OR_MISSING,
-            NAME_OR_MISSING,
-            NAME_OR_MISSING,
-            NAME_OR_MISSING,
-        ],
-        b'E' => &[
-            (Meaning::Below(2), false),
-            (Meaning::Holder, false),
-            NAME,
-            FEATURE_KIND,
-            (Meaning::Below(3), true),
-            NAME_OR_MISSING,
-            NAME_OR_MISSING,
-            NAME_OR_MISSING,
-        ],
-        b'R' => &[
-            PACKAGE,
-            (Meaning::Below(3), false),
-            NAME,
-            NAME,
-            NAME_OR_MISSING,
-        ],
-        _ => &[],
+        b'N' => NAME_ROWS,
+        _ => TABLE_ROWS,
     }
 }
 
-/// The tables of a sheet, one row per line, in the sheet's columns.
-#[derive(Clone, Debug, Default, PartialEq, Eq)]
-pub struct Sheet {
-    pub names: Vec<String>,
-    /// C: name, parent, array index, package, type, pattern.
-    pub components: Vec<[Field; 6]>,
-    /// F: name, owner, kind.
-    pub features: Vec<[Field; 3]>,
-    /// X: name, owner, kind, source subcomponent and feature, destination subcomponent and feature.
-    pub connections: Vec<[Field; 7]>,
-    /// P: name.
-    pub packages: Vec<[Field; 1]>,
-    /// I: package, name.
-    pub imports: Vec<[Field; 2]>,
-    /// T: package, name, private.
-    pub types: Vec<[Field; 3]>,
-    /// Q: package, type, implementation, private.
-    pub implementations: Vec<[Field; 4]>,
-    /// U: package, name, private, extends (three), inverse_of (three).
-    pub group_types: Vec<[Field; 9]>,
-    /// E: holder kind, holder, name, kind, direction, classifier (three).
-    pub declared_features: Vec<[Field; 8]>,
-    /// R: package, what, alias, original package, original name.
-    pub renames: Vec<[Field; 5]>,
-}
+/// The longest name.
+pub const NAME_BYTES: usize = 63;
 
 impl Sheet {
     /// The tables of an accepted sheet.
@@ -143,67 +43,10 @@ impl Sheet {
         &self.names[field.expect("a name number") as usize]
     }
 
-    /// The rows of a letter other than `N`.
-    pub fn rows(&self, letter: u8) -> Vec<&[Field]> {
-        fn slices<const W: usize>(table: &[[Field; W]]) -> Vec<&[Field]> {
-            table.iter().map(|row| row.as_slice()).collect()
-        }
-        match letter {
-            b'C' => slices(&self.components),
-            b'F' => slices(&self.features),
-            b'X' => slices(&self.connections),
-            b'P' => slices(&self.packages),
-            b'I' => slices(&self.imports),
-            b'T' => slices(&self.types),
-            b'Q' => slices(&self.implementations),
-            b'U' => slices(&self.group_types),
-            b'E' => slices(&self.declared_features),
-            b'R' => slices(&self.renames),
-            _ => panic!("no table of rows has the letter {}", letter as char),
-        }
-    }
-
-    /// One row of a letter other than `N`, to be changed.
-    pub fn row_mut(&mut self, letter: u8, row: usize) -> &mut [Field] {
-        match letter {
-            b'C' => &mut self.components[row],
-            b'F' => &mut self.features[row],
-            b'X' => &mut self.connections[row],
-            b'P' => &mut self.packages[row],
-            b'I' => &mut self.imports[row],
-            b'T' => &mut self.types[row],
-            b'Q' => &mut self.implementations[row],
-            b'U' => &mut self.group_types[row],
-            b'E' => &mut self.declared_features[row],
-            b'R' => &mut self.renames[row],
-            _ => panic!("no table of rows has the letter {}", letter as char),
-        }
-    }
-
-    /// Adds a row of a letter other than `N`, as wide as its columns.
-    pub fn push(&mut self, letter: u8, row: &[Field]) {
-        fn add<const W: usize>(table: &mut Vec<[Field; W]>, row: &[Field]) {
-            table.push(row.try_into().expect("as many fields as columns"));
-        }
-        match letter {
-            b'C' => add(&mut self.components, row),
-            b'F' => add(&mut self.features, row),
-            b'X' => add(&mut self.connections, row),
-            b'P' => add(&mut self.packages, row),
-            b'I' => add(&mut self.imports, row),
-            b'T' => add(&mut self.types, row),
-            b'Q' => add(&mut self.implementations, row),
-            b'U' => add(&mut self.group_types, row),
-            b'E' => add(&mut self.declared_features, row),
-            b'R' => add(&mut self.renames, row),
-            _ => panic!("no table of rows has the letter {}", letter as char),
-        }
-    }
-
     /// The lines of the sheet, without their LF.
     pub fn lines(&self) -> Vec<Vec<u8>> {
         let names = self.names.iter().map(|name| format!("N {name}"));
-        let rows = LETTERS[1..].iter().flat_map(|&letter| {
+        let rows = ROW_LETTERS.iter().flat_map(|&letter| {
             let rows = self.rows(letter).into_iter();
             rows.map(move |row| row_line(letter, row))
         });
@@ -212,21 +55,27 @@ impl Sheet {
 
     /// The sheet itself.
     pub fn bytes(&self) -> Vec<u8> {
-        let mut bytes = Vec::new();
-        for line in self.lines() {
-            bytes.extend(line);
-            bytes.push(b'\n');
-        }
-        bytes
+        bytes_of(self.lines())
     }
+}
+
+/// Lines with their LF.
+pub fn bytes_of(lines: Vec<Vec<u8>>) -> Vec<u8> {
+    let mut bytes = Vec::new();
+    for line in lines {
+        bytes.extend(line);
+        bytes.push(b'\n');
+    }
+    bytes
 }
 
 fn row_line(letter: u8, row: &[Field]) -> String {
     let mut line = String::from(letter as char);
-    for field in row {
-        line.push_str(&match field {
-            Some(number) => format!("{number:6}"),
-            None => "     -".to_string(),
+    for column in columns(letter) {
+        let width = column.width;
+        line.push_str(&match column.number(row) {
+            Some(number) => format!("{number:width$}"),
+            None => format!("{:>width$}", "-"),
         });
     }
     line
@@ -242,7 +91,7 @@ fn read(bytes: &[u8]) -> Option<Sheet> {
     for line in bytes.split_inclusive(|&byte| byte == b'\n') {
         let line = line.strip_suffix(b"\n")?;
         let letter = *line.first()?;
-        let order = LETTERS.iter().position(|&known| known == letter)?;
+        let order = letters::rank(letter)?;
         if order < last {
             return None;
         }
@@ -250,7 +99,7 @@ fn read(bytes: &[u8]) -> Option<Sheet> {
         if letter == b'N' {
             read_name(&mut sheet, line)?;
         } else {
-            read_row(&mut sheet, letter, &line[1..])?;
+            read_row(&mut sheet, letter, line)?;
         }
     }
     Some(sheet)
@@ -269,25 +118,25 @@ fn read_name(sheet: &mut Sheet, line: &[u8]) -> Option<()> {
     Some(())
 }
 
-fn read_row(sheet: &mut Sheet, letter: u8, fields: &[u8]) -> Option<()> {
-    let columns = columns(letter);
-    if fields.len() != 6 * columns.len() || sheet.rows(letter).len() == TABLE_ROWS {
+fn read_row(sheet: &mut Sheet, letter: u8, line: &[u8]) -> Option<()> {
+    if line.len() != letters::line_length(letter) || sheet.rows(letter).len() == TABLE_ROWS {
         return None;
     }
-    let row: Option<Vec<Field>> = fields
-        .chunks(6)
-        .zip(columns)
-        .map(|(field, (_, may_miss))| read_field(field, *may_miss))
-        .collect();
-    sheet.push(letter, &row?);
+    let mut row = vec![None; letters::row_numbers(letter)];
+    for column in columns(letter) {
+        let number = read_field(&line[column.characters()], column)?;
+        column.put(&mut row, number);
+    }
+    sheet.push(letter, &row);
     Some(())
 }
 
-fn read_field(field: &[u8], may_miss: bool) -> Option<Field> {
-    if field == b"     -" {
-        return may_miss.then_some(None);
-    }
+/// The number in a field, or `None` where it keeps the rules and is missing.
+fn read_field(field: &[u8], column: &Column) -> Option<Option<u64>> {
     let text = std::str::from_utf8(field).ok()?.trim_start_matches(' ');
+    if text == "-" {
+        return column.may_miss.then_some(None);
+    }
     let leading_zero = text.len() > 1 && text.starts_with('0');
     if leading_zero || !text.bytes().all(|byte| byte.is_ascii_digit()) {
         return None;
@@ -296,34 +145,38 @@ fn read_field(field: &[u8], may_miss: bool) -> Option<Field> {
 }
 
 fn numbers_in_range(sheet: &Sheet) -> bool {
-    LETTERS[1..].iter().all(|&letter| {
+    ROW_LETTERS.iter().all(|&letter| {
         let rows = sheet.rows(letter);
         rows.iter().all(|row| {
-            let mut fields = row.iter().zip(columns(letter));
-            fields.all(|(field, (meaning, _))| {
-                field.is_none_or(|number| (number as usize) < bound(sheet, *meaning, row))
+            columns(letter).iter().all(|column| {
+                let number = column.number(row);
+                let bound = bound(sheet, column.meaning, row);
+                number
+                    .zip(bound)
+                    .is_none_or(|(number, bound)| number < bound as u64)
             })
         })
     })
 }
 
-/// The number that a field with this meaning, in this row, has to be below.
-pub fn bound(sheet: &Sheet, meaning: Meaning, row: &[Field]) -> usize {
-    match meaning {
+/// The number that a field with this meaning, in this row, has to be below, unless it may be any.
+pub fn bound(sheet: &Sheet, meaning: Meaning, row: &[Field]) -> Option<usize> {
+    Some(match meaning {
         Meaning::Name => sheet.names.len(),
         Meaning::Row(letter) => sheet.rows(letter).len(),
-        Meaning::Below(bound) => bound as usize,
-        Meaning::Index => usize::MAX,
-        Meaning::Holder => match row[0] {
+        Meaning::Below(_, bound) => bound as usize,
+        Meaning::Any => return None,
+        Meaning::Holder => match row[declared_feature::HOLDER_KIND] {
             Some(0) => sheet.types.len(),
             Some(1) => sheet.group_types.len(),
             _ => 0,
         },
-    }
+    })
 }
 
 fn components_form_a_tree(sheet: &Sheet) -> bool {
-    let parents: Vec<Field> = sheet.components.iter().map(|row| row[1]).collect();
+    let components = sheet.components.iter();
+    let parents: Vec<Field> = components.map(|row| row[component::PARENT]).collect();
     let Some((None, others)) = parents.split_first() else {
         return false;
     };
@@ -332,38 +185,72 @@ fn components_form_a_tree(sheet: &Sheet) -> bool {
 }
 
 fn references_are_whole(sheet: &Sheet) -> bool {
-    fn end(subcomponent: Field, feature: Field) -> bool {
-        subcomponent.is_none() || feature.is_some()
+    fn whole_ends(row: &[Field]) -> bool {
+        let [src, src_feature, dst, dst_feature] = ends(row);
+        (src.is_none() || src_feature.is_some()) && (dst.is_none() || dst_feature.is_some())
     }
-    fn reference(fields: &[Field]) -> bool {
-        fields[1].is_some() || (fields[0].is_none() && fields[2].is_none())
+    fn whole(row: &[Field], package: usize) -> bool {
+        let [package, type_name, implementation] = reference(row, package);
+        type_name.is_some() || (package.is_none() && implementation.is_none())
     }
-    let connections = sheet.connections.iter();
-    let group_types = sheet.group_types.iter();
-    let declared_features = sheet.declared_features.iter();
-    let renames = sheet.renames.iter();
-    connections
-        .map(|row| end(row[3], row[4]) && end(row[5], row[6]))
-        .chain(group_types.map(|row| reference(&row[3..6]) && reference(&row[6..9])))
-        .chain(declared_features.map(|row| reference(&row[5..8])))
-        .chain(renames.map(|row| (row[1] == Some(0)) == row[4].is_none()))
-        .all(|whole| whole)
+    let mut connections = sheet.connections.iter();
+    let mut group_types = sheet.group_types.iter();
+    let mut declared_features = sheet.declared_features.iter();
+    let mut renames = sheet.renames.iter();
+    connections.all(|row| whole_ends(row))
+        && group_types.all(|row| {
+            whole(row, group_type::EXTENDS_PACKAGE) && whole(row, group_type::INVERSE_PACKAGE)
+        })
+        && declared_features.all(|row| whole(row, declared_feature::CLASSIFIER_PACKAGE))
+        && renames.all(|row| {
+            let of_package = row[rename::WHAT] == Some(0);
+            of_package == row[rename::ORIGINAL_NAME].is_none()
+        })
 }
 
+/// What makes two rows of a letter clash: equal numbers, then equal folded names.
+pub struct Key {
+    pub letter: u8,
+    numbers: &'static [usize],
+    pub names: &'static [usize],
+}
+
+pub const KEYS: &[Key] = &[
+    Key {
+        letter: b'P',
+        numbers: &[],
+        names: &[package::NAME],
+    },
+    Key {
+        letter: b'T',
+        numbers: &[component_type::PACKAGE],
+        names: &[component_type::NAME],
+    },
+    Key {
+        letter: b'Q',
+        numbers: &[implementation::PACKAGE],
+        names: &[implementation::TYPE, implementation::NAME],
+    },
+    Key {
+        letter: b'U',
+        numbers: &[group_type::PACKAGE],
+        names: &[group_type::NAME],
+    },
+    Key {
+        letter: b'R',
+        numbers: &[rename::PACKAGE, rename::WHAT],
+        names: &[rename::ALIAS],
+    },
+];
+
 fn keys_differ(sheet: &Sheet) -> bool {
-    let fold = |field: &Field| sheet.name(*field).to_ascii_lowercase();
-    // What makes two rows clash: equal numbers, then equal folded names.
-    let all_differ = |letter: u8, numbers: &[usize], names: &[usize]| {
+    let fold = |field: Field| sheet.name(field).to_ascii_lowercase();
+    KEYS.iter().all(|key| {
         let mut seen = HashSet::new();
-        sheet.rows(letter).iter().all(|row| {
-            let numbers: Vec<Field> = numbers.iter().map(|&column| row[column]).collect();
-            let names: Vec<String> = names.iter().map(|&column| fold(&row[column])).collect();
+        sheet.rows(key.letter).iter().all(|row| {
+            let numbers: Vec<Field> = key.numbers.iter().map(|&place| row[place]).collect();
+            let names: Vec<String> = key.names.iter().map(|&place| fold(row[place])).collect();
             seen.insert((numbers, names))
         })
-    };
-    all_differ(b'P', &[], &[0])
-        && all_differ(b'T', &[0], &[1])
-        && all_differ(b'Q', &[0], &[1, 2])
-        && all_differ(b'U', &[0], &[1])
-        && all_differ(b'R', &[0, 1], &[2])
+    })
 }

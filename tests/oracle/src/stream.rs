@@ -4,6 +4,9 @@
 //! each, a space and a label; then the sheet's bytes; then the text's bytes.
 //! The text is what `conlist` prints, or nothing where nobody has said it yet.
 
+/// The columns of a length.
+const COLUMNS: usize = 6;
+
 /// A sheet, and what is printed for it.
 #[derive(Clone, Debug, Default, PartialEq, Eq)]
 pub struct Case {
@@ -15,7 +18,8 @@ pub struct Case {
 impl Case {
     pub fn bytes(&self) -> Vec<u8> {
         let (sheet, text) = (self.sheet.len(), self.text.len());
-        let mut bytes = format!("V{sheet:6}{text:6} {}\n", self.label).into_bytes();
+        let header = format!("V{sheet:COLUMNS$}{text:COLUMNS$} {}\n", self.label);
+        let mut bytes = header.into_bytes();
         bytes.extend(&self.sheet);
         bytes.extend(&self.text);
         bytes
@@ -39,9 +43,11 @@ fn split_case(bytes: &[u8]) -> Option<(Case, &[u8])> {
     let end = bytes.iter().position(|&byte| byte == b'\n')?;
     let header = std::str::from_utf8(&bytes[..end]).ok()?;
     let lengths = header.strip_prefix('V')?;
-    let sheet: usize = lengths.get(..6)?.trim_start().parse().ok()?;
-    let text: usize = lengths.get(6..12)?.trim_start().parse().ok()?;
-    let label = lengths.get(12..)?.strip_prefix(' ')?.to_string();
+    let (sheet, lengths) = lengths.split_at_checked(COLUMNS)?;
+    let (text, label) = lengths.split_at_checked(COLUMNS)?;
+    let sheet: usize = sheet.trim_start().parse().ok()?;
+    let text: usize = text.trim_start().parse().ok()?;
+    let label = label.strip_prefix(' ')?.to_string();
     let (sheet, rest) = bytes[end + 1..].split_at_checked(sheet)?;
     let (text, rest) = rest.split_at_checked(text)?;
     let case = Case {

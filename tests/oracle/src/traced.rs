@@ -4,9 +4,9 @@ use std::collections::HashMap;
 
 use spar_hir_def::instance::{InstanceDiagnostic, SemanticConnection, SystemInstance};
 
+use crate::letters::{Field, Sheet, component, connection, ends};
 use crate::listing::{Diagnostic, Listing, Row};
 use crate::model;
-use crate::sheet::{Field, Sheet};
 
 /// Runs the original on the instance. Its rows and diagnostics are the listing.
 pub fn run(sheet: &Sheet, instance: &mut SystemInstance) -> Listing {
@@ -66,17 +66,19 @@ fn diagnostics(sheet: &Sheet, given: &[InstanceDiagnostic]) -> Vec<Diagnostic> {
 /// The numbers of a diagnostic: code, connection, and what the message names.
 fn numbers(sheet: &Sheet, connection: usize, message: &str) -> [u32; 4] {
     let fields = &sheet.connections[connection];
-    let start = format!("connection '{}': ", sheet.name(fields[0]));
+    let start = format!("connection '{}': ", sheet.name(fields[connection::NAME]));
     let said = message.strip_prefix(&start).expect("the connection's name");
     let row = connection as u32;
     if said == "missing endpoint" {
         return [1, row, 0, 0];
     }
     if said.starts_with("unresolved source subcomponent '") {
-        return [2, row, fields[3].expect("a source subcomponent"), 0];
+        let named = fields[connection::SOURCE].expect("a source subcomponent");
+        return [2, row, named, 0];
     }
     if said.starts_with("unresolved destination subcomponent '") {
-        return [3, row, fields[5].expect("a destination subcomponent"), 0];
+        let named = fields[connection::DESTINATION].expect("a destination subcomponent");
+        return [3, row, named, 0];
     }
     let (source, destination) = said
         .strip_prefix("One_To_One pattern requires equal array sizes (source=")
@@ -101,13 +103,14 @@ pub fn row_count(sheet: &Sheet) -> u64 {
     saturating_sum(connections.map(|row| rows_of_connection(&mut chains, row)))
 }
 
-fn rows_of_connection(chains: &mut Chains, row: &[Field; 7]) -> u64 {
-    let [_, owner, _, src, src_feature, dst, dst_feature] = *row;
+fn rows_of_connection(chains: &mut Chains, row: &[Field]) -> u64 {
+    let [src, src_feature, dst, dst_feature] = ends(row);
     if src_feature.is_none() || dst_feature.is_none() {
         return 0;
     }
-    let owner = owner.expect("an owner");
-    let [_, parent, _, _, _, pattern] = chains.sheet.components[owner as usize];
+    let owner = row[connection::OWNER].expect("an owner");
+    let component = &chains.sheet.components[owner as usize];
+    let (parent, pattern) = (component[component::PARENT], component[component::PATTERN]);
     let mut of = |side, child, feature| chains.of_children(side, owner, child, feature, 20);
     match (src, dst) {
         (Some(_), Some(_)) => {
@@ -178,12 +181,13 @@ impl Chains<'_> {
         }
         let mut count: u64 = 0;
         for row in &self.sheet.connections {
-            let [_, owner, _, src, src_feature, dst, dst_feature] = *row;
+            let [src, src_feature, dst, dst_feature] = ends(row);
             let (inner, inner_feature, outer, outer_feature) = match side {
                 Side::Source => (src, src_feature, dst, dst_feature),
                 Side::Destination => (dst, dst_feature, src, src_feature),
             };
-            let leads_in = owner == Some(component) && inner.is_some() && outer.is_none();
+            let own = row[connection::OWNER] == Some(component);
+            let leads_in = own && inner.is_some() && outer.is_none();
             if leads_in && outer_feature.is_some() && self.sheet.name(outer_feature) == key.2 {
                 let deeper = self.of_children(side, component, inner, inner_feature, steps - 1);
                 count = count.saturating_add(saturating_sum(deeper));
@@ -199,17 +203,17 @@ impl Chains<'_> {
 pub fn children_by_name(sheet: &Sheet, owner: u32, wanted: &str) -> Vec<u32> {
     let children = || {
         let rows = sheet.components.iter().zip(0..);
-        rows.filter(move |(fields, _)| fields[1] == Some(owner))
+        rows.filter(move |(fields, _)| fields[component::PARENT] == Some(owner))
     };
-    let equal = children().filter(|(fields, _)| sheet.name(fields[0]) == wanted);
+    let equal = children().filter(|(fields, _)| sheet.name(fields[component::NAME]) == wanted);
     let equal: Vec<u32> = equal.map(|(_, row)| row).collect();
     if !equal.is_empty() || wanted.contains('[') {
         return equal;
     }
     let elements = children().filter(|(fields, _)| {
-        let name = sheet.name(fields[0]);
+        let name = sheet.name(fields[component::NAME]);
         let base = name.split('[').next().unwrap_or(name);
-        fields[2].is_some() && base.eq_ignore_ascii_case(wanted)
+        fields[component::ARRAY_INDEX].is_some() && base.eq_ignore_ascii_case(wanted)
     });
     elements.map(|(_, row)| row).collect()
 }

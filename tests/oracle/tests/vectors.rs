@@ -2,6 +2,7 @@
 
 use std::fs;
 
+use oracle::listing::{is_before_the_listings, refusal_of};
 use oracle::model::Renames;
 use oracle::sheet::Sheet;
 use oracle::stream::{self, Case};
@@ -49,17 +50,16 @@ fn accepted_sheets_with_wild_names() {
     }
 }
 
-/// Refusals 1 to 10 are not the original's, so of these only that there is one.
+/// The refusals before the listings are not the original's, so of these only that there is one.
 #[test]
 fn damaged_sheets() {
     let cases = cases("damaged.txt");
     assert!(cases.len() >= 300);
     for case in cases {
-        let line = String::from_utf8(case.text.clone()).unwrap();
-        let refusal: u32 = line[1..7].trim().parse().unwrap();
-        let expected = match refusal {
-            1..=10 => Err(NoAnswer::NotAccepted),
-            _ => Ok(case.text.clone()),
+        let [refusal, ..] = refusal_of(&case.text).unwrap();
+        let expected = match is_before_the_listings(refusal) {
+            true => Err(NoAnswer::NotAccepted),
+            false => Ok(case.text.clone()),
         };
         assert_eq!(
             answer(&case, Options::default()),
