@@ -2,7 +2,7 @@
 
 use std::collections::HashMap;
 
-use oracle::sheet::{Field, NAME_BYTES, NAME_ROWS, SHEET_BYTES, Sheet};
+use oracle::sheet::{Field, NAME_BYTES, NAME_ROWS, SHEET_BYTES, Sheet, TABLE_ROWS};
 
 const PORT: u32 = 0;
 const GROUP_CONNECTION: u32 = 2;
@@ -50,6 +50,12 @@ impl Draft {
         self.component(name, Some(parent), "p", "t")
     }
 
+    /// A child with an array index.
+    fn element(&mut self, name: &str, parent: u32) {
+        let row = self.child(name, parent);
+        self.sheet.components[row as usize][2] = Some(1);
+    }
+
     fn feature(&mut self, name: &str, owner: u32, kind: u32) {
         let name = self.name(name);
         self.sheet.features.push([name, Some(owner), Some(kind)]);
@@ -75,6 +81,11 @@ impl Draft {
             fields.push(self.name(feature));
         }
         self.sheet.push(b'X', &fields);
+    }
+
+    /// A connection between two children of the root.
+    fn wire(&mut self, name: &str, source: &str, destination: &str) {
+        self.connection(name, 0, PORT, (source, "out"), (destination, "in"));
     }
 
     /// The sheet, filled up with names that nothing uses to as many bytes as are read.
@@ -217,11 +228,87 @@ pub fn widest() -> Vec<u8> {
         draft.child(name, 0);
     }
     for k in 0..64 {
-        let (source, destination) = (&names[k], &names[89 - k]);
-        let name = format!("wire_{k:02}");
-        draft.connection(&name, 0, PORT, (source, "out"), (destination, "in"));
+        draft.wire(&format!("wire_{k:02}"), &names[k], &names[89 - k]);
     }
     draft.sheet.bytes()
+}
+
+/// One owner with 95 array elements, each of an array of its own, and 64 connections between these arrays.
+pub fn elements() -> Vec<u8> {
+    let mut draft = Draft::new();
+    let arrays: Vec<String> = (0..95).map(|k| format!("axis_{k:02}")).collect();
+    for array in &arrays {
+        draft.element(&format!("{array}[1]"), 0);
+    }
+    for k in 0..64 {
+        draft.wire("wire", &arrays[k], &arrays[94 - k]);
+    }
+    draft.sheet.bytes()
+}
+
+/// A name of the longest that there are, all of which end alike: two are compared from their ends, so almost to their fronts.
+fn alike(front: &str) -> String {
+    let rest = NAME_BYTES - front.len();
+    format!("{front}{}", "x".repeat(rest))
+}
+
+/// One owner with 90 children whose names end alike, and 64 connections between the last two.
+pub fn worst_children() -> Vec<u8> {
+    let mut draft = Draft::new();
+    let names: Vec<String> = (0..90).map(|k| alike(&format!("{k:02}"))).collect();
+    for name in &names {
+        draft.child(name, 0);
+    }
+    for _ in 0..64 {
+        draft.wire("wire", &names[89], &names[88]);
+    }
+    draft.sheet.bytes()
+}
+
+/// One owner with 95 array elements whose names end alike, and 64 connections between the last two. These are named in capitals in front, so
+/// every name is compared twice: byte for byte and, as no child has that very name, once more with the case ignored.
+pub fn worst_elements() -> Vec<u8> {
+    let mut draft = Draft::new();
+    for _ in 0..93 {
+        draft.element(&alike("c"), 0);
+    }
+    draft.element(&alike("a"), 0);
+    draft.element(&alike("b"), 0);
+    for _ in 0..64 {
+        draft.wire("wire", &alike("A"), &alike("B"));
+    }
+    draft.sheet.bytes()
+}
+
+/// No connection, and as many references as fit that no package resolves. They are asked from the last of 96 packages, whose 96 imports
+/// all name that package again, and it has 96 component types and 96 group types. So each reference asks 96 times for a package among 96,
+/// a type among 96 and a group type among 96, and all of these names end alike.
+pub fn worst_imports() -> Vec<u8> {
+    const LAST: usize = TABLE_ROWS - 1;
+    let mut draft = Draft::default();
+    let names: Vec<Field> = (0..TABLE_ROWS)
+        .map(|k| draft.name(&alike(&format!("{k:02}"))))
+        .collect();
+    let nowhere = draft.name(&alike("--"));
+    let (package, public, none) = (Some(LAST as u32), Some(0), None);
+    let sheet = &mut draft.sheet;
+    sheet.push(b'C', &[names[0], none, none, names[LAST], names[0], none]);
+    for name in names.iter().copied() {
+        sheet.push(b'P', &[name]);
+        sheet.push(b'I', &[package, names[LAST]]);
+        sheet.push(b'T', &[package, name, public]);
+        let (extends, inverse) = ([none, nowhere, none], [none, nowhere, none]);
+        let own = [package, name, public];
+        sheet.push(b'U', &[own, extends, inverse].concat());
+    }
+    // Nested groups of the first group type, until there is one too many.
+    let (of_group, group) = (Some(1), Some(GROUP_FEATURE));
+    let own = [of_group, Some(0), names[0], group, none];
+    while sheet.bytes().len() <= SHEET_BYTES {
+        sheet.push(b'E', &[&own[..], &[none, nowhere, none]].concat());
+    }
+    sheet.declared_features.pop();
+    sheet.bytes()
 }
 
 /// As many connections between as many pairs of children.

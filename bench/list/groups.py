@@ -1,5 +1,5 @@
 #!/usr/bin/env python3
-"""Writes sheets on which the group listing has the most to do, within what conlist lends: sheets.py FOLDER
+"""Writes sheets on which the group listing has the most to do, within what conlist lends: groups.py FOLDER
 
 A heavy group has 65,536 visits, the most that are not refused, and hundreds of thousands of features. Names are 12 bytes long and differ in
 the last two only."""
