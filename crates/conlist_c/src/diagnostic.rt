@@ -39,7 +39,7 @@ pub fn fill_records(out: &mut [Diagnostic], numbers: &[u32])
     }
 }
 
-// How many of the lent numbers a listing may use: four for each record, no more than there are.
+// How many of the lent numbers a listing may use: four for each record where there are more than that, else all.
 pub fn numbers_for(numbers: usize, records: usize) -> usize
     ensures { λ z. ⌜ (z ≤ numbers) × (z / diagNumbers ≡ min records (numbers / diagNumbers)) ⌝ }
 {

@@ -8,12 +8,13 @@ use native.Mathlib.Decide.{decLe}
 use borrow.Author.Tests.{lt-ltb}
 use lib.ListN.{length, take}
 use lib.Seq.{length-take-le, take-all}
+use Rattle.as5506.specs.Lists.{padded}
 use Rattle.as5506.specs.Tables.{Tables}
 use Rattle.as5506.specs.Answers.{refusal, nowhere, Answer, refused}
 use Rattle.as5506.specs.Sheet.{Lent, sheetFaults, readSheet}
 use Rattle.as5506.specs.Program.{lent, textLent, ofReading, whatFits, conlistWithin, conlist}
 use Rattle.shown.specs.Shown.{Shown}
-use Rattle.shown.proofs.Fits.{shown-within, shown-front}
+use Rattle.shown.proofs.Fits.{shown-within}
 use Rattle.on_sheet.specs.declared.Task.{Task}
 use Rattle.on_sheet.specs.declared.Task.the-variants.{Conlist}
 use Rattle.on_sheet.specs.Tasks.{taskText, onSheet, program, Writes}
@@ -59,9 +60,17 @@ unfolding program
 writes task n read got sheet text z text′ r w e k h =
     record {
       within = omega (arith, shown-within _ text z text′ h, k);
-      output = λ s q. shown-front _ text z text′ h ∙ (λ i. whatFits (e i) (onSheet task (e i) (w i)))
-          ∙ ap (program task n) (sym q ∙ ap (λ (k : ℕ). take k s) r) ∙ enough task n s;
+      used = λ s q. h .used ∙ ap length (whole s q);
+      output = λ s q. h .written ∙ (λ i. padded (sym k i) (whole s q i));
     }
+  where
+    whole : (s : List ℕ) → take (length read) s ≡ take got read → whatFits (length text) (onSheet task (length text) sheet) ≡ whatFits n (onSheet task n s)
+    whole s q = (λ i. whatFits (e i) (onSheet task (e i) (w i))) ∙ ap (program task n) (sym q ∙ ap (λ (k : ℕ). take k s) r) ∙ enough task n s
 
 pub conlist-writes : (read : List ℕ) (got z : ℕ) (text′ : List ℕ) → Writes (program Conlist textLent) read got z text′ → Writes conlist read got z text′
-conlist-writes read got z text′ w = record { within = w .within; output = λ s q. w .output s q ∙ conlist-is s }
+conlist-writes read got z text′ w =
+    record {
+      within = w .within;
+      used = λ s q. w .used s q ∙ ap length (conlist-is s);
+      output = λ s q. w .output s q ∙ ap (padded (length text′)) (conlist-is s);
+    }

@@ -3,6 +3,7 @@ use mathlib.Core.Path.{_≡_}
 use mathlib.Core.List.{List}
 use Prim.Native.Nat.{ℕ, _≤_}
 use lib.ListN.{length, take}
+use Rattle.as5506.specs.Lists.{padded}
 use Rattle.as5506.specs.Tables.{Tables}
 use Rattle.as5506.specs.Sheet.{readSheet}
 use Rattle.as5506.specs.Program.{lent, conlistText, ofReading, whatFits}
@@ -22,8 +23,9 @@ unfoldable pub program : Task → ℕ → List ℕ → List ℕ
 program task n s = whatFits n (onSheet task n s)
 
 -- THE CONTRACT OF A PROGRAM that was lent an array `read` for its input and an output for its text: `got` bytes of the input came, all of it, or as
--- much as the array holds; of the output the first z bytes are what is written. They are the definition's text of the whole input, for every input that
--- begins so
+-- much as the array holds; z bytes of the output are what is written. They are the definition's text of the whole input, for every input that begins so,
+-- and behind them the output is zero
 pub record Writes (written : List ℕ → List ℕ) (read : List ℕ) (got z : ℕ) (text′ : List ℕ) : Type 0 where
   pub within : z ≤ length text′
-  pub output : (s : List ℕ) → take (length read) s ≡ take got read → take z text′ ≡ written s
+  pub used : (s : List ℕ) → take (length read) s ≡ take got read → z ≡ length (written s)
+  pub output : (s : List ℕ) → take (length read) s ≡ take got read → text′ ≡ padded (length text′) (written s)
