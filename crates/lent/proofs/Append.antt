@@ -55,25 +55,25 @@ past p o n b = go (decLe (o .used + length p) (length (o .holds)))
 -- ---- what is used stays
 
 -- an output that was o is n now: no less of it is used, and what was used is as it was
-pub record Added (o n : Filled) : Type 0 where
+pub record Extended (o n : Filled) : Type 0 where
   pub more : o .used ≤ n .used
   pub front : take (o .used) (n .holds) ≡ take (o .used) (o .holds)
 
-pub added-nothing : (o : Filled) → Added o o
-added-nothing o = record { more = omega arith; front = refl }
+pub extended-nothing : (o : Filled) → Extended o o
+extended-nothing o = record { more = omega arith; front = refl }
 
 -- what leaves the front of the one leaves that of the other
-pub front-then : (o n : Filled) (l : List ℕ) → Added o n → take (n .used) l ≡ take (n .used) (n .holds) → take (o .used) l ≡ take (o .used) (o .holds)
+pub front-then : (o n : Filled) (l : List ℕ) → Extended o n → take (n .used) l ≡ take (n .used) (n .holds) → take (o .used) l ≡ take (o .used) (o .holds)
 front-then o n l a e =
     sym (take-take (o .used) (n .used) l (a .more)) ∙ ap (take (o .used)) e ∙ take-take (o .used) (n .used) (n .holds) (a .more) ∙ a .front
 
-pub added-then : (o n m : Filled) → Added o n → Added n m → Added o m
-added-then o n m a b = record { more = omega (arith, a .more, b .more); front = front-then o n (m .holds) a (b .front) }
+pub extended-then : (o n m : Filled) → Extended o n → Extended n m → Extended o m
+extended-then o n m a b = record { more = omega (arith, a .more, b .more); front = front-then o n (m .holds) a (b .front) }
 
-pub append-adds : (p : List ℕ) (o : Filled) → o .used ≤ length (o .holds) + 1 → Added o (append p o)
-append-adds p o b = go (decLe (o .used + length p) (length (o .holds)))
+pub append-extends : (p : List ℕ) (o : Filled) → o .used ≤ length (o .holds) + 1 → Extended o (append p o)
+append-extends p o b = go (decLe (o .used + length p) (length (o .holds)))
   where
-    go : Dec (o .used + length p ≤ length (o .holds)) → Added o (append p o)
+    go : Dec (o .used + length p ≤ length (o .holds)) → Extended o (append p o)
     go (yes h) = rw (append-fits p o h) (record { more = omega arith; front = sets-before p (o .holds) (o .used) (o .used) (omega arith) })
     go (no h) = rw (append-full p o (omega (arith, h))) (record { more = b; front = refl })
 

@@ -15,7 +15,7 @@ use Rattle.as5506.specs.Groups.{Feature}
 use Rattle.as5506.specs.Rows.{diag}
 use Rattle.as5506.specs.Layout.{featureBlock, diagBlock}
 use Rattle.lent.specs.Append.{Filled, filled, append}
-use Rattle.lent.proofs.Append.{append-fits, append-full, append-length, append-bound, Added, added-nothing, added-then, append-adds}
+use Rattle.lent.proofs.Append.{append-fits, append-full, append-length, append-bound, Extended, extended-nothing, extended-then, append-extends}
 use Rattle.sink.specs.declared.Purpose.{Purpose}
 use Rattle.sink.specs.declared.Purpose.the-variants.{Count, All, First, Match}
 use Rattle.sink.specs.Take.{Held, partnerOf, codeOf, matchBlock, firstBy, matchBy, taken}
@@ -28,13 +28,13 @@ Within o = o .used ≤ length (o .holds) + 1
 
 -- the outputs are only added to, and no output's use is past its length by more than one
 abbrev pub Grown : Held → Held → Type 0
-Grown h t = Added (h .out) (t .out) × Added (h .notes) (t .notes) × Bounded t
+Grown h t = Extended (h .out) (t .out) × Extended (h .notes) (t .notes) × Bounded t
 
 pub grown-nothing : (h : Held) → Bounded h → Grown h h
-grown-nothing h w = (added-nothing (h .out), added-nothing (h .notes), w)
+grown-nothing h w = (extended-nothing (h .out), extended-nothing (h .notes), w)
 
 pub grown-then : (h t u : Held) → Grown h t → Grown t u → Grown h u
-grown-then h t u a b = (added-then (h .out) (t .out) (u .out) (a .0) (b .0), added-then (h .notes) (t .notes) (u .notes) (a .1) (b .1), b .2)
+grown-then h t u a b = (extended-then (h .out) (t .out) (u .out) (a .0) (b .0), extended-then (h .notes) (t .notes) (u .notes) (a .1) (b .1), b .2)
 
 -- a full output takes nothing
 append-same : (p : List ℕ) (o : Filled) → Full o → append p o ≡ o
@@ -122,7 +122,7 @@ first-quiet true f h e q = λ z.
 first-grows : (b : Bool) (f : Feature) (h : Held) → Bounded h → Grown h (firstBy b f h)
 unfolding firstBy
 first-grows false f h w = grown-nothing h w
-first-grows true f h w = (append-adds (featureBlock f) (h .out) (w .0), added-nothing (h .notes), (append-within (featureBlock f) (h .out), w .1))
+first-grows true f h w = (append-extends (featureBlock f) (h .out) (w .0), extended-nothing (h .notes), (append-within (featureBlock f) (h .out), w .1))
 
 -- ---- matching
 
@@ -155,8 +155,8 @@ module _ (conn src dst : ℕ) (kept : List ℕ) where
 
   match-grows : (a : Option ℕ) (f : Feature) (h : Held) → Bounded h → Grown h (matched a f h)
   unfolding matchBy
-  match-grows none f h w = (added-nothing (h .out), append-adds _ (h .notes) (w .1), (w .0, append-within _ (h .notes)))
-  match-grows (some i) f h w = (append-adds _ (h .out) (w .0), added-nothing (h .notes), (append-within _ (h .out), w .1))
+  match-grows none f h w = (extended-nothing (h .out), append-extends _ (h .notes) (w .1), (w .0, append-within _ (h .notes)))
+  match-grows (some i) f h w = (append-extends _ (h .out) (w .0), extended-nothing (h .notes), (append-within _ (h .out), w .1))
 
 -- ---- every purpose
 
@@ -192,6 +192,6 @@ module _ (bytes n kept : List ℕ) where
   pub grows : (p : Purpose) (f : Feature) (h : Held) → Bounded h → Grown h (taken p bytes n kept f h)
   unfolding taken
   grows Count f h w = grown-nothing h w
-  grows All f h w = (append-adds (featureBlock f) (h .out) (w .0), added-nothing (h .notes), (append-within (featureBlock f) (h .out), w .1))
+  grows All f h w = (append-extends (featureBlock f) (h .out) (w .0), extended-nothing (h .notes), (append-within (featureBlock f) (h .out), w .1))
   grows First f h w = first-grows (eqb (getD (h .memo) (f .name) 0) 0) f h w
   grows (Match conn src dst count) f h w = match-grows conn src dst kept (partnerOf bytes n kept count (f .name)) f h w

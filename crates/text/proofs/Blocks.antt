@@ -11,8 +11,7 @@ use Rattle.as5506.specs.Rows.{Row, Diag}
 use Rattle.as5506.specs.Tables.{Tables, nameIn}
 use Rattle.as5506.specs.Layout.{pathPlaces, rowNumbers, diagNumbers, rowBack, rowsBack, groupBack, groupRowsBack, namesBehind, diagBack, diagsBack}
 use Rattle.as5506.specs.Text.{column, numberLine, textLine, rowText, diagText}
-use Rattle.text.specs.Added.{rowNamed}
-use Rattle.text.specs.Printing.{listOf, refusalOf}
+use Rattle.text.specs.Printing.{rowNamed, listOf, refusalOf}
 use Rattle.as5506.specs.declared.Refusal.{Refusal}
 use Rattle.lent.specs.Lent.{namesIn, wiringIn}
 

@@ -3,6 +3,7 @@ use mathlib.Core.Bool.{Bool, true, false}
 use mathlib.Core.Path.{_≡_, refl, sym, ap₂, _∙_}
 use mathlib.Core.List.{List, [], _∷_, _++_, map}
 use Prim.Native.Nat.{ℕ}
+use native.Mathlib.Omega.{arith}
 use lib.Dec.{ltb}
 use lib.ListN.{length-map}
 use Rattle.as5506.specs.Lists.{each, bytesOf}
@@ -15,7 +16,8 @@ use Rattle.as5506.specs.Layout.{rowsBack}
 use Rattle.as5506.specs.Text.{rowText, textLine, pathNames, diagText, numberLine, listText, refusalText}
 use Rattle.as5506.proofs.Laws.{all-of, each-same, each-map}
 use Rattle.lent.specs.Lent.{wiringOf}
-use Rattle.text.specs.Printing.{listOf, refusalOf}
+use Rattle.lent.specs.Added.{Added}
+use Rattle.text.specs.Printing.{listOf, refusalOf, Printed}
 use Rattle.text.proofs.Blocks.{rows-same}
 use Rattle.text.proofs.Messages.{message-same}
 
@@ -51,3 +53,13 @@ list-same m traced group diags groupDiags = rw (diags-same m diags, diags-same m
 
 pub traced-same : (m : Tables) (count : ℕ) (out : List ℕ) → rowsBack m count out ≡ rowsBack (wiringOf m) count out
 traced-same m count out = rows-same m out count ∙ sym (rows-same (wiringOf m) out count)
+
+-- ---- what is printed
+
+-- a text from the front of the output on
+pub added-printed : {t out out′ : List ℕ} {z : ℕ} → Added t out 0 out′ z → Printed t out z out′
+added-printed {t} {out} {out′} {z} a =
+    record {
+      fits = λ h. let f = a .fits (omega (arith, h)) in (omega (arith, f .0), f .1);
+      spills = λ h. a .spills (omega arith) (omega (arith, h));
+    }

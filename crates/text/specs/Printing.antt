@@ -2,7 +2,7 @@
 use mathlib.Core.Path.{_≡_}
 use mathlib.Core.List.{List, [], _∷_, _++_}
 use Prim.Native.Nat.{ℕ, _+_, _*_, _≤_, _<_}
-use lib.ListN.{length}
+use lib.ListN.{length, getD, take, drop}
 use lib.Seq.{sets}
 use Rattle.as5506.specs.Lists.{each, bytesOf}
 use Rattle.as5506.specs.Tables.{Tables}
@@ -19,6 +19,20 @@ pub record Counted (rows : List ℕ) (k : ℕ) (groupRows : List ℕ) (l : ℕ) 
   pub group : l * rowNumbers ≤ length groupRows
   pub diagnostics : d * diagNumbers ≤ length diags
   pub group-diagnostics : g * diagNumbers ≤ length groupDiags
+
+-- the row of a block of numbers, with its names
+unfoldable pub rowNamed : List ℕ → List ℕ → List ℕ → List ℕ → Row
+rowNamed b name srcName dstName =
+    record {
+      conn = getD b 0 0;
+      kind = getD b 1 0;
+      src = getD b 2 0;
+      dst = getD b 3 0;
+      path = take (getD b 7 0) (drop 8 b);
+      name = name;
+      srcName = srcName;
+      dstName = dstName;
+    }
 
 -- the list of the rows and diagnostics of both listings
 unfoldable pub listOf : Tables → List Row → List Row → List Diag → List Diag → List ℕ

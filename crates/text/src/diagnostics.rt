@@ -8,9 +8,8 @@ ghost use Rattle.as5506.specs.Layout.{diagNumbers, diagBack};
 ghost use Rattle.as5506.specs.Tables.{nameOf, xName};
 ghost use Rattle.as5506.specs.Text.{digits, textLine, message, pathNames, diagText};
 ghost use Rattle.lent.specs.Lent.{namesIn, connectionsAt, wiringAt};
-ghost use Rattle.text.specs.Added.{Added};
+ghost use Rattle.lent.specs.Added.{Added};
 use super::lines;
-use super::numbers;
 use columns::component;
 use columns::connection;
 
@@ -24,9 +23,9 @@ fn put_sizes(a: u32, b: u32, text: &mut [u8], used: usize) -> usize
         used,
         b"One_To_One pattern requires equal array sizes (source=",
     );
-    let second = numbers::put_decimal(a as usize, b"", text, first);
+    let second = decimal::put_decimal(a as usize, b"", text, first);
     let third = lent::append_bytes(text, second, b", destination=");
-    let fourth = numbers::put_decimal(b as usize, b"", text, third);
+    let fourth = decimal::put_decimal(b as usize, b"", text, third);
     lent::append_bytes(text, fourth, b")")
 }
 
@@ -130,7 +129,7 @@ pub fn put_diagnostic(
 {
     let name = connection_name(bytes, n, x, block[1]);
     let marked = lent::append_bytes(text, used, b"D");
-    let numbered = numbers::put_columns(block, text, marked);
+    let numbered = decimal::put_columns(block, text, marked);
     let begun = lent::append_bytes(text, numbered, b"\n! ");
     let told = put_message(bytes, n, name, block[0], block[2], block[3], text, begun);
     let ended = lent::append_bytes(text, told, b"\n");

@@ -3,7 +3,6 @@
 mod diagnostics;
 mod lines;
 mod list;
-mod numbers;
 
 pub use list::print_list;
 pub use list::print_refusal;

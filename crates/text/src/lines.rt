@@ -5,8 +5,8 @@ ghost use lib.ListN.{length, getD, take, drop};
 ghost use Rattle.as5506.specs.Lists.{bytesOf};
 ghost use Rattle.as5506.specs.Layout.{rowNumbers};
 ghost use Rattle.as5506.specs.Text.{numberLine, rowText};
-ghost use Rattle.text.specs.Added.{Added, rowNamed};
-use super::numbers;
+ghost use Rattle.lent.specs.Added.{Added};
+ghost use Rattle.text.specs.Printing.{rowNamed};
 
 // Prints a text with what stands before it and behind it.
 pub fn put_between(before: &[u8], s: &[u8], behind: &[u8], text: &mut [u8], used: usize) -> usize
@@ -44,9 +44,9 @@ pub fn put_row(
 {
     let path = path_of(block);
     let marked = lent::append_bytes(text, used, b"S");
-    let numbered = numbers::put_columns(&block[..4], text, marked);
-    let counted = numbers::put_column(path.len(), text, numbered);
-    let followed = numbers::put_columns(path, text, counted);
+    let numbered = decimal::put_columns(&block[..4], text, marked);
+    let counted = decimal::put_column(path.len(), text, numbered);
+    let followed = decimal::put_columns(path, text, counted);
     let ended = lent::append_bytes(text, followed, b"\n");
     let named = put_between(b"= ", name, b"\n", text, ended);
     let left = put_between(b"< ", source, b"\n", text, named);
@@ -58,7 +58,7 @@ pub fn put_counts(traced: usize, group: usize, text: &mut [u8], used: usize) -> 
     ensures { λ z. ⌜ Added (numberLine (bytesOf "Z") (traced ∷ group ∷ [])) (now (text .entry)) used (now (text .exit)) z ⌝ }
 {
     let marked = lent::append_bytes(text, used, b"Z");
-    let first = numbers::put_column(traced, text, marked);
-    let second = numbers::put_column(group, text, first);
+    let first = decimal::put_column(traced, text, marked);
+    let second = decimal::put_column(group, text, first);
     lent::append_bytes(text, second, b"\n")
 }

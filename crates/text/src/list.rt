@@ -6,11 +6,10 @@ ghost use Rattle.as5506.specs.Lists.{each};
 ghost use Rattle.as5506.specs.Layout.{rowNumbers, diagNumbers, rowBack, rowsBack, groupBack, groupRowsBack, namesBehind, diagsBack};
 ghost use Rattle.as5506.specs.Text.{rowText, diagText};
 ghost use Rattle.lent.specs.Lent.{namesIn, wiringAt};
-ghost use Rattle.text.specs.Added.{Added};
+ghost use Rattle.lent.specs.Added.{Added};
 ghost use Rattle.text.specs.Printing.{Counted, listOf, refusalOf, Printed};
 use super::diagnostics;
 use super::lines;
-use super::numbers;
 use as5506::DIAGNOSTIC_NUMBERS;
 use as5506::ROW_NUMBERS;
 use as5506::Refusal;
@@ -178,8 +177,8 @@ pub fn print_refusal(refusal: Refusal, text: &mut [u8]) -> usize
     ensures { λ z. ⌜ Printed (refusalOf refusal) (now (text .entry)) z (now (text .exit)) ⌝ }
 {
     let marked = lent::append_bytes(text, 0, b"R");
-    let numbered = numbers::put_column(refusal.number as usize, text, marked);
-    let placed = numbers::put_column(refusal.place as usize, text, numbered);
+    let numbered = decimal::put_column(refusal.number as usize, text, marked);
+    let placed = decimal::put_column(refusal.place as usize, text, numbered);
     let end = [32, refusal.letter, 10];
     lent::append_bytes(text, placed, &end)
 }

@@ -6,7 +6,7 @@ use Rattle.as5506.specs.Lists.{each, bytesOf}
 use Rattle.as5506.specs.Layout.{diagBack}
 use Rattle.as5506.specs.Text.{textLine, message, pathNames}
 use Rattle.lent.specs.Lent.{namesIn, wiringIn}
-use Rattle.text.proofs.Added.{added-as, added-piece, added-then}
+use Rattle.lent.proofs.Added.{added-as, added-piece, added-then}
 use Rattle.text.proofs.Messages.{diag-pieces}
 use Rattle.text.proofs.diagnostics.put_diagnostic.Statement.{statement}
 use Rattle.text.proofs.diagnostics.put_diagnostic.Tie as tie

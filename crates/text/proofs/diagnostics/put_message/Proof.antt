@@ -2,7 +2,7 @@
 use mathlib.Core.Path.{_≡_}
 use native.Mathlib.Omega.{arith}
 use borrow.Author.Needs.{needs}
-use Rattle.text.proofs.Added.{added-as, added-none, added-piece, added-then}
+use Rattle.lent.proofs.Added.{added-as, added-none, added-piece, added-then}
 use Rattle.text.proofs.Messages.{message-none, message-endpoint, message-source, message-destination, message-sizes, message-unmatched}
 use Rattle.text.proofs.diagnostics.put_message.Statement.{statement}
 use Rattle.text.proofs.diagnostics.put_message.Tie as tie

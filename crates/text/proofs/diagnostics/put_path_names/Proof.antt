@@ -1,6 +1,6 @@
 -- `text::diagnostics::put_path_names` meets its contract: by the code, the two lines are the path names'. Assumes nothing.
 use borrow.Author.Needs.{needs}
-use Rattle.text.proofs.Added.{added-as, added-then}
+use Rattle.lent.proofs.Added.{added-as, added-then}
 use Rattle.text.proofs.Messages.{atLine, path-owner, path-feature}
 use Rattle.text.proofs.diagnostics.put_path_names.Statement.{statement}
 use Rattle.text.proofs.diagnostics.put_path_names.Tie as tie

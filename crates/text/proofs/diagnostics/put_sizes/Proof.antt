@@ -1,7 +1,7 @@
 -- `text::diagnostics::put_sizes` meets its contract: five pieces, one behind the other. Assumes nothing.
 use borrow.Author.Needs.{needs}
-use Rattle.text.proofs.Added.{added-as, added-piece, added-then}
-use Rattle.text.proofs.Digits.{decimal-bare}
+use Rattle.lent.proofs.Added.{added-as, added-piece, added-then}
+use Rattle.decimal.proofs.Columns.{decimal-bare}
 use Rattle.text.proofs.diagnostics.put_sizes.Statement.{statement}
 use Rattle.text.proofs.diagnostics.put_sizes.Tie as tie
 

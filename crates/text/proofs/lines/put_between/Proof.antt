@@ -1,6 +1,6 @@
 -- `text::lines::put_between` meets its contract: three pieces, one behind the other. Assumes nothing.
 use borrow.Author.Needs.{needs}
-use Rattle.text.proofs.Added.{added-piece, added-then}
+use Rattle.lent.proofs.Added.{added-piece, added-then}
 use Rattle.text.proofs.lines.put_between.Statement.{statement}
 use Rattle.text.proofs.lines.put_between.Tie as tie
 

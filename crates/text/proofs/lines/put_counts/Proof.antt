@@ -1,6 +1,6 @@
 -- `text::lines::put_counts` meets its contract: its pieces, one behind the other, are the line's text. Assumes nothing.
 use borrow.Author.Needs.{needs}
-use Rattle.text.proofs.Added.{added-as, added-piece, added-then}
+use Rattle.lent.proofs.Added.{added-as, added-piece, added-then}
 use Rattle.text.proofs.Blocks.{counts-pieces}
 use Rattle.text.proofs.lines.put_counts.Statement.{statement}
 use Rattle.text.proofs.lines.put_counts.Tie as tie

@@ -7,7 +7,7 @@ use borrow.Author.Needs.{needs}
 use lib.ListN.{length}
 use lib.Seq.{length-take-le}
 use Rattle.as5506.specs.Lists.{bytesOf}
-use Rattle.text.proofs.Added.{added-as, added-piece, added-then}
+use Rattle.lent.proofs.Added.{added-as, added-piece, added-then}
 use Rattle.text.proofs.Blocks.{row-pieces}
 use Rattle.text.proofs.lines.put_row.Statement.{statement}
 use Rattle.text.proofs.lines.put_row.Tie as tie

@@ -4,8 +4,9 @@ use Rattle.as5506.specs.Lists.{each}
 use Rattle.as5506.specs.Layout.{rowsBack, groupRowsBack, diagsBack}
 use Rattle.as5506.specs.Text.{rowText, diagText}
 use Rattle.lent.specs.Lent.{namesIn, wiringIn}
-use Rattle.text.proofs.Added.{added-as, added-then, added-printed}
+use Rattle.lent.proofs.Added.{added-as, added-then}
 use Rattle.text.proofs.Blocks.{list-pieces}
+use Rattle.text.proofs.Printed.{added-printed}
 use Rattle.text.proofs.list.print_list.Statement.{statement}
 use Rattle.text.proofs.list.print_list.Tie as tie
 

@@ -1,7 +1,8 @@
 -- `text::list::print_refusal` meets its contract: its pieces, one behind the other, are the refusal's line. Assumes nothing.
 use borrow.Author.Needs.{needs}
-use Rattle.text.proofs.Added.{added-as, added-piece, added-then, added-printed}
+use Rattle.lent.proofs.Added.{added-as, added-piece, added-then}
 use Rattle.text.proofs.Blocks.{refusal-pieces}
+use Rattle.text.proofs.Printed.{added-printed}
 use Rattle.text.proofs.list.print_refusal.Statement.{statement}
 use Rattle.text.proofs.list.print_refusal.Tie as tie
 

@@ -9,7 +9,7 @@ use Rattle.as5506.specs.Layout.{diagNumbers, diagBack, diagsBack}
 use Rattle.as5506.specs.Lists.{each}
 use Rattle.as5506.specs.Text.{diagText}
 use Rattle.lent.specs.Lent.{wiringIn}
-use Rattle.text.proofs.Added.{Printing, printing-start, printing-turn, printing-end}
+use Rattle.lent.proofs.Added.{Printing, printing-start, printing-turn, printing-end}
 use Rattle.text.proofs.Blocks.{part-length, diag-text-next, diag-text-done}
 use Rattle.text.proofs.list.put_diagnostics.Statement.{statement}
 use Rattle.text.proofs.list.put_diagnostics.Tie as tie

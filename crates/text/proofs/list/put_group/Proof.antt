@@ -8,7 +8,7 @@ use lib.ListN.{drop}
 use Rattle.as5506.specs.Layout.{rowNumbers, groupRowsBack}
 use Rattle.as5506.specs.Lists.{each}
 use Rattle.as5506.specs.Text.{rowText}
-use Rattle.text.proofs.Added.{Printing, printing-start, printing-turn, printing-end}
+use Rattle.lent.proofs.Added.{Printing, printing-start, printing-turn, printing-end}
 use Rattle.text.proofs.Blocks.{part-length, group-text-next, group-text-done}
 use Rattle.text.proofs.list.put_group.Statement.{statement}
 use Rattle.text.proofs.list.put_group.Tie as tie

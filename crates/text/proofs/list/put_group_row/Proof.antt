@@ -1,7 +1,7 @@
 -- `text::list::put_group_row` meets its contract: the row by its block, with its three names one behind the other. Assumes nothing.
 use native.Mathlib.Omega.{arith}
 use borrow.Author.Needs.{needs}
-use Rattle.text.proofs.Added.{added-as}
+use Rattle.lent.proofs.Added.{added-as}
 use Rattle.text.proofs.Blocks.{group-named}
 use Rattle.text.proofs.list.put_group_row.Statement.{statement}
 use Rattle.text.proofs.list.put_group_row.Tie as tie

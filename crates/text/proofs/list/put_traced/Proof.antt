@@ -10,7 +10,7 @@ use Rattle.as5506.specs.Layout.{rowNumbers, rowsBack}
 use Rattle.as5506.specs.Lists.{each}
 use Rattle.as5506.specs.Text.{rowText}
 use Rattle.lent.specs.Lent.{namesIn, wiringIn}
-use Rattle.text.proofs.Added.{Printing, printing-start, printing-turn, printing-end}
+use Rattle.lent.proofs.Added.{Printing, printing-start, printing-turn, printing-end}
 use Rattle.text.proofs.Blocks.{part-length, traced-text-next, traced-text-done}
 use Rattle.text.proofs.list.put_traced.Statement.{statement}
 use Rattle.text.proofs.list.put_traced.Tie as tie

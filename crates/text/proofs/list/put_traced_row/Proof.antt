@@ -1,6 +1,6 @@
 -- `text::list::put_traced_row` meets its contract: the row by its block, with the names of the tables. Assumes nothing.
 use borrow.Author.Needs.{needs}
-use Rattle.text.proofs.Added.{added-as}
+use Rattle.lent.proofs.Added.{added-as}
 use Rattle.text.proofs.Blocks.{traced-named}
 use Rattle.text.proofs.list.put_traced_row.Statement.{statement}
 use Rattle.text.proofs.list.put_traced_row.Tie as tie

@@ -7,11 +7,10 @@ use native.Mathlib.Omega.{arith}
 use native.Mathlib.Decide.{decLe}
 use lib.ListN.{length, take, length-append}
 use lib.Seq.{sets}
 use Rattle.lent.specs.Append.{Filled, filled, append}
-use Rattle.lent.proofs.Append.{append-fits, append-full, append-length, front-then, append-adds}
+use Rattle.lent.proofs.Append.{append-fits, append-full, append-length, front-then, append-extends}
 use Rattle.lent.proofs.Sets.{sets-append}
-use Rattle.text.specs.Added.{Added}
-use Rattle.text.specs.Printing.{Printed}
+use Rattle.lent.specs.Added.{Added}
 
 -- the same text
 pub added-as : {s t out : List ℕ} {used : ℕ} {out′ : List ℕ} {z : ℕ} → t ≡ s → Added s out used out′ z → Added t out used out′ z
@@ -29,7 +28,7 @@ added-piece {p} {out} {used} {out′} {z} e =
       fits = λ h. (ap (λ (o : Filled). o .used) (e ∙ append-fits p (filled out used) h), ap (λ (o : Filled). o .holds) (e ∙ append-fits p (filled out used) h));
       spills = λ b h. ap (λ (o : Filled). o .used) (e ∙ append-full p (filled out used) h);
       stays = λ b.
-          let a = append-adds p (filled out used) b in
+          let a = append-extends p (filled out used) b in
           subst (λ (o : Filled). (used ≤ o .used) × (take used (o .holds) ≡ take used out)) (sym e) (a .more, a .front);
     }
 
@@ -69,14 +68,6 @@ added-then {s} {t} {out} {used} {out₁} {u} {out₂} {z} a b =
         let f = a .spills h (omega (arith, p)) in
         let n = a .size in
         b .spills (omega (arith, f, n)) (omega (arith, f, n)) ∙ ap (λ (i : ℕ). i + 1) n
-
--- from the front of the output on
-pub added-printed : {t out out′ : List ℕ} {z : ℕ} → Added t out 0 out′ z → Printed t out z out′
-added-printed {t} {out} {out′} {z} a =
-    record {
-      fits = λ h. let f = a .fits (omega (arith, h)) in (omega (arith, f .0), f .1);
-      spills = λ h. a .spills (omega arith) (omega (arith, h));
-    }
 
 -- ---- a loop: whatever prints what is left prints the whole
 

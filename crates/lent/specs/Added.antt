@@ -1,10 +1,9 @@
--- What the functions that print a part of the list leave: its text behind what was used before. Assumes nothing.
+-- What the functions that print a part of a text leave: that part behind what was used before. Assumes nothing.
 use mathlib.Core.Path.{_≡_}
 use mathlib.Core.List.{List}
 use Prim.Native.Nat.{ℕ, _+_, _≤_, _<_}
-use lib.ListN.{length, getD, take, drop}
+use lib.ListN.{length, take}
 use lib.Seq.{sets}
-use Rattle.as5506.specs.Rows.{Row}
 
 -- a text t is printed behind the first `used` bytes of an output: all of it stands there, and z bytes are used then; or z is one more than the output
 -- has, which tells that it is full. In either case the first `used` bytes stay
@@ -13,17 +12,3 @@ pub record Added (t out : List ℕ) (used : ℕ) (out′ : List ℕ) (z : ℕ) :
   pub fits : used + length t ≤ length out → (z ≡ used + length t) × (out′ ≡ sets out used t)
   pub spills : used ≤ length out + 1 → length out < used + length t → z ≡ length out + 1
   pub stays : used ≤ length out + 1 → (used ≤ z) × (take used out′ ≡ take used out)
-
--- the row of a block of numbers, with its names
-unfoldable pub rowNamed : List ℕ → List ℕ → List ℕ → List ℕ → Row
-rowNamed b name srcName dstName =
-    record {
-      conn = getD b 0 0;
-      kind = getD b 1 0;
-      src = getD b 2 0;
-      dst = getD b 3 0;
-      path = take (getD b 7 0) (drop 8 b);
-      name = name;
-      srcName = srcName;
-      dstName = dstName;
-    }
