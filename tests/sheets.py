@@ -42,8 +42,11 @@ class Sheet:
         self.rows[letter].append(row(letter, **values))
         return len(self.rows[letter]) - 1
 
-    def component(self, name, parent=None, index=None, pattern=None, package="p", type_name="t"):
-        return self.add("C", name=name, parent=parent, array_index=index, package=package, type=type_name, pattern=pattern)
+    def component(self, name, parent=None, index=None, pattern=None, package="p", type_name="t", place=None):
+        """Its place is behind all its siblings so far, where none is given."""
+        if place is None:
+            place = max((other.place + 1 for other in self.rows["C"] if other.parent == parent), default=0)
+        return self.add("C", name=name, parent=parent, array_index=index, package=package, type=type_name, pattern=pattern, place=place)
 
     def feature(self, name, owner, kind=8):
         return self.add("F", name=name, owner=owner, kind=kind)

@@ -41,7 +41,7 @@ class Model(Sheet):
         super().__init__()
         self.package = self.name()
         self.component_type = self.name()
-        self.row("C", self.name(), None, None, self.package, self.component_type, None)
+        self.row("C", self.name(), None, None, self.package, self.component_type, None, 0)
         self.row("P", self.package)
         self.row("T", 0, self.component_type, 0)
         self.nest = self.name()

@@ -71,7 +71,7 @@ fn filled(text: &str) -> Vec<u8> {
 }
 
 fn main() {
-    let widths = [("C", 6), ("F", 3), ("X", 7), ("P", 1), ("I", 2), ("T", 3), ("Q", 4), ("U", 9), ("E", 8), ("R", 5)];
+    let widths = [("C", 7), ("F", 3), ("X", 7), ("P", 1), ("I", 2), ("T", 3), ("Q", 4), ("U", 9), ("E", 8), ("R", 5)];
     let every: String = widths.iter().map(|(l, w)| row(l.chars().next().unwrap(), *w, 34)).collect();
     let sheets = [
         ("names alone, the shortest", "N x\n".repeat(4096).into_bytes()),

@@ -11,7 +11,7 @@
 /* the letters in their order, each with the numbers of a row and the rows that are lent */
 #define LETTERS(EACH)                                                                                                  \
     EACH(n, 2, 256)                                                                                                    \
-    EACH(c, 6, 96)                                                                                                     \
+    EACH(c, 7, 96)                                                                                                     \
     EACH(f, 3, 96)                                                                                                     \
     EACH(x, 7, 96)                                                                                                     \
     EACH(p, 1, 96)                                                                                                     \

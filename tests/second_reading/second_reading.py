@@ -1,9 +1,11 @@
-"""A second reading of the paper "The connection listing and its rules" (01).
+"""A second reading of the paper "The connection listing and its rules" (01)
+and of those requests for changes of it (02) that have landed.
 
 It answers, for any bytes, what `conlist` prints. It is written from the
-paper's own sentences, each quoted over the function that follows it, so
-that another definition of the same paper can be compared with it. Names
-are bytes, numbers do not wrap, rows count from 0.
+papers' own sentences, each quoted over the function that follows it, so
+that another definition of the same papers can be compared with it. Behind
+a sentence of 02 stands its request, as (02, i). Names are bytes, numbers
+do not wrap, rows count from 0.
 
     second_reading.py < sheet            prints the answer
 
@@ -16,10 +18,13 @@ import re
 import sys
 
 # ---------------------------------------------------------------------------
-# The rules, each with its sentence of 01.
+# The rules, each with its sentence of 01 or 02.
 
 _DROP = ("`parse_connection_pattern` drops round brackets, commas, spaces, tabs, and compares "
          "folded with the fixed bytes \"one_to_one\"")
+_PLACE = "The `C` line gains a field after pattern, the place among siblings."
+_BY_PLACE = "Pairs, chains and the first found child follow that place from then on."
+_BY_ROW = "Demand 2 covers child lists in any order; connections still go by row."
 _STEP = ("a connection of that component with a source subcomponent, no destination subcomponent, "
          "its destination feature byte-equal, and one found child.")
 _CHILD = ("byte-equal names; if none and the wanted name has no `[`, children with an array index "
@@ -68,6 +73,7 @@ _4 = "length, field or name against the sheet's rules"
 _5 = "that letter's lent table, or at `N` the byte table, has no place"
 _6 = "a row or name number past its table, or a kind, flag, direction or what past its range"
 _7 = "no component 0, or it has a parent, or another's parent is missing or not a smaller row"
+_16 = "Two children of one parent with the same place are refused as 16, checked after 7."
 _8 = ("an end with a subcomponent and no feature; a reference with a package or implementation and "
       "no type; a rename of what = 0 with an original name, or 1 or 2 without")
 _9 = ("two P rows, or two rows of one package in T, Q, U or one kind of R, with equal folded keys "
@@ -86,6 +92,7 @@ RULES = {
     "2: last line without LF": "letter unknown, or last line without LF",
     "3: letter out of order": "letter earlier in order than the line before's",
     "4: length of the line": _4,
+    "4: C line without its place": _PLACE,
     "4: field is no right-justified number": _COLUMNS,
     "4: leading zero": _COLUMNS,
     "4: missing where not allowed": "A lone `-` in the last column means missing, allowed only in fields marked ?.",
@@ -108,6 +115,12 @@ RULES = {
     "7: component 0 has a parent": _7,
     "7: parent missing": _7,
     "7: parent not smaller": _7,
+    "7: before 16": _16,
+    "16: places": _16,
+    "16: not with the sibling before": _16,
+    "16: lowest of several": "letter and lowest bad row (where two rows clash, the later)",
+    "16: inside another clash": "letter and lowest bad row (where two rows clash, the later)",
+    "16: before 8 or 9": _16,
     "8: end without feature": _8,
     "8: package without type": _8,
     "8: implementation without type": _8,
@@ -157,6 +170,12 @@ RULES = {
     "nested group with a classifier": _NESTED,
     "nested group without one": _NESTED,
     "prefix of two or more names": _NESTED,
+    # places
+    "children by place": "the children of a cabinet must come in the order of the drawing.",
+    "places with gaps": _PLACE,
+    "place of six digits": _PLACE,
+    "equal places of two parents": _16,
+    "root's place is a child's": _16,
     # children
     "byte-equal child": _CHILD,
     "byte-equal child hides array children": _CHILD,
@@ -177,8 +196,10 @@ RULES = {
     "step towards the destination": "Towards the destination, its mirror image.",
     "no step where only the case differs": _STEP,
     "no step without a found child": _STEP,
-    "several found children in a step": "Connections, then children, in row order.",
-    "several connections in a step": "Connections, then children, in row order.",
+    "several found children in a step": _BY_PLACE,
+    "steps by place": _BY_PLACE,
+    "several connections in a step": _BY_ROW,
+    "steps by connection, then place": _BY_ROW,
     "chain without a step": _END,
     "chain ends by no step": _END,
     "chain ends after 20 steps": _END,
@@ -193,18 +214,22 @@ RULES = {
     "both ends: 4 beside 2 or 3": _BOTH,
     "pairs one to one": _PAIRS,
     "pairs one to one up to the shorter": _PAIRS,
+    "pairs one to one by place": _BY_PLACE,
     "pairs all to all": _PAIRS,
+    "pairs all to all by place": _BY_PLACE,
     "every source chain with every destination chain": _PER_PAIR,
     "path with source and destination steps": _PER_PAIR,
     "one end at the root: source": _ONE_SIDE,
     "one end at the root: destination": _ONE_SIDE,
     "one end at the root: diagnostic 2": _ONE_SIDE,
     "one end at the root: diagnostic 3": _ONE_SIDE,
+    "one end at the root: by place": _BY_PLACE,
     "one end below the root gives nothing": _ONE_SIDE,
     "neither end with a subcomponent": "Neither: nothing.",
     # group listing
     "group list: an end is missing": _FIRST,
     "group list: first of several children": _FIRST,
+    "group list: first child by place": _BY_PLACE,
     "group list: the owner itself": _FIRST,
     "group list: no child, skip": _FIRST,
     "none: no F row of that name": _ENDPOINT,
@@ -251,6 +276,7 @@ RULES = {
 # Causes that no sheet reaches at conlist's sizes; tables of a caller do.
 RULES_BEYOND_SHEETS = {
     "5: byte table": _5,
+    "6: missing place": "In the tables a missing place is the existing 6.",
     "10: no whole number of rows": _10,
     "10: over 4,096 rows": _10,
     "10: name past the byte table": _10,
@@ -274,8 +300,9 @@ def mark(rule, when=True):
 # or not; it takes so many columns of its line and so many numbers of its row.
 Field = collections.namedtuple("Field", "name holds may_be_missing columns numbers")
 
-# A name number; a row of T or of U, by the row's holder kind; any number. A
-# letter stands for a row of its table, (word, n) for a number 0 to n.
+# A name number; a row of T or of U, by the row's holder kind; any number but that
+# of a missing field. A letter stands for a row of its table, (word, n) for a number
+# 0 to n.
 NAME, HOLDER, ANY = "name number", "holder row", "any number"
 KIND = ("kind", 9)
 FLAG = ("flag", 1)
@@ -296,10 +323,11 @@ def reference(word):
     return [field(word + part + "?", NAME) for part in REFERENCE]
 
 
-# "Letters stand in this order"
+# "Letters stand in this order"; "The `C` line gains a field after pattern, the place
+# among siblings." (02, i)
 FIELDS = {
     "C": [field("name", NAME), field("parent?", "C"), field("array_index?", ANY),
-          field("package", NAME), field("type", NAME), field("pattern?", NAME)],
+          field("package", NAME), field("type", NAME), field("pattern?", NAME), field("place", ANY)],
     "F": [field("name", NAME), field("owner", "C"), field("kind", KIND)],
     "X": [field("name", NAME), field("owner", "C"), field("kind", ("kind", 4)),
           field("source_subcomponent?", NAME), field("source_feature?", NAME),
@@ -381,8 +409,9 @@ def ends_of(row):
             row.destination_subcomponent, row.destination_feature)
 
 
-# "The table is the order of checks.": the numbers of each place.
-REFUSALS = {"sheet": [1], "line": [2, 3, 4, 5], "tables": [10, 6, 7, 8, 9],
+# "The table is the order of checks."; "refused as 16, checked after 7." (02, i): the
+# numbers of each place.
+REFUSALS = {"sheet": [1], "line": [2, 3, 4, 5], "tables": [10, 6, 7, 16, 8, 9],
             "lists": [13, 11, 14, 12], "text": [15]}
 BEFORE_LISTINGS = REFUSALS["sheet"] + REFUSALS["line"] + REFUSALS["tables"]
 
@@ -483,6 +512,8 @@ def read_sheet(sheet, bytes_room, rooms):
         else:
             if len(line) != LINE[letter]:
                 mark("4: length of the line")
+                mark("4: C line without its place",
+                     letter == "C" and len(line) == LINE["C"] - FIELDS["C"][-1].columns)
                 return Refusal(4, "-", place)
             row = read_row(letter, line)
             if row is None:
@@ -506,7 +537,7 @@ def read_sheet(sheet, bytes_room, rooms):
 
 
 # ---------------------------------------------------------------------------
-# The tables: refusals 10, 6, 7, 8, 9, in this order.
+# The tables: refusals 10, 6, 7, 16, 8, 9, in this order.
 
 def rows_of(tables, letter):
     numbers = tables.get(letter, [])
@@ -515,7 +546,8 @@ def rows_of(tables, letter):
 
 
 # "The table is the order of checks." "6 to 10 each go over all tables in letter
-# order." "letter and lowest bad row (where two rows clash, the later)"
+# order." "letter and lowest bad row (where two rows clash, the later)" "refused as 16,
+# checked after 7." (02, i)
 def check_tables(bytes_table, tables):
     """(number, letter, row) of the refusal, or None where the model is accepted."""
     found = check_10(bytes_table, tables)
@@ -523,7 +555,8 @@ def check_tables(bytes_table, tables):
         return found
     rows = {letter: rows_of(tables, letter) for letter in LETTERS}
     names = [bytes(bytes_table[offset:offset + length]) for offset, length in rows["N"]]
-    return check_6(rows) or check_7(rows) or check_8(rows) or check_9(rows, names)
+    return (check_6(rows) or check_7(rows) or check_16(rows, names) or check_8(rows)
+            or check_9(rows, names))
 
 
 # "in this order: table of no whole number of rows (row 0), over 4,096 rows (row
@@ -551,12 +584,12 @@ def check_10(bytes_table, tables):
 
 
 # "a row or name number past its table, or a kind, flag, direction or what past
-# its range"
+# its range"; "In the tables a missing place is the existing 6." (02, i)
 def check_6(rows):
     for letter, forms in FIELDS.items():
         for row, values in enumerate(rows[letter]):
             for form, value in zip(forms, values):
-                if value is None or form.holds == ANY:
+                if value is None:
                     continue
                 word, end = end_of(form.holds, values, rows)
                 if value >= end:
@@ -572,6 +605,8 @@ def end_of(holds, values, rows):
         return word, last + 1
     if holds == NAME:
         return NAME, len(rows["N"])
+    if holds == ANY:
+        return "missing place", MISSING
     if holds == HOLDER:  # the holder kind stands before it, and was good
         return HOLDER, len(rows["T" if values.holder_kind == 0 else "U"])
     return {"C": "component row", "P": "package row"}[holds], len(rows[holds])
@@ -585,16 +620,58 @@ def check_7(rows):
         return Refusal(7, "C", 0)
     for row, component in enumerate(rows["C"]):
         if row == 0:
-            if component.parent is not None:
-                mark("7: component 0 has a parent")
-                return Refusal(7, "C", 0)
+            fault = None if component.parent is None else "component 0 has a parent"
         elif component.parent is None:
-            mark("7: parent missing")
-            return Refusal(7, "C", row)
-        elif component.parent >= row:
-            mark("7: parent not smaller")
+            fault = "parent missing"
+        else:
+            fault = None if component.parent < row else "parent not smaller"
+        if fault:
+            mark("7: " + fault)
+            mark("7: before 16", any(later < row for _, later in clashes(rows["C"])))
             return Refusal(7, "C", row)
     return None
+
+
+def clashes(components):
+    """Of each row that has the parent and the place of an earlier one: that one, and the
+    row. The root has no siblings."""
+    first, found = {}, []
+    for row, component in enumerate(components):
+        if component.parent is None:
+            continue
+        earlier = first.setdefault((component.parent, component.place), row)
+        if earlier != row:
+            found.append((earlier, row))
+    return found
+
+
+# "Two children of one parent with the same place are refused as 16, checked after 7."
+# (02, i) "letter and lowest bad row (where two rows clash, the later)"
+def check_16(rows, names):
+    components, found = rows["C"], clashes(rows["C"])
+    if not found:
+        children = components[1:]
+        mark("equal places of two parents", len({child.place for child in children}) < len(children))
+        mark("root's place is a child's",
+             any(child.parent == 0 and child.place == components[0].place for child in children))
+        return None
+    earlier, row = found[0]
+    mark("16: places")
+    mark("16: not with the sibling before",
+         any(between.parent == components[row].parent for between in components[earlier + 1:row]))
+    mark("16: lowest of several", len(found) > 1)
+    mark("16: inside another clash", any(other < earlier for other, _ in found))
+    mark("16: before 8 or 9", bool(unmarked(check_8, rows) or unmarked(check_9, rows, names)))
+    return Refusal(16, "C", row)
+
+
+def unmarked(check, *given):
+    """For the marks only: what a check finds, without the marks that it makes."""
+    kept = marks.copy()
+    found = check(*given)
+    marks.clear()
+    marks.update(kept)
+    return found
 
 
 # "a reference with a package or implementation and no type"
@@ -663,7 +740,19 @@ def check_9(rows, names):
 
 # ---------------------------------------------------------------------------
 # An accepted model. "Child, feature, connection and import lists become all rows
-# naming the owner, ascending".
+# naming the owner, ascending"; children by their places.
+
+# "the children of a cabinet must come in the order of the drawing." "the place among
+# siblings" (02, i)
+def by_place(components, siblings):
+    """The rows of siblings, given ascending, in the order of their places."""
+    ordered = sorted(siblings, key=lambda row: components[row].place)
+    places = [components[row].place for row in ordered]
+    mark("children by place", ordered != siblings)
+    mark("places with gaps", any(after - before > 1 for before, after in zip(places, places[1:])))
+    mark("place of six digits", len(places) > 1 and places[-1] > 99999)
+    return ordered
+
 
 class Model:
     def __init__(self, bytes_table, tables):
@@ -678,6 +767,8 @@ class Model:
         self.children = collections.defaultdict(list)
         for row, values in enumerate(rows["C"]):
             self.children[values.parent].append(row)
+        for parent, siblings in self.children.items():
+            self.children[parent] = by_place(rows["C"], siblings)
         self.features = collections.defaultdict(list)
         for row, values in enumerate(rows["F"]):
             self.features[values.owner].append(row)
@@ -1026,7 +1117,8 @@ MAX_STEPS = 20
 # "A step from (component, feature) towards the source: a connection of that component
 # with a source subcomponent, no destination subcomponent, its destination feature
 # byte-equal, and one found child. It leads to (child, source feature). Towards the
-# destination, its mirror image." "Connections, then children, in row order."
+# destination, its mirror image." "Connections, then children": "Pairs, chains and the
+# first found child follow that place"; "connections still go by row." (02, i)
 def steps(model, side, component, feature):
     """All steps as (connection, child, feature); each found child is one."""
     key = side, component, feature
@@ -1048,10 +1140,13 @@ def steps(model, side, component, feature):
         children = find_children_by_name(model, component, sub)
         mark("no step without a found child", not children)
         mark("several found children in a step", len(children) > 1)
+        mark("steps by place", children != sorted(children))
         mark("step towards the " + side, bool(children))
         used += bool(children)
         found.extend((connection, child, inner) for child in children)
     mark("several connections in a step", used > 1)
+    places = [model.rows["C"][child].place for _, child, _ in found]
+    mark("steps by connection, then place", places != sorted(places))
     model.found_steps[key] = found
     return found
 
@@ -1186,11 +1281,16 @@ def traced_listing(model, rows_room, diagnostics_room, limit=MAX_STEPS):
         # "the other end is the owner and is not traced."
         starts = [values.owner] if sources is None else sources
         ends = [values.owner] if destinations is None else destinations
-        # "Pairs up to the shorter list, or all, source outermost."
+        # "Pairs up to the shorter list, or all, source outermost." "Pairs .. follow that
+        # place" (02, i), as the found children do.
         if one_to_one:
             pairs = list(zip(starts, ends))
+            mark("pairs one to one by place", set(pairs) != set(zip(sorted(starts), sorted(ends))))
         else:
             pairs = [(start, end) for start in starts for end in ends]
+            both = sources is not None and destinations is not None
+            mark("pairs all to all by place" if both else "one end at the root: by place",
+                 pairs != [(start, end) for start in sorted(starts) for end in sorted(ends)])
         # "Per pair every source chain with every destination chain; path is this
         # connection, source steps, then destination steps not yet in it."
         for start, end in pairs:
@@ -1219,13 +1319,15 @@ def traced_listing(model, rows_room, diagnostics_room, limit=MAX_STEPS):
 FEATURE_KIND_TO_CONNECTION_KIND = [0, 0, 0, 4, 1, 1, 1, 1, 2, 3]
 
 
-# "first found child, or the owner where no subcomponent is named; skip if none."
+# "first found child, or the owner where no subcomponent is named; skip if none." "the
+# first found child follow that place" (02, i)
 def endpoint_component(model, owner, subcomponent):
     if subcomponent is None:
         mark("group list: the owner itself")
         return owner
     found = find_children_by_name(model, owner, model.name(subcomponent))
     mark("group list: first of several children", len(found) > 1)
+    mark("group list: first child by place", found != [] and found[0] != min(found))
     mark("group list: no child, skip", not found)
     return found[0] if found else None
 

@@ -1,7 +1,7 @@
-"""The sheets written by hand: the trial rows of document 01, single points of its rules, and where the Rust goes another
-way than AS5506 or document 01. Each is as small as it can be."""
+"""The sheets written by hand: the trial rows of document 01, single points of its rules and of the changes of them (document 02),
+and where the Rust goes another way than AS5506 or document 01. Each is as small as it can be."""
 
-from second_reading import CONLIST_LINES, LETTERS
+from second_reading import CONLIST_LINES, FIELDS, LETTERS, Refusal
 from sheets import NOTHING, Sheet
 
 
@@ -22,24 +22,133 @@ def run():
     sheet = Sheet()
     for name in ("hub", "pit", "mot", "cmd", "set", "c1", "c2", "p", "t", "reg"):
         sheet.name(name)
-    sheet.component("hub")
-    sheet.component("pit", 0)
-    sheet.component("mot", 0)
-    sheet.component("reg", 1)
+    sheet.component("hub", place=0)
+    sheet.component("pit", 0, place=0)
+    sheet.component("mot", 0, place=1)
+    sheet.component("reg", 1, place=0)
     sheet.connection("c1", 0, 0, "pit", "cmd", "mot", "set")
     sheet.connection("c2", 1, 0, "reg", "set", None, "cmd")
     return sheet
 
 
-def arrays(pattern, sources, destinations):
-    """Two arrays a and b of these sizes, under a pattern."""
+def arrays(pattern, sources, destinations, places=()):
+    """Two arrays a and b of these sizes, under a pattern; their elements have these places, or are placed as they come."""
     sheet = Sheet()
     sheet.component("root", pattern=pattern)
+    given = iter(places)
     for name, size in (("a", sources), ("b", destinations)):
         for element in range(1, size + 1):
-            sheet.component("%s[%d]" % (name, element), 0, element)
+            sheet.component("%s[%d]" % (name, element), 0, element, place=next(given, None))
     sheet.connection("c", 0, 0, "a", "f", "b", "f")
     return sheet
+
+
+def one_end(places):
+    """The elements of an array, with these places, wired to the root itself, and the root to them."""
+    sheet = Sheet()
+    sheet.component("root")
+    for element, place in enumerate(places, 1):
+        sheet.component("a[%d]" % element, 0, element, place=place)
+    sheet.connection("up", 0, 0, "a", "f", None, "f")
+    sheet.connection("down", 0, 0, None, "f", "a", "f")
+    return sheet
+
+
+def of_one_name(places):
+    """Children with these places, all of the name that the connection wants."""
+    sheet = Sheet()
+    sheet.component("root")
+    sheet.component("b", 0, place=100)
+    for place in places:
+        sheet.component("a", 0, place=place)
+    sheet.connection("c", 0, 0, "a", "f", "b", "f")
+    return sheet
+
+
+def fan(source_places, destination_places):
+    """A wire from s to d; in each of the two an array m, of elements with these places, is one step further."""
+    sheet = Sheet()
+    sheet.component("root")
+    sheet.component("s", 0)
+    sheet.component("d", 0)
+    for parent, places in ((1, source_places), (2, destination_places)):
+        for element, place in enumerate(places, 1):
+            sheet.component("m[%d]" % element, parent, element, place=place)
+    sheet.connection("across", 0, 0, "s", "f", "d", "f")
+    sheet.connection("up", 1, 0, "m", "g", None, "f")
+    sheet.connection("down", 2, 0, None, "f", "m", "g")
+    return sheet
+
+
+def connections_before_places():
+    """Two connections of s go on at its children a and b; b has the lower place, a's connection the lower row."""
+    sheet = Sheet()
+    sheet.component("root")
+    sheet.component("s", 0)
+    sheet.component("d", 0)
+    sheet.component("a", 1, place=1)
+    sheet.component("b", 1, place=0)
+    sheet.connection("across", 0, 0, "s", "f", "d", "f")
+    sheet.connection("from_a", 1, 0, "a", "f", None, "f")
+    sheet.connection("from_b", 1, 0, "b", "f", None, "f")
+    return sheet
+
+
+def group_of_an_array(places, has):
+    """A group connection from an array with these places to the root; of its elements, from 1, only that one has the group."""
+    sheet = one_group((None, "u", None))
+    sheet.rows["X"] = []
+    for element, place in enumerate(places, 1):
+        sheet.component("a[%d]" % element, 0, element, place=place)
+    sheet.feature("g", has)
+    sheet.connection("c", 0, 2, "a", "g", None, "g")
+    group = sheet.group_type(0, "u")
+    sheet.declared(1, group, "f")
+    return sheet
+
+
+def places_down_the_tree(*places):
+    """A chain of components, each in the one before, with these places."""
+    sheet = Sheet()
+    for row, place in enumerate(places):
+        sheet.component("c%d" % row, row - 1 if row else None, place=place)
+    sheet.connection("c", 0, 0, "c1", "f", "c1", "f")
+    return sheet
+
+
+def tree(*parents_and_places):
+    """The root, and behind it components with these parents and places."""
+    sheet = Sheet()
+    sheet.component("root")
+    for parent, place in parents_and_places:
+        sheet.component("c", parent, place=place)
+    return sheet
+
+
+def with_end_without_feature(sheet):
+    """The sheet with a fault of 8 more."""
+    sheet.connection("c", 0, 0, "c", None, None, "f")
+    return sheet
+
+
+def with_equal_packages(sheet):
+    """The sheet with a fault of 9 more."""
+    sheet.package("P")
+    sheet.package("p")
+    return sheet
+
+
+def with_fields(sheet, component, **fields):
+    """The sheet with these fields of a component as they are said here."""
+    sheet.rows["C"][component] = sheet.rows["C"][component]._replace(**fields)
+    return sheet
+
+
+def without_places(sheet):
+    """The lines of the sheet, those of components without their last field."""
+    short = FIELDS["C"][-1].columns
+    lines = sheet.bytes().split(b"\n")
+    return b"\n".join(line[:-short] if line.startswith(b"C") else line for line in lines)
 
 
 def pump():
@@ -295,6 +404,16 @@ def text_bytes(connection_bytes):
     return sheet
 
 
+def full_of_children(places):
+    """As many components as conlist lends, all but the root its children, with these places. Each tenth is wired to the root."""
+    sheet = Sheet()
+    sheet.component("root")
+    for row, place in zip(range(1, CONLIST_LINES["C"]), places):
+        sheet.component("a" if row % 10 == 0 else "y", 0, place=place)
+    sheet.connection("c", 0, 0, "a", "f", None, "f")
+    return sheet
+
+
 def full_table(letter, more=0):
     """One group connection, and as many rows of this letter as conlist lends, or so many more."""
     sheet = group_features([2])
@@ -363,6 +482,49 @@ ACCEPTED = {
     "8,192 bytes of text": text_bytes(1330),
     "8,193 bytes of text": text_bytes(1331),
     **{"full table " + letter: full_table(letter) for letter in LETTERS},
+    "all to all by place": arrays(None, 3, 2, (4, 1, 3, 2, 0)),
+    "one to one by place": arrays("one_to_one", 3, 3, (2, 0, 1, 3, 4, 5)),
+    "one to one by place, the same pairs": arrays("one_to_one", 3, 3, (5, 4, 3, 2, 1, 0)),
+    "one to one by place, 3 against 2": arrays("one_to_one", 3, 2, (9, 4, 6, 5, 0)),
+    "one to one by place, 1 against 3": arrays("one_to_one", 1, 3, (7, 9, 8, 3)),
+    "one end at the root by place": one_end((1, 2, 0)),
+    "children of one name by place": of_one_name((7, 3, 5)),
+    "steps by place": fan((2, 0, 1), (5, 4)),
+    "steps by place, one side": fan((1, 0), (0, 1)),
+    "connections by row, then children by place": connections_before_places(),
+    "first found child by place has the group": group_of_an_array((4, 6, 2), 3),
+    "first found child by row has the group": group_of_an_array((4, 6, 2), 1),
+    "root's place is its child's": places_down_the_tree(3, 3),
+    "places that fall down the tree": places_down_the_tree(999999, 10, 9, 0),
+    "one place under every parent": places_down_the_tree(1, 1, 1, 1),
+    "with the place 999999": arrays("one_to_one", 2, 2, (999999, 0, 99999, 999998)),
+    "places that differ by a digit": arrays(None, 2, 2, (100000, 10000, 1000, 100)),
+    "falling places of 64 traced rows": arrays(None, 8, 8, range(16, 0, -1)),
+    "falling places of a full table": full_of_children(range(999999, 0, -10000)),
+}
+
+# Label -> (sheet, its refusal). A label has no number in second place: that is where the seed of a generated sheet stands.
+REFUSED = {
+    "clash of places": (tree((0, 4), (0, 4)).bytes(), Refusal(16, "C", 2)),
+    "clash of places, three alike": (tree((0, 4), (0, 4), (0, 4)).bytes(), Refusal(16, "C", 2)),
+    "clash of places with a sibling further up": (tree((0, 4), (0, 5), (1, 4), (0, 4)).bytes(), Refusal(16, "C", 4)),
+    "clash of places inside another": (tree((0, 4), (0, 5), (0, 5), (0, 4)).bytes(), Refusal(16, "C", 3)),
+    "clash of places inside that of another parent": (tree((0, 4), (1, 4), (1, 4), (0, 4)).bytes(), Refusal(16, "C", 3)),
+    "clash of places below the root alone": (tree((0, 4), (0, 5), (2, 4), (2, 4)).bytes(), Refusal(16, "C", 4)),
+    "clash of places under two parents": (tree((0, 0), (0, 1), (2, 7), (1, 7), (1, 7), (2, 7)).bytes(), Refusal(16, "C", 5)),
+    "clash of places 0, as the root's": (tree((0, 0), (0, 0)).bytes(), Refusal(16, "C", 2)),
+    "clash of places 999999": (tree((0, 999999), (0, 0), (0, 999999)).bytes(), Refusal(16, "C", 3)),
+    "clash of places before 8": (with_end_without_feature(tree((0, 4), (0, 4))).bytes(), Refusal(16, "C", 2)),
+    "clash of places before 9": (with_equal_packages(tree((0, 4), (0, 4))).bytes(), Refusal(16, "C", 2)),
+    "parent missing, then a clash of places": (with_fields(tree((0, 4), (0, 4), (0, 5)), 3, parent=None).bytes(), Refusal(7, "C", 3)),
+    "parent not smaller, then a clash of places": (with_fields(tree((0, 4), (0, 4), (0, 5)), 3, parent=3).bytes(), Refusal(7, "C", 3)),
+    "name past its table, then a clash of places": (with_fields(tree((0, 4), (0, 4), (0, 5)), 3, type=9).bytes(), Refusal(6, "C", 3)),
+    "place missing": (with_fields(tree((0, 0)), 1, place=None).bytes(), Refusal(4, "-", 6)),
+    "place of the root missing": (with_fields(tree((0, 0)), 0, place=None).bytes(), Refusal(4, "-", 5)),
+    "place with a zero in front": (with_fields(tree((0, 0)), 1, place="01").bytes(), Refusal(4, "-", 6)),
+    "place of seven digits": (with_fields(tree((0, 0)), 1, place=1000000).bytes(), Refusal(4, "-", 6)),
+    "run of document 01 without its places": (without_places(run()), Refusal(4, "-", 11)),
+    "clash of places in the last row of many": (full_of_children([*range(94), 0]).bytes(), Refusal(16, "C", 95)),
 }
 
 # File name -> sheet: see docs/DIFFERENCES.md.

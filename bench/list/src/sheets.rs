@@ -2,6 +2,7 @@
 
 use std::collections::HashMap;
 
+use oracle::letters::component;
 use oracle::sheet::{Field, NAME_BYTES, NAME_ROWS, SHEET_BYTES, Sheet, TABLE_ROWS};
 
 const PORT: u32 = 0;
@@ -33,7 +34,9 @@ impl Draft {
         Some(number)
     }
 
+    /// A component whose place is its row.
     fn component(&mut self, name: &str, parent: Field, package: &str, type_name: &str) -> u32 {
+        let row = self.sheet.components.len() as u32;
         let fields = [
             self.name(name),
             parent,
@@ -41,9 +44,10 @@ impl Draft {
             self.name(package),
             self.name(type_name),
             None,
+            Some(row),
         ];
         self.sheet.components.push(fields);
-        self.sheet.components.len() as u32 - 1
+        row
     }
 
     fn child(&mut self, name: &str, parent: u32) -> u32 {
@@ -246,6 +250,26 @@ pub fn elements() -> Vec<u8> {
     draft.sheet.bytes()
 }
 
+/// Two arrays of 47 elements each with long names, joined one to one: their elements stand in the drawing as they do in the sheet, or the other way round.
+pub fn two_arrays(falling: bool) -> Vec<u8> {
+    let mut draft = Draft::new();
+    let arrays = ["a", "b"].map(|front| alike(front)[..58].to_string());
+    draft.sheet.components[0][component::PATTERN] = draft.name("one_to_one");
+    for array in &arrays {
+        for k in 1..=47 {
+            draft.element(&format!("{array}[{k}]"), 0);
+        }
+    }
+    if falling {
+        let places = (1..draft.sheet.components.len() as u32).rev();
+        for (row, place) in draft.sheet.components[1..].iter_mut().zip(places) {
+            row[component::PLACE] = Some(place);
+        }
+    }
+    draft.wire("wire", &arrays[0], &arrays[1]);
+    draft.sheet.bytes()
+}
+
 /// A name of the longest that there are, all of which end alike: two are compared from their ends, so almost to their fronts.
 fn alike(front: &str) -> String {
     let rest = NAME_BYTES - front.len();
@@ -292,7 +316,8 @@ pub fn worst_imports() -> Vec<u8> {
     let nowhere = draft.name(&alike("--"));
     let (package, public, none) = (Some(LAST as u32), Some(0), None);
     let sheet = &mut draft.sheet;
-    sheet.push(b'C', &[names[0], none, none, names[LAST], names[0], none]);
+    let (own, home, place) = (names[0], names[LAST], Some(0));
+    sheet.push(b'C', &[own, none, none, home, own, none, place]);
     for name in names.iter().copied() {
         sheet.push(b'P', &[name]);
         sheet.push(b'I', &[package, names[LAST]]);

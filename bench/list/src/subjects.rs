@@ -84,6 +84,8 @@ pub fn classes(groups: &Path) -> Vec<Subject> {
         one("deepest: 20 levels", sheets::deepest()),
         one("widest: 90 children", sheets::widest()),
         one("widest: 95 elements", sheets::elements()),
+        one("widest: 2 arrays", sheets::two_arrays(false)),
+        one("widest: last first", sheets::two_arrays(true)),
         one("worst: children", sheets::worst_children()),
         one("worst: elements", sheets::worst_elements()),
         one("worst: imports", sheets::worst_imports()),

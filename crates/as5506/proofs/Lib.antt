@@ -2,10 +2,14 @@
 --
 --     Laws          lists, tests and numbers that may be missing
 --     Scans         what is left of a scan of rows, and what it keeps
+--     Sorted        lists in an order, and rows sorted by keys
+--     Next          the next of sorted rows, by a scan that keeps the best so far
 --     Letters       the orders of letters agree with each other
 --     Answers       answers that are given or refused
 --     Whole         what the limit of steps takes of accepted tables, and demand 3's condition over lists
 --     Accepted      accepted tables have it
+--     Keys          the definition's clashes, and keys without one
+--     Children      children in the order of the drawing: the rows that name the parent, ascending by place
 --     Ends          where chains end, and how long their paths are
 --     Limit         tracing with and without a limit of steps
 --     Demand        demand 3 over the definition
@@ -15,12 +19,16 @@
 --     Trials        the trials, of reading (TrialsRead), resolving and expanding (TrialsFind), listing and printing (TrialsList), as one table
 pub mod Laws
 pub mod Scans
+pub mod Sorted
+pub mod Next
 pub mod Letters
 pub mod Answers
 pub mod Whole
 pub mod Limit
 pub mod Ends
 pub mod Accepted
+pub mod Keys
+pub mod Children
 pub mod Demand
 pub mod Back
 pub mod Output

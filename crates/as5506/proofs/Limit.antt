@@ -10,10 +10,11 @@ use lib.Dec.{T, T-not as T-clash, eqb, eqb→eq}
 use lib.ListN.{length}
 use borrow.Author.Tests.{ne-eqb}
 use Rattle.as5506.specs.Lists.{upTo, keep, each, has, total}
-use Rattle.as5506.proofs.Laws.{All, all-map, all-of, all-zip, all-append, all-keep, all-each, each-all, all-mapped, mapped-all, each-same, total-same, total-mono, total-tight, total-times, total-times-right, total-each, total-map, total-append, upTo-below, times-mono, times-tight-left, times-tight-right, and-left, and-right}
+use Rattle.as5506.proofs.Laws.{All, all-map, all-of, all-zip, all-append, all-keep, all-each, each-all, all-mapped, mapped-all, each-same, total-same, total-mono, total-tight, total-times, total-times-right, total-each, total-map, total-append, upTo-below, times-mono, times-tight-left, times-tight-right, and-left, and-right, in-all}
 use Rattle.as5506.specs.Tables.{Tables, present, rowsNaming, Side, source, destination, other, nameOf, cCount, cParent, childrenOf, xCount, xOwner, xSub, connectionsOf}
 use Rattle.as5506.specs.Names.{bracket}
 use Rattle.as5506.specs.Tracing.{isNamed, isElement, orElements, foundChildren, Step, Chain, Start, child, owner, Pair, stop, push, grow, chainsBy, chains, steps, stepsOver, stepTo, leads, shape, Shape, faulty, across, upward, downward, neither, named, oneToOne, pairsBy, pairs, zipAs, allAs, pairsAcross, pairsEdge, pairAcross, pairUp, pairDown, appendNew, rowOf, reach, pairRows, rowsAt, traced, shown, rows, unlimited}
+use Rattle.as5506.proofs.Children.{child-row}
 use Rattle.as5506.proofs.Whole.{Sound, StartWhole, PairWhole, NoFurther}
 
 -- ---- the weight of a path: 2 to the number of its connections
@@ -148,8 +149,7 @@ module _ (m : Tables) (ok : Sound m) where
   below c (suc i) h l e = (omega (arith, ok .parents (suc i) (omega arith) l), l)
 
   children-below : (c : ℕ) → c < cCount m → All (Below m c) (childrenOf m c)
-  unfolding rowsNaming
-  children-below c h = all-keep (λ i. i < cCount m) (Below m c) (λ i. eqb (cParent m i) c) (λ i t l. below c i h l (eqb→eq _ _ t)) (upTo (cCount m)) (upTo-below (cCount m))
+  children-below c h = in-all (Below m c) (childrenOf m c) (λ i k. let r = child-row m c i k in below c i h (r .0) (r .1))
 
   or-below : (c : ℕ) (w : List ℕ) (b : Bool) (l : List ℕ) → c < cCount m → All (Below m c) l → All (Below m c) (orElements b m c w l)
   unfolding orElements

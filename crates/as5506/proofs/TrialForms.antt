@@ -23,7 +23,7 @@ use Rattle.as5506.specs.Listing.{Room, BothLists, groupOf, expansionWith
 use Rattle.as5506.specs.Layout.{roomIn, output, featureNumbers, tracedRowNumbers, tracedDiagNumbers, groupRowNumbers, groupDiagNumbers, expansionNumbers, composedNames, ofTraced, ofGroup}
 use Rattle.as5506.specs.Text.{column}
 use Rattle.as5506.specs.Program.{lent, textLent, conlistText, textAfter, conlist}
-use Rattle.as5506.proofs.Laws.{All, and-left, and-right, and-both}
+use Rattle.as5506.proofs.Laws.{All, and-left, and-right, and-both, is-true}
 
 -- ---- sheets, and models in words
 
@@ -63,8 +63,19 @@ abbrev rowsFrom : ℕ → List (List (List ℕ)) → List (List ℕ)
 rowsFrom k [] = []
 rowsFrom k (l ∷ ls) = (getD (getD l 0 []) 0 0 ∷ numbered k (drop 1 l)) ∷ rowsFrom (k + length (keep isName (drop 1 l))) ls
 
+abbrev linesWith : List (List ℕ) → String → List (List ℕ)
+linesWith ls letter = map (drop 1) (keep (λ l. eqb (getD l 0 0) (getD (bytesOf letter) 0 0)) ls)
+
 abbrev rowsWith : List (List ℕ) → String → List ℕ
-rowsWith ls letter = each (drop 1) (keep (λ l. eqb (getD l 0 0) (getD (bytesOf letter) 0 0)) ls)
+rowsWith ls letter = each (λ l. l) (linesWith ls letter)
+
+-- a C row may leave its place out: then the row's number is its place, so that children stand in row order
+abbrev componentRow : ℕ → List ℕ → List ℕ
+componentRow i l = cond (eqb (length l) 6) (l ++ (i ∷ [])) l
+
+abbrev pub componentRows : ℕ → List (List ℕ) → List ℕ
+componentRows i [] = []
+componentRows i (l ∷ ls) = componentRow i l ++ componentRows (suc i) ls
 
 -- names one after the other in the byte table
 abbrev pub offsets : ℕ → List (List ℕ) → List ℕ
@@ -76,7 +87,7 @@ tablesOf names ls =
     record {
       bytes = each (λ w. w) names;
       n = offsets 0 names;
-      c = rowsWith ls "C";
+      c = componentRows 0 (linesWith ls "C");
       f = rowsWith ls "F";
       x = rowsWith ls "X";
       p = rowsWith ls "P";
@@ -285,10 +296,6 @@ Means (both m r out) = (refusalOf (bothIn m out) ≡ r) × (bothOutputs m out (b
 Means (joins space names m bs r) = refusalOf (groupOf space names m bs) ≡ r
 
 -- ---- equal, by a test, and the laws of the tests
-
-is-true : (b : Bool) → T b → b ≡ true
-is-true true t = refl
-is-true false t = absurd t
 
 is-false : (b : Bool) → T (not b) → b ≡ false
 is-false true t = absurd t

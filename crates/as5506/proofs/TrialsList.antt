@@ -25,7 +25,7 @@ abbrev pub ofChains : List Trial
 ofChains =
     -- "A chain ends where no step exists": a stepless one. A row has the X row's kind and name
     prints-of (acrossTop []) ("S     0     3     1     2     1     0" ∷ "= c" ∷ "< f" ∷ "> g" ∷ "Z     1     0" ∷ [])
-    -- "Connections, then children, in row order", towards the source; "It leads to (child, source feature)"
+    -- "Connections, then children, in row order" (places are rows here), towards the source; "It leads to (child, source feature)"
     ∷ prints-of
     (acrossTop ("C k[1] 1 1 p t -" ∷ "C l 1 - p t -" ∷ "C k[2] 1 2 p t -" ∷ "X d 1 0 l v - f" ∷ "X e 1 0 k u - f" ∷ []))
     ("S     0     3     4     2     2     0     1" ∷ "= c" ∷ "< v" ∷ "> g" ∷
@@ -70,6 +70,51 @@ ofChains =
     ∷ prints-of
     (acrossTop ("C k 1 - p t -" ∷ "C l 2 - p t -" ∷ "X d 1 0 - f k u" ∷ "X e 2 0 l u - g" ∷ []))
     ("S     0     3     1     2     1     0" ∷ "= c" ∷ "< f" ∷ "> g" ∷ "Z     1     0" ∷ [])
+    ∷ []
+
+-- 02 (i): "Pairs, chains and the first found child follow that place"
+abbrev pub ofPlaces : List Trial
+ofPlaces =
+    -- pairs, all of them: the second b and then the first, for each a
+    prints-of
+    ("C top - - p t - 0" ∷ "C a 0 - p t - 9" ∷ "C b 0 - p t - 8" ∷ "C a 0 - p t - 3" ∷ "C b 0 - p t - 1" ∷ "X c 0 0 a f b g" ∷ [])
+    ("S     0     0     3     4     1     0" ∷ "= c" ∷ "< f" ∷ "> g" ∷ "S     0     0     3     2     1     0" ∷ "= c" ∷ "< f" ∷ "> g" ∷
+    "S     0     0     1     4     1     0" ∷ "= c" ∷ "< f" ∷ "> g" ∷ "S     0     0     1     2     1     0" ∷ "= c" ∷ "< f" ∷ "> g" ∷
+    "Z     4     0" ∷ [])
+    -- one to one, array elements too: the first by place with the first by place
+    ∷ prints-of
+    ("C top - - p t One_To_One 0" ∷ "C a[1] 0 1 p t - 9" ∷ "C b 0 - p t - 8" ∷ "C a[2] 0 2 p t - 3" ∷ "C b 0 - p t - 1" ∷ "X c 0 0 a f b g" ∷ [])
+    ("S     0     0     3     4     1     0" ∷ "= c" ∷ "< f" ∷ "> g" ∷ "S     0     0     1     2     1     0" ∷ "= c" ∷ "< f" ∷ "> g" ∷
+    "Z     2     0" ∷ [])
+    -- and where there are more sources, the last by place is left
+    ∷ prints-of
+    ("C top - - p t One_To_One 0" ∷ "C a 0 - p t - 5" ∷ "C a 0 - p t - 3" ∷ "C b 0 - p t - 4" ∷ "X c 0 0 a f b g" ∷ [])
+    ("S     0     0     2     3     1     0" ∷ "= c" ∷ "< f" ∷ "> g" ∷ "D     4     0     2     1" ∷
+    "! connection 'c': One_To_One pattern requires equal array sizes (source=2, destination=1)" ∷ "@ top" ∷ "@ c" ∷ "Z     1     0" ∷ [])
+    -- chains: "connections still go by row", the children of each by place
+    ∷ prints-of
+    (acrossTop ("C k 1 - p t - 7" ∷ "C l 1 - p t - 6" ∷ "C k 1 - p t - 5" ∷ "X d 1 0 k u - f" ∷ "X e 1 0 l v - f" ∷ []))
+    ("S     0     3     5     2     2     0     1" ∷ "= c" ∷ "< u" ∷ "> g" ∷
+    "S     0     3     3     2     2     0     1" ∷ "= c" ∷ "< u" ∷ "> g" ∷
+    "S     0     3     4     2     2     0     2" ∷ "= c" ∷ "< v" ∷ "> g" ∷ "Z     3     0" ∷ [])
+    -- and towards the destination
+    ∷ prints-of
+    (acrossTop ("C k 2 - p t - 7" ∷ "C l 2 - p t - 6" ∷ "C k 2 - p t - 5" ∷ "X d 2 0 - g k u" ∷ "X e 2 0 - g l v" ∷ []))
+    ("S     0     3     1     5     2     0     1" ∷ "= c" ∷ "< f" ∷ "> u" ∷
+    "S     0     3     1     3     2     0     1" ∷ "= c" ∷ "< f" ∷ "> u" ∷
+    "S     0     3     1     4     2     0     2" ∷ "= c" ∷ "< f" ∷ "> v" ∷ "Z     3     0" ∷ [])
+    -- the first found child of the group listing: row 2, of the smaller place, whose type has the group
+    ∷ prints-of
+    ("C top - - p t - 0" ∷ "C a 0 - p s - 2" ∷ "C a 0 - p t - 1" ∷ "F g 0 8" ∷ "F g 2 8" ∷ "X c 0 2 a g - g" ∷ "P p" ∷ "T 0 t 0" ∷ "T 0 s 0" ∷
+    "E 0 0 g 8 - - G -" ∷ "U 0 G 0 - - - - - -" ∷ "E 1 0 x 0 - - - -" ∷ [])
+    ("S     0     2     2     0     1     0" ∷ "= c" ∷ "< g" ∷ "> g" ∷ "S     0     2     1     0     1     0" ∷ "= c" ∷ "< g" ∷ "> g" ∷
+    "S     0     0     2     0     1     0" ∷ "= c.x" ∷ "< g.x" ∷ "> g.x" ∷ "Z     2     1" ∷ [])
+    -- the same at the destination
+    ∷ prints-of
+    ("C top - - p t - 0" ∷ "C a 0 - p s - 2" ∷ "C a 0 - p t - 1" ∷ "F g 0 8" ∷ "F g 2 8" ∷ "X c 0 2 - g a g" ∷ "P p" ∷ "T 0 t 0" ∷ "T 0 s 0" ∷
+    "E 0 0 g 8 - - G -" ∷ "U 0 G 0 - - - - - -" ∷ "E 1 0 x 0 - - - -" ∷ [])
+    ("S     0     2     0     2     1     0" ∷ "= c" ∷ "< g" ∷ "> g" ∷ "S     0     2     0     1     1     0" ∷ "= c" ∷ "< g" ∷ "> g" ∷
+    "S     0     0     0     2     1     0" ∷ "= c.x" ∷ "< g.x" ∷ "> g.x" ∷ "Z     2     1" ∷ [])
     ∷ []
 
 -- ---- what an X row gives
@@ -378,7 +423,7 @@ joinsNowhere bs n = joins (record { rows = 0; diags = 0 }) 0 mixed bs (over n)
 abbrev rootSheet : List ℕ
 rootSheet =
     text
-    ("N a" ∷ "C     0     -     -     0     0     -" ∷ "C     0     0     -     0     0     -" ∷ "X     0     0     0     0     0     -     0" ∷ [])
+    ("N a" ∷ "C     0     -     -     0     0     -     0" ∷ "C     0     0     -     0     0     -     0" ∷ "X     0     0     0     0     0     -     0" ∷ [])
 
 abbrev rootText : List ℕ
 rootText = text ("S     0     0     1     0     1     0" ∷ "= a" ∷ "< a" ∷ "> a" ∷ "Z     1     0" ∷ [])
@@ -465,7 +510,7 @@ unmatched n k =
 abbrev pub ofConlist : List Trial
 ofConlist =
     -- "lends 256 `N` rows, 96 of each other letter, a byte table of 16,384": so many numbers
-    lends (16384 ∷ 512 ∷ 576 ∷ 288 ∷ 672 ∷ 96 ∷ 192 ∷ 288 ∷ 384 ∷ 864 ∷ 768 ∷ 480 ∷ [])
+    lends (16384 ∷ 512 ∷ 672 ∷ 288 ∷ 672 ∷ 96 ∷ 192 ∷ 288 ∷ 384 ∷ 864 ∷ 768 ∷ 480 ∷ [])
     -- "per listing 64 rows", "8,192 for text"
     ∷ lengthIs (full "X nnnnnnnnnnnnnnnnnnnnnn 0 0 s ssssssssssssssssssssss d ddddddddddddddddddddddd") 8192
     ∷ lists (full "X nnnnnnnnnnnnnnnnnnnnnnn 0 0 s ssssssssssssssssssssss d ddddddddddddddddddddddd") ("R    15     0 -" ∷ [])

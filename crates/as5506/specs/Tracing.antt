@@ -50,7 +50,7 @@ stepTo m s x i = record { conn = x; child = i; feat = xFeat m s x }
 unfoldable pub stepsOver : Tables → Side → ℕ → ℕ → List Step
 stepsOver m s c x = map (stepTo m s x) (foundChildren m c (nameOf m (xSub m s x)))
 
--- "A step from (component, feature) towards" side s. "Connections, then children, in row order"
+-- "A step from (component, feature) towards" side s. "Connections, then children, in row order" (02 (i): children by place)
 unfoldable pub steps : Tables → Side → ℕ → ℕ → List Step
 steps m s c f = each (stepsOver m s c) (keep (leads m s (nameOf m f)) (connectionsOf m c))
 

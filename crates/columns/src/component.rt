@@ -4,7 +4,7 @@ use as5506::C_NUMBERS;
 use as5506::MISSING;
 ghost use mathlib.Core.Path.{_≡_};
 ghost use mathlib.Core.List.{[]};
-ghost use Rattle.as5506.specs.Tables.{cName, cParent, cPackage, cType, cPattern, hasIndex};
+ghost use Rattle.as5506.specs.Tables.{cName, cParent, cPackage, cType, cPattern, cPlace, hasIndex};
 ghost use Rattle.lent.specs.Lent.{componentsIn};
 
 // The name.
@@ -40,6 +40,13 @@ pub fn pattern_of(c: &[u32], i: usize) -> u32
     ensures { λ r. ⌜ r ≡ cPattern (componentsIn [] [] (now (c .entry))) i ⌝ }
 {
     field_at(c, C_NUMBERS, i, 5)
+}
+
+// Its place among the children of its parent.
+pub fn place_of(c: &[u32], i: usize) -> u32
+    ensures { λ r. ⌜ r ≡ cPlace (componentsIn [] [] (now (c .entry))) i ⌝ }
+{
+    field_at(c, C_NUMBERS, i, 6)
 }
 
 // Whether it is an element of an array.

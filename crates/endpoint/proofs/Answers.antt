@@ -4,21 +4,20 @@ use mathlib.Core.Path.{_≡_}
 use mathlib.Core.List.{List, [], _∷_}
 use mathlib.Core.Option.{some}
 use Prim.Native.Nat.{ℕ, _<_}
-use lib.Dec.{eqb}
-use Rattle.as5506.specs.Lists.{upTo, keep, has}
-use Rattle.as5506.specs.Tables.{Tables, present, Side, nameOf, rowsNaming, childrenOf, cCount, cParent, xOwner, xSub}
+use Rattle.as5506.specs.Lists.{keep, has}
+use Rattle.as5506.specs.Tables.{Tables, present, Side, nameOf, childrenOf, cCount, xOwner, xSub}
 use Rattle.as5506.specs.Names.{bracket}
 use Rattle.as5506.specs.Tracing.{isNamed, isElement, orElements, foundChildren, named}
 use Rattle.as5506.specs.GroupList.{endComponentBy, endComponent}
-use Rattle.as5506.proofs.Laws.{All, upTo-below, all-first, all-kept}
+use Rattle.as5506.proofs.Laws.{All, in-all, all-first, all-kept}
+use Rattle.as5506.proofs.Children.{child-row}
 
 module _ (m : Tables) where
   abbrev Row : ℕ → Type 0
   Row i = i < cCount m
 
   children-rows : (p : ℕ) → All Row (childrenOf m p)
-  unfolding rowsNaming
-  children-rows p = all-kept Row (λ i. eqb (cParent m i) p) (upTo (cCount m)) (upTo-below (cCount m))
+  children-rows p = in-all Row (childrenOf m p) (λ i h. child-row m p i h .0)
 
   or-rows : (b : Bool) (p : ℕ) (w l : List ℕ) → All Row l → All Row (orElements b m p w l)
   unfolding orElements

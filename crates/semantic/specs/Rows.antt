@@ -45,7 +45,7 @@ unfoldable pub pairOn : Tables → ℕ → TheSide → Start → Start → Pair
 pairOn m x source a b = record { from = startOn m source x a; to = startOn m destination x b }
 pairOn m x destination a b = record { from = startOn m source x b; to = startOn m destination x a }
 
--- the children that X row x names on side s, from row j on: all of them from row 0 (proofs: named-from-start)
+-- the children that X row x names on side s, from j on: all of them from 0 on (proofs: named-from-start)
 unfoldable pub namedFrom : Tables → TheSide → ℕ → ℕ → List ℕ
 namedFrom m s x j = foundFrom m (xOwner m x) (nameOf m (xSub m s x)) j
 

@@ -62,7 +62,7 @@ pub fn resolve_connection_pattern(
     name::pattern_of(bytes, n, component::pattern_of(c, owner as usize))
 }
 
-// The first child from row `from` on that X row i names on a side.
+// The first child from `from` on (0 is the start, i + 1 is behind child i) that X row i names on a side.
 pub fn next_named(
     bytes: &[u8],
     n: &[u32],

@@ -11,9 +11,9 @@ use Rattle.as5506.specs.Lists.{span, upTo, keep, when, isNil, each}
 use Rattle.as5506.specs.Tables.{Tables, Letter, letterN, letterC, letterX, letterU, letterE, letterR, table, width, count, cCount, source, destination, uExtends, uInverseOf, eClassifier}
 use Rattle.as5506.specs.Columns.{order, rank, letterByte}
 use Rattle.as5506.specs.Answers.{Refusal, refusal, row}
-use Rattle.as5506.specs.Refusals.{rowFaults, brokenRows, tooManyRows, badName, badParent, badEnd, badRef, badRename, faults10, faults6, faults7, faults8, faults9, faults}
+use Rattle.as5506.specs.Refusals.{rowFaults, brokenRows, tooManyRows, badName, badParent, badEnd, badRef, badRename, faults10, faults6, faults7, faults16, faults8, faults9, faults}
 use Rattle.as5506.proofs.Laws.{nil-when, nil-each}
-use Rattle.tables.specs.declared.Rule.the-variants.{Whole, Few, Names, Fields, Root, Parents, Ends, Keys}
+use Rattle.tables.specs.declared.Rule.the-variants.{Whole, Few, Names, Fields, Root, Parents, Places, Ends, Keys}
 use Rattle.tables.specs.declared.Checked.{Checked}
 use Rattle.tables.specs.declared.Checked.the-variants.{Accepted}
 use Rattle.tables.specs.Answer.{checked}
@@ -22,7 +22,7 @@ use Rattle.tables.specs.Order.{orElse, over, refusedAt, spanBy, spanOf, 
 use Rattle.tables.proofs.Scans.{or-none, or-assoc}
 use Rattle.tables.proofs.Letters.{head-append, joined-head, each-letter, at-letter, ranked, count-is, once-head, table-head}
 use Rattle.tables.proofs.Columns.{fields-is}
-use Rattle.tables.proofs.Clashes.{keys-is}
+use Rattle.tables.proofs.Clashes.{places-is, keys-is}
 
 -- ---- 10: whole
 whole-at : (m : Tables) (l : Letter) → tableChecked m Whole (rank l) ≡ checked (brokenRows m l)
@@ -128,9 +128,9 @@ module _ (m : Tables) (few : (l : Letter) → count m l ≤ 4096) where
       ∙ rw (table-head m Ends letterX (few letterX) refl x (x-row m), table-head m Ends letterU (few letterU) refl u (u-row m), table-head m Ends letterE (few letterE) refl e (e-row m), table-head m Ends letterR (few letterR) refl (badRename m) (r-row m))
       (sym (joined-head (rowFaults 8 m letterX x) (rowFaults 8 m letterU u ∷ rowFaults 8 m letterE e ∷ rowFaults 8 m letterR (badRename m) ∷ [])))
 
-  rest-is : over (checkRule m) (Names ∷ Fields ∷ Root ∷ Parents ∷ Ends ∷ Keys ∷ []) ≡ over checked (rowFaults 10 m letterN (badName m) ∷ faults6 m ∷ faults7 m ∷ faults8 m ∷ faults9 m ∷ [])
+  rest-is : over (checkRule m) (Names ∷ Fields ∷ Root ∷ Parents ∷ Places ∷ Ends ∷ Keys ∷ []) ≡ over checked (rowFaults 10 m letterN (badName m) ∷ faults6 m ∷ faults7 m ∷ faults16 m ∷ faults8 m ∷ faults9 m ∷ [])
   rest-is =
-      rw (names-is, fields-is m few, ← seven-is, ends-is, keys-is m few, or-assoc (checkRule m Root) (checkRule m Parents) (orElse (checked (faults8 m)) (orElse (checked (faults9 m)) Accepted)))
+      rw (names-is, fields-is m few, ← seven-is, places-is m few, ends-is, keys-is m few, or-assoc (checkRule m Root) (checkRule m Parents) (orElse (checked (faults16 m)) (orElse (checked (faults8 m)) (orElse (checked (faults9 m)) Accepted))))
 
 -- ---- all rules
 under : (xs : List Refusal) (a b : Checked) → (T (isNil xs) → a ≡ b) → orElse (checked xs) a ≡ orElse (checked xs) b
@@ -140,7 +140,7 @@ under (x ∷ xs) a b h = refl
 pub check-all : (m : Tables) → checkAll m ≡ checked (faults m)
 unfolding checkAll faults faults10
 check-all m =
-    let late = rowFaults 10 m letterN (badName m) ∷ faults6 m ∷ faults7 m ∷ faults8 m ∷ faults9 m ∷ [] in
+    let late = rowFaults 10 m letterN (badName m) ∷ faults6 m ∷ faults7 m ∷ faults16 m ∷ faults8 m ∷ faults9 m ∷ [] in
     rw (whole-is m, few-is m)
-    (ap (orElse (checked (each (brokenRows m) order))) (under (each (tooManyRows m) order) (over (checkRule m) (Names ∷ Fields ∷ Root ∷ Parents ∷ Ends ∷ Keys ∷ [])) (over checked late) (λ t. rest-is m (few-rows m t)))
+    (ap (orElse (checked (each (brokenRows m) order))) (under (each (tooManyRows m) order) (over (checkRule m) (Names ∷ Fields ∷ Root ∷ Parents ∷ Places ∷ Ends ∷ Keys ∷ [])) (over checked late) (λ t. rest-is m (few-rows m t)))
     ∙ sym (joined-head (each (brokenRows m) order) (each (tooManyRows m) order ∷ late)))

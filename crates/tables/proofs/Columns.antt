@@ -1,5 +1,5 @@
 -- Rule 6: the code's FIELDS say what the definition's columns say, by one computed test a letter. Assumes nothing.
-use mathlib.Core.Bool.{Bool, true, false, not, _&&_, _||_}
+use mathlib.Core.Bool.{Bool, true, false, not, _&&_, _||_, cond}
 use mathlib.Core.Path.{_≡_, refl, sym, ap, ap₂, _∙_}
 use mathlib.Core.List.{List, [], _∷_}
 use Prim.Native.Nat.{ℕ, zero, suc, _+_, _*_, _-_, _≤_}
@@ -62,7 +62,7 @@ holder-rows m (suc kind) = rw (eqb·suc-zero kind)
 
 module _ (m : Tables) (i kind v : ℕ) where
   abbrev inLimit : ℕ → Bool
-  inLimit what = eqb what 42 || ltb v (limitOf (lengths (tables m)) kind what)
+  inLimit what = cond (eqb what 42) (present v) (ltb v (limitOf (lengths (tables m)) kind what))
 
   name-limit : (what : ℕ) → what ≡ 110 → inLimit what ≡ inRange m i name v
   unfolding limitOf

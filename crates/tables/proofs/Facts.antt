@@ -3,25 +3,25 @@
 use mathlib.Core.Bool.{Bool, true, false, not, _&&_, _||_, cond}
 use mathlib.Core.Logic.{_⊎_, inl, inr}
 use mathlib.Core.Path.{_≡_, refl, sym, subst}
-use mathlib.Core.List.{List, [], _∷_, _++_, map}
+use mathlib.Core.List.{List, [], _∷_, _++_}
 use Prim.Native.Nat.{ℕ, zero, suc, _+_, _%_, _≤_, _<_}
 use native.Mathlib.Omega.{arith}
-use native.Mathlib.Nat.{not-suc-le-zero}
 use native.Mathlib.Decide.{decLe}
 use lib.ListN.{length}
 use lib.Dec.{T, eqb, ltb, eqb→eq, ltb→lt, nltb→le}
 use borrow.Author.Tests.{eq-eqb, ne-eqb}
-use Rattle.as5506.specs.Lists.{upTo, isNil, anyOf, each, sameBytes}
-use Rattle.as5506.specs.Tables.{Tables, missing, present, Letter, letterN, letterC, letterF, letterX, letterP, letterI, letterT, letterQ, letterU, letterE, letterR, table, width, count, at, nStart, nLength, nameOf, cCount, cName, cParent, cPackage, cType, cPattern, fName, fOwner, fKind, Side, source, destination, xCount, xName, xOwner, xKind, xSub, xFeat, Ref, pName, iPackage, iName, tPackage, tName, tPrivate, qPackage, qType, qImpl, qPrivate, uPackage, uName, uPrivate, uExtends, uInverseOf, eHolderKind, eHolder, eName, eKind, eDirection, eClassifier, rPackage, rWhat, rAlias, rOriginalPackage, rOriginalName}
+use Rattle.as5506.specs.Lists.{upTo, isNil, each, sameBytes}
+use Rattle.as5506.specs.Tables.{Tables, missing, present, Letter, letterN, letterC, letterF, letterX, letterP, letterI, letterT, letterQ, letterU, letterE, letterR, table, width, count, at, nStart, nLength, nameOf, cCount, cName, cParent, cPackage, cType, cPattern, cPlace, fName, fOwner, fKind, Side, source, destination, xCount, xName, xOwner, xKind, xSub, xFeat, Ref, pName, iPackage, iName, tPackage, tName, tPrivate, qPackage, qType, qImpl, qPrivate, uPackage, uName, uPrivate, uExtends, uInverseOf, eHolderKind, eHolder, eName, eKind, eDirection, eClassifier, rPackage, rWhat, rAlias, rOriginalPackage, rOriginalName}
 use Rattle.as5506.specs.Columns.{order, Meaning, name, rowIn, holder, below, anything, Column, needed, optional, columns}
 use Rattle.as5506.specs.Names.{goodName}
 use Rattle.as5506.specs.Answers.{Refusal, refusal, row}
-use Rattle.as5506.specs.Refusals.{rowFaults, brokenRows, tooManyRows, badName, faults10, holderLetter, inRange, allows, allowsFrom, badRow, faults6, faults7, badEnd, badRef, badRename, faults8, Key, sameKey, clashes, faults9, faults, accepted}
+use Rattle.as5506.specs.Refusals.{rowFaults, brokenRows, tooManyRows, badName, faults10, holderLetter, inRange, allows, allowsFrom, badRow, faults6, faults7, badEnd, badRef, badRename, faults8, Key, sameKey, clashes, placeKey, faults16, faults9, faults, accepted}
 use Rattle.as5506.proofs.Laws.{All, upTo-at, and-left, and-right, and-both, not-not, nil-left, nil-right, nil-when, nil-each, nil-keep}
 use Rattle.as5506.proofs.Whole.{Sound}
 use Rattle.as5506.proofs.Accepted.{some-component, sound}
+use Rattle.as5506.proofs.Keys.{Unique, keys-unique}
 use Rattle.tables.proofs.Letters.{joined, at-letter}
-use Rattle.tables.proofs.Clashes.{earlier, clashing, clashes-from, keyP, keyT, keyQ, keyU, keyR}
+use Rattle.tables.proofs.Clashes.{keyP, keyT, keyQ, keyU, keyR}
 use Rattle.tables.proofs.Bridge.{few-rows}
 
 -- v is below n, or missing
@@ -34,10 +34,6 @@ pub record GoodRef (m : Tables) (r : Ref) : Type 0 where
   pub its-type : MissingOr (r .type) (count m letterN)
   pub its-implementation : MissingOr (r .impl) (count m letterN)
   pub untyped : r .type ≡ missing → (r .pkg ≡ missing) × (r .impl ≡ missing)
-
--- rows of one letter that have the same key are one row
-abbrev pub Unique : ℕ → (ℕ → Key) → Type 0
-Unique n keyOf = (i j : ℕ) → i < n → j < n → T (sameKey (keyOf i) (keyOf j)) → i ≡ j
 
 -- ACCEPTED TABLES
 pub record Facts (m : Tables) : Type 0 where
@@ -52,6 +48,7 @@ pub record Facts (m : Tables) : Type 0 where
   pub c-package : (i : ℕ) → i < cCount m → cPackage m i < count m letterN
   pub c-type : (i : ℕ) → i < cCount m → cType m i < count m letterN
   pub c-pattern : (i : ℕ) → i < cCount m → MissingOr (cPattern m i) (count m letterN)
+  pub c-place : (i : ℕ) → i < cCount m → T (present (cPlace m i))
   -- F
   pub f-name : (i : ℕ) → i < count m letterF → fName m i < count m letterN
   pub f-owner : (i : ℕ) → i < count m letterF → fOwner m i < cCount m
@@ -97,6 +94,8 @@ pub record Facts (m : Tables) : Type 0 where
   -- 7: component 0 is there, has no parent, and the others have smaller ones (the root and parents of `Sound`)
   pub component-0 : 0 < cCount m
   pub sound : Sound m
+  -- 16: parent and place of different rows differ
+  pub c-key : Unique (cCount m) (placeKey m)
   -- 8: an end with a subcomponent has a feature; a package rename has no original name, the others have one
   pub x-end : (s : Side) (i : ℕ) → i < xCount m → T (present (xSub m s i)) → T (present (xFeat m s i))
   pub r-package-rename : (i : ℕ) → i < count m letterR → rWhat m i ≡ 0 → rOriginalName m i ≡ missing
@@ -143,14 +142,14 @@ module _ (m : Tables) (i : ℕ) where
   Within (rowIn l) v = v < count m l
   Within holder v = v < count m (holderLetter (eHolderKind m i))
   Within (below b) v = v < b
-  Within anything v = Unit {0}
+  Within anything v = T (present v)
 
   within : (w : Meaning) (v : ℕ) → T (inRange m i w v) → Within w v
   within name v t = ltb→lt v (count m letterN) t
   within (rowIn l) v t = ltb→lt v (count m l) t
   within holder v t = ltb→lt v (count m (holderLetter (eHolderKind m i))) t
   within (below b) v t = ltb→lt v b t
-  within anything v t = tt
+  within anything v t = t
 
   abbrev Says : Column → ℕ → Type 0
   Says (needed w) v = Within w v
@@ -174,49 +173,6 @@ module _ (m : Tables) (i : ℕ) where
   says-all l j (c ∷ cs) t =
       (says c (at m l i j) (and-left (allows m i c (at m l i j)) (allowsFrom m l i (suc j) cs) t), says-all l (suc j) cs (and-right (allows m i c (at m l i j)) (allowsFrom m l i (suc j) cs) t))
 
--- ---- 9: equal keys are keys of one row
-same-bytes-sym : (a b : List ℕ) → T (sameBytes a b) → T (sameBytes b a)
-same-bytes-sym [] [] t = tt
-same-bytes-sym [] (y ∷ b) t = t
-same-bytes-sym (x ∷ a) [] t = t
-same-bytes-sym (x ∷ a) (y ∷ b) t =
-    and-both (eqb y x) (sameBytes b a)
-    (subst T (sym (eq-eqb y x (sym (eqb→eq x y (and-left (eqb x y) (sameBytes a b) t))))) tt)
-    (same-bytes-sym a b (and-right (eqb x y) (sameBytes a b) t))
-
-same-key-sym : (a b : Key) → T (sameKey a b) → T (sameKey b a)
-same-key-sym [] [] t = tt
-same-key-sym [] (y ∷ b) t = t
-same-key-sym (x ∷ a) [] t = t
-same-key-sym (x ∷ a) (y ∷ b) t =
-    and-both (sameBytes y x) (sameKey b a) (same-bytes-sym x y (and-left (sameBytes x y) (sameKey a b) t)) (same-key-sym a b (and-right (sameBytes x y) (sameKey a b) t))
-
-module _ (keyOf : ℕ → Key) where
-  not-earlier : (k : Key) (n j : ℕ) → T (not (anyOf (sameKey k) (earlier keyOf n))) → j < n → T (not (sameKey k (keyOf j)))
-  not-earlier k zero j t h = absurd (not-suc-le-zero h)
-  not-earlier k (suc n) j t h = go (decLe n j) (λ l. not-earlier k n j (nor-right (sameKey k (keyOf n)) (anyOf (sameKey k) (earlier keyOf n)) t) l)
-    where
-      go : Dec (n ≤ j) → (j < n → T (not (sameKey k (keyOf j)))) → T (not (sameKey k (keyOf j)))
-      go (yes l) before = subst (λ (x : ℕ). T (not (sameKey k (keyOf x)))) (let e : n ≡ j = omega (arith, l, h) in e) (nor-left (sameKey k (keyOf n)) (anyOf (sameKey k) (earlier keyOf n)) t)
-      go (no l) before = before (omega (arith, l))
-
-  keys-unique : (m : Tables) (l : Letter) → T (isNil (clashes m l keyOf)) → Unique (count m l) keyOf
-  unfolding clashes
-  keys-unique m l t i j hi hj same = go (decLe i j) (decLe j i)
-    where
-      free : (i : ℕ) → i < count m l → T (not (clashing keyOf i))
-      free i h =
-          upTo-at (λ i. T (not (clashing keyOf i))) (count m l) i
-          (nil-keep (λ i. refusal 9 (row l i)) (clashing keyOf) (upTo (count m l)) (subst (λ (is : List ℕ). T (isNil (map (λ i. refusal 9 (row l i)) is))) (clashes-from keyOf 0 (count m l)) t)) h
-
-      clash : (i j : ℕ) → i < count m l → j < i → T (sameKey (keyOf i) (keyOf j)) → ⊥
-      clash i j h l s = contradiction (sameKey (keyOf i) (keyOf j)) s (not-earlier (keyOf i) i j (free i h) l)
-
-      go : Dec (i ≤ j) → Dec (j ≤ i) → i ≡ j
-      go (yes a) (yes b) = omega (arith, a, b)
-      go (no a) b = absurd (clash i j hi (omega (arith, a)) same)
-      go (yes a) (no b) = absurd (clash j i hj (omega (arith, b)) (same-key-sym (keyOf i) (keyOf j) same))
-
 -- ---- 8
 typed-or-bare : (r : Ref) → T (not (badRef r)) → r .type ≡ missing → (r .pkg ≡ missing) × (r .impl ≡ missing)
 typed-or-bare r t e =
@@ -232,9 +188,9 @@ module _ (what original : ℕ) (t : T (not (cond (eqb what 0) (present original)
 
 -- ---- accepted tables have the facts
 module _ (m : Tables) (ok : T (accepted m)) where
-  lists : T (isNil (each (brokenRows m) order)) × All (λ ys. T (isNil ys)) (each (tooManyRows m) order ∷ rowFaults 10 m letterN (badName m) ∷ faults6 m ∷ faults7 m ∷ faults8 m ∷ faults9 m ∷ [])
+  lists : T (isNil (each (brokenRows m) order)) × All (λ ys. T (isNil ys)) (each (tooManyRows m) order ∷ rowFaults 10 m letterN (badName m) ∷ faults6 m ∷ faults7 m ∷ faults16 m ∷ faults8 m ∷ faults9 m ∷ [])
   unfolding accepted faults faults10
-  lists = joined-nil (each (brokenRows m) order) (each (tooManyRows m) order ∷ rowFaults 10 m letterN (badName m) ∷ faults6 m ∷ faults7 m ∷ faults8 m ∷ faults9 m ∷ []) ok
+  lists = joined-nil (each (brokenRows m) order) (each (tooManyRows m) order ∷ rowFaults 10 m letterN (badName m) ∷ faults6 m ∷ faults7 m ∷ faults16 m ∷ faults8 m ∷ faults9 m ∷ []) ok
 
   whole-rows : (l : Letter) → length (table m l) % width l ≡ 0
   unfolding brokenRows
@@ -265,7 +221,7 @@ module _ (m : Tables) (ok : T (accepted m)) where
 
   eight : T (isNil (rowFaults 8 m letterX xBad)) × All (λ ys. T (isNil ys)) (rowFaults 8 m letterU uBad ∷ rowFaults 8 m letterE eBad ∷ rowFaults 8 m letterR (badRename m) ∷ [])
   unfolding faults8
-  eight = joined-nil (rowFaults 8 m letterX xBad) (rowFaults 8 m letterU uBad ∷ rowFaults 8 m letterE eBad ∷ rowFaults 8 m letterR (badRename m) ∷ []) (lists .1 .1 .1 .1 .1 .0)
+  eight = joined-nil (rowFaults 8 m letterX xBad) (rowFaults 8 m letterU uBad ∷ rowFaults 8 m letterE eBad ∷ rowFaults 8 m letterR (badRename m) ∷ []) (lists .1 .1 .1 .1 .1 .1 .0)
 
   end-good : (s : Side) (i : ℕ) → i < xCount m → T (not (badEnd m s i))
   end-good source i h = nor-left (badEnd m source i) (badEnd m destination i) (no-row 8 m letterX xBad (eight .0) i h)
@@ -274,9 +230,13 @@ module _ (m : Tables) (ok : T (accepted m)) where
   end-facts : (s : Side) (i : ℕ) → i < xCount m → T (present (xSub m s i)) → T (present (xFeat m s i))
   end-facts s i h p = not-not (present (xFeat m s i)) (nand (present (xSub m s i)) (not (present (xFeat m s i))) (end-good s i h) p)
 
-  nine : T (isNil (clashes m letterP (keyP m))) × All (λ ys. T (isNil ys)) (clashes m letterT (keyT m) ∷ clashes m letterQ (keyQ m) ∷ clashes m letterU (keyU m) ∷ clashes m letterR (keyR m) ∷ [])
+  nine : T (isNil (clashes 9 m letterP (keyP m))) × All (λ ys. T (isNil ys)) (clashes 9 m letterT (keyT m) ∷ clashes 9 m letterQ (keyQ m) ∷ clashes 9 m letterU (keyU m) ∷ clashes 9 m letterR (keyR m) ∷ [])
   unfolding faults9
-  nine = joined-nil (clashes m letterP (keyP m)) (clashes m letterT (keyT m) ∷ clashes m letterQ (keyQ m) ∷ clashes m letterU (keyU m) ∷ clashes m letterR (keyR m) ∷ []) (lists .1 .1 .1 .1 .1 .1 .0)
+  nine = joined-nil (clashes 9 m letterP (keyP m)) (clashes 9 m letterT (keyT m) ∷ clashes 9 m letterQ (keyQ m) ∷ clashes 9 m letterU (keyU m) ∷ clashes 9 m letterR (keyR m) ∷ []) (lists .1 .1 .1 .1 .1 .1 .1 .0)
+
+  sixteen : T (isNil (clashes 16 m letterC (placeKey m)))
+  unfolding faults16
+  sixteen = lists .1 .1 .1 .1 .1 .0
 
   x-sub-facts : (s : Side) (i : ℕ) → i < xCount m → MissingOr (xSub m s i) (count m letterN) × MissingOr (xFeat m s i) (count m letterN)
   x-sub-facts source i h = let r = row-facts letterX i h in (r .1 .1 .1 .0, r .1 .1 .1 .1 .0)
@@ -314,6 +274,7 @@ module _ (m : Tables) (ok : T (accepted m)) where
         c-package = λ i h. row-facts letterC i h .1 .1 .1 .0;
         c-type = λ i h. row-facts letterC i h .1 .1 .1 .1 .0;
         c-pattern = λ i h. row-facts letterC i h .1 .1 .1 .1 .1 .0;
+        c-place = λ i h. row-facts letterC i h .1 .1 .1 .1 .1 .1 .0;
         f-name = λ i h. row-facts letterF i h .0;
         f-owner = λ i h. row-facts letterF i h .1 .0;
         f-kind = λ i h. row-facts letterF i h .1 .1 .0;
@@ -350,12 +311,13 @@ module _ (m : Tables) (ok : T (accepted m)) where
         r-original-name = λ i h. row-facts letterR i h .1 .1 .1 .1 .0;
         component-0 = some-component m ok;
         sound = sound m ok;
+        c-key = keys-unique (placeKey m) 16 m letterC sixteen;
         x-end = end-facts;
         r-package-rename = λ i h. package-rename (rWhat m i) (rOriginalName m i) (rename-good i h);
         r-other-rename = λ i h. other-rename (rWhat m i) (rOriginalName m i) (rename-good i h);
-        p-key = keys-unique (keyP m) m letterP (nine .0);
-        t-key = keys-unique (keyT m) m letterT (nine .1 .0);
-        q-key = keys-unique (keyQ m) m letterQ (nine .1 .1 .0);
-        u-key = keys-unique (keyU m) m letterU (nine .1 .1 .1 .0);
-        r-key = keys-unique (keyR m) m letterR (nine .1 .1 .1 .1 .0);
+        p-key = keys-unique (keyP m) 9 m letterP (nine .0);
+        t-key = keys-unique (keyT m) 9 m letterT (nine .1 .0);
+        q-key = keys-unique (keyQ m) 9 m letterQ (nine .1 .1 .0);
+        u-key = keys-unique (keyU m) 9 m letterU (nine .1 .1 .1 .0);
+        r-key = keys-unique (keyR m) 9 m letterR (nine .1 .1 .1 .1 .0);
       }

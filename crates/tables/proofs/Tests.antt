@@ -13,7 +13,8 @@ use Rattle.as5506.specs.Tables.{missing, nameIn}
 use Rattle.as5506.specs.Names.{goodName, sameFolded}
 use Rattle.as5506.proofs.Laws.{and-left, and-right}
 use Rattle.tables.specs.declared.Rule.{Rule}
-use Rattle.tables.specs.Tests.{widths, fields, keys, farthest, rowsOf, nameBad, limitOf, mayMiss, fitsAs, fieldFits, parentBad, endBad, referenceBad, renameBad, endsBad, samePart, samePartAt}
+use Rattle.tables.specs.declared.Part.{Part}
+use Rattle.tables.specs.Tests.{widths, fields, keys, farthest, rowsOf, nameBad, limitOf, mayMiss, fitsAs, fieldFits, parentBad, endBad, referenceBad, renameBad, endsBad, sameBy, samePart}
 use Rattle.tables.specs.Order.{asked, spanOf, spanBy, capped}
 
 -- ---- the widths, by one computed test
@@ -105,7 +106,7 @@ module _ (lens t : List ℕ) (k at j v : ℕ) (e : v ≡ getD t (at + j) 0) wher
   unfolding fieldFits fitsAs
   field-missing h = rw (← e, h)
 
-  pub field-any : mayMiss mark v ≡ false → what ≡ 42 → true ≡ fieldFits lens t k at j
+  pub field-any : mayMiss mark v ≡ false → what ≡ 42 → not (eqb v missing) ≡ fieldFits lens t k at j
   unfolding fieldFits fitsAs
   field-any h w = rw (← e, h, eq-eqb what 42 w)
 
@@ -178,24 +179,19 @@ module _ (t : List ℕ) (k at : ℕ) (z : Bool) where
   unfolding endsBad
   ends-r a b c q = rw (ne-eqb k 3 a, ne-eqb k 8 b, ne-eqb k 9 c) q
 
--- ---- 9
-module _ (bytes n : List ℕ) (how x y : ℕ) (z : Bool) where
-  pub part-number : how ≡ 61 → z ≡ eqb x y → z ≡ samePart bytes n how x y
-  unfolding samePart
-  part-number h q = rw h q
+-- ---- 16 and 9
+module _ (bytes n t : List ℕ) (x y : ℕ) (part : Part) (v w : ℕ) (ev : v ≡ getD t (x + part .field) 0) (ew : w ≡ getD t (y + part .field) 0) where
+  pub part-number : part .mark ≡ 61 → eqb v w ≡ samePart bytes n t x y part
+  unfolding samePart sameBy
+  part-number h = rw (h, ev, ew)
 
-  pub part-name : how ≡ 110 → z ≡ sameFolded (nameIn bytes n x) (nameIn bytes n y) → z ≡ samePart bytes n how x y
-  unfolding samePart
-  part-name h q = rw h q
+  pub part-name : (z : Bool) → part .mark ≡ 110 → z ≡ sameFolded (nameIn bytes n v) (nameIn bytes n w) → z ≡ samePart bytes n t x y part
+  unfolding samePart sameBy
+  part-name z h q = rw (h, ← ev, ← ew) q
 
-  pub part-none : (how ≡ 61 → ⊥) → (how ≡ 110 → ⊥) → z ≡ true → z ≡ samePart bytes n how x y
-  unfolding samePart
-  part-none a b q = rw (ne-eqb how 61 a, ne-eqb how 110 b) q
-
--- part j of two keys was compared
-pub part-at : (bytes n t : List ℕ) (k x y j v w : ℕ) (z : Bool) → v ≡ getD t (x + j) 0 → w ≡ getD t (y + j) 0 → z ≡ samePart bytes n (getD keys (k * 5 + 2 + j) 0) v w → z ≡ samePartAt bytes n t k x y j
-unfolding samePartAt
-part-at bytes n t k x y j v w z ev ew q = q ∙ rw (ev, ew)
+pub part-none : (bytes n t : List ℕ) (x y : ℕ) (part : Part) → (part .mark ≡ 61 → ⊥) → (part .mark ≡ 110 → ⊥) → true ≡ samePart bytes n t x y part
+unfolding samePart sameBy
+part-none bytes n t x y part a b = rw (ne-eqb (part .mark) 61 a, ne-eqb (part .mark) 110 b)
 
 -- ---- the rows that are asked
 module _ (lens : List ℕ) (rule : Rule) (k how z : ℕ) (e : how ≡ getD (asked rule) k 0) where

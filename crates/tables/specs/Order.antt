@@ -8,7 +8,7 @@ use Rattle.as5506.specs.Columns.{letterCount}
 use Rattle.as5506.specs.Lists.{upTo, keep, bytesOf}
 use Rattle.as5506.specs.Tables.{Tables}
 use Rattle.tables.specs.declared.Rule.{Rule}
-use Rattle.tables.specs.declared.Rule.the-variants.{Whole, Few, Names, Fields, Root, Parents, Ends, Keys}
+use Rattle.tables.specs.declared.Rule.the-variants.{Whole, Few, Names, Fields, Root, Parents, Places, Ends, Keys}
 use Rattle.tables.specs.declared.Checked.{Checked}
 use Rattle.tables.specs.declared.Checked.the-variants.{Accepted, Refused}
 use Rattle.tables.specs.Tests.{letters, widths, rowsOf, broken, nameBad, fieldsFit, parentBad, endsBad, keyTaken}
@@ -23,6 +23,7 @@ asked Names = bytesOf "*          "
 asked Fields = bytesOf " **********"
 asked Root = bytesOf " 1         "
 asked Parents = bytesOf " *         "
+asked Places = bytesOf " *         "
 asked Ends = bytesOf "   *    ***"
 asked Keys = bytesOf "    * *** *"
 
@@ -45,6 +46,7 @@ badRow bytes n t lens Names k i = nameBad bytes n i
 badRow bytes n t lens Fields k i = not (fieldsFit lens t k (i * getD widths k 0))
 badRow bytes n t lens Root k i = eqb (rowsOf lens k) 0
 badRow bytes n t lens Parents k i = parentBad i (getD t (i * getD widths k 0 + 1) 0)
+badRow bytes n t lens Places k i = keyTaken bytes n t k i
 badRow bytes n t lens Ends k i = endsBad t k (i * getD widths k 0)
 badRow bytes n t lens Keys k i = keyTaken bytes n t k i
 
@@ -55,6 +57,7 @@ numberOf Names = 10
 numberOf Fields = 6
 numberOf Root = 7
 numberOf Parents = 7
+numberOf Places = 16
 numberOf Ends = 8
 numberOf Keys = 9
 
@@ -97,7 +100,7 @@ checkRule m rule = over (tableChecked m rule) (upTo letterCount)
 
 -- "The table is the order of checks"
 abbrev pub rules : List Rule
-rules = Whole ∷ Few ∷ Names ∷ Fields ∷ Root ∷ Parents ∷ Ends ∷ Keys ∷ []
+rules = Whole ∷ Few ∷ Names ∷ Fields ∷ Root ∷ Parents ∷ Places ∷ Ends ∷ Keys ∷ []
 
 unfoldable pub checkAll : Tables → Checked
 checkAll m = over (checkRule m) rules

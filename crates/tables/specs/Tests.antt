@@ -1,8 +1,8 @@
 -- The code's tests of a row, for the contracts of private functions; proofs/ shows that they are the definition's. A letter goes by its rank `k`,
 -- `lens` has the length of each letter's table, and `at` is where a row starts in its table `t`. Assumes nothing.
 use mathlib.Core.Bool.{Bool, true, not, _&&_, _||_, cond}
-use mathlib.Core.List.{List, _++_, map}
-use Prim.Native.Nat.{ℕ, _+_, _-_, _*_, _/_, _%_}
+use mathlib.Core.List.{List, [], _∷_, _++_, map}
+use Prim.Native.Nat.{ℕ, _+_, _-_, _*_, _/_, _%_, _≤_}
 use lib.ListN.{length, getD}
 use lib.Dec.{eqb, ltb}
 use Rattle.as5506.specs.Lists.{upTo, allOf, anyOf, bytesOf}
@@ -10,6 +10,8 @@ use Rattle.as5506.specs.Tables.{width, present, ref, nStart, nLength, nameIn}
 use Rattle.as5506.specs.Columns.{order, letterByte}
 use Rattle.as5506.specs.Names.{goodName, sameFolded}
 use Rattle.as5506.specs.Refusals.{badRef}
+use Rattle.tables.specs.declared.Part.{Part}
+use Rattle.tables.specs.declared.Key.{Key}
 
 abbrev pub letters : List ℕ
 letters = map letterByte order
@@ -21,7 +23,7 @@ widths = map width order
 abbrev pub fields : List ℕ
 fields =
     bytesOf "N                   "
-    ++ bytesOf "C n c?*?n n n?      "
+    ++ bytesOf "C n c?*?n n n?*     "
     ++ bytesOf "F n c 9             "
     ++ bytesOf "X n c 4 n?n?n?n?    "
     ++ bytesOf "P n                 "
@@ -35,8 +37,17 @@ fields =
 -- KEYS of the code
 abbrev pub keys : List ℕ
 keys =
-    bytesOf "N    " ++ bytesOf "C    " ++ bytesOf "F    " ++ bytesOf "X    " ++ bytesOf "P n  " ++ bytesOf "I    "
-    ++ bytesOf "T =n " ++ bytesOf "Q =nn" ++ bytesOf "U =n " ++ bytesOf "E    " ++ bytesOf "R ==n"
+    bytesOf "N       "
+    ++ bytesOf "C 6=1=  "
+    ++ bytesOf "F       "
+    ++ bytesOf "X       "
+    ++ bytesOf "P 0n    "
+    ++ bytesOf "I       "
+    ++ bytesOf "T 0=1n  "
+    ++ bytesOf "Q 0=1n2n"
+    ++ bytesOf "U 0=1n  "
+    ++ bytesOf "E       "
+    ++ bytesOf "R 0=1=2n"
 
 -- where row 4,096 of a table of nine fields starts; no row that is looked at starts after it
 abbrev pub farthest : ℕ
@@ -66,9 +77,9 @@ limitOf lens kind what =
 unfoldable pub mayMiss : ℕ → ℕ → Bool
 mayMiss mark v = not (present v) && eqb mark 63
 
--- a number v by its two characters; * is any number
+-- a number v by its two characters; * is any number but missing
 unfoldable pub fitsAs : List ℕ → ℕ → ℕ → ℕ → ℕ → Bool
-fitsAs lens kind what mark v = mayMiss mark v || (eqb what 42 || ltb v (limitOf lens kind what))
+fitsAs lens kind what mark v = mayMiss mark v || cond (eqb what 42) (present v) (ltb v (limitOf lens kind what))
 
 -- field j of a row, whose first field is the holder kind where it has one
 unfoldable pub fieldFits : List ℕ → List ℕ → ℕ → ℕ → ℕ → Bool
@@ -98,23 +109,34 @@ endsBad t k at =
     (cond (eqb k 8) (referenceBad t (at + 3) || referenceBad t (at + 6))
     (cond (eqb k 9) (referenceBad t (at + 5)) (renameBad t at)))
 
--- ---- 9
+-- ---- 16 and 9
 
--- two fields by their character: = (61) the numbers, n (110) the names folded, else nothing is compared
-unfoldable pub samePart : List ℕ → List ℕ → ℕ → ℕ → ℕ → Bool
-samePart bytes n how x y =
-    cond (eqb how 61) (eqb x y) (cond (eqb how 110) (sameFolded (nameIn bytes n x) (nameIn bytes n y)) true)
+-- part j of the key of a letter: the field by its digit (0 is 48), and the mark behind it
+abbrev pub partOf : ℕ → ℕ → Part
+partOf k j = record { field = getD keys (k * 8 + 2 + j * 2) 0 - 48; mark = getD keys (k * 8 + 2 + j * 2 + 1) 0 }
 
-unfoldable pub samePartAt : List ℕ → List ℕ → List ℕ → ℕ → ℕ → ℕ → ℕ → Bool
-samePartAt bytes n t k x y j = samePart bytes n (getD keys (k * 5 + 2 + j) 0) (getD t (x + j) 0) (getD t (y + j) 0)
+abbrev pub keyOf : ℕ → Key
+keyOf k = record { 0 = partOf k 0; 1 = partOf k 1; 2 = partOf k 2 }
 
--- the rows at x and y
-unfoldable pub sameKey : List ℕ → List ℕ → List ℕ → ℕ → ℕ → ℕ → Bool
-sameKey bytes n t k x y = allOf (samePartAt bytes n t k x y) (upTo 3)
+-- a field that a character can name
+abbrev pub Near : Part → Type 0
+Near part = part .field ≤ 207
+
+-- two numbers by a mark: = (61) the numbers, n (110) the names folded, else nothing is compared
+unfoldable pub sameBy : List ℕ → List ℕ → ℕ → ℕ → ℕ → Bool
+sameBy bytes n mark v w =
+    cond (eqb mark 61) (eqb v w) (cond (eqb mark 110) (sameFolded (nameIn bytes n v) (nameIn bytes n w)) true)
+
+-- the rows at x and y, in a part of their key
+unfoldable pub samePart : List ℕ → List ℕ → List ℕ → ℕ → ℕ → Part → Bool
+samePart bytes n t x y part = sameBy bytes n (part .mark) (getD t (x + part .field) 0) (getD t (y + part .field) 0)
+
+unfoldable pub sameKey : List ℕ → List ℕ → List ℕ → ℕ → ℕ → Key → Bool
+sameKey bytes n t x y key = allOf (samePart bytes n t x y) (key .0 ∷ key .1 ∷ key .2 ∷ [])
 
 -- rows i and j
 unfoldable pub sameKeys : List ℕ → List ℕ → List ℕ → ℕ → ℕ → ℕ → Bool
-sameKeys bytes n t k i j = sameKey bytes n t k (i * getD widths k 0) (j * getD widths k 0)
+sameKeys bytes n t k i j = sameKey bytes n t (i * getD widths k 0) (j * getD widths k 0) (keyOf k)
 
 unfoldable pub keyTaken : List ℕ → List ℕ → List ℕ → ℕ → ℕ → Bool
 keyTaken bytes n t k i = anyOf (sameKeys bytes n t k i) (upTo i)

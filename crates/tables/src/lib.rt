@@ -1,14 +1,14 @@
-// Refusals 10, 6, 7, 8 and 9 of document 01: what tables that a caller hands over are refused for, if anything.
+// Refusals 10, 6, 7, 16, 8 and 9 of documents 01 and 02: what tables that a caller hands over are refused for, if anything.
 // Each rule goes over all tables in letter order and over the rows of each; the lowest bad row of the first bad table is the refusal's place.
 // A letter goes by its place `k` in the order N C F X P I T Q U E R, 0 to 10; `lens` has the length of each letter's table.
 use as5506::LETTER_COUNT;
 ghost use mathlib.Core.Path.{_≡_};
-ghost use Prim.Native.Nat.{_≤_, _<_, _+_};
+ghost use Prim.Native.Nat.{_≤_, _<_, _+_, _-_};
 ghost use Rattle.lent.specs.Lent.{tablesAt};
 ghost use Rattle.as5506.specs.Columns.{letterCount};
 ghost use Rattle.as5506.specs.Refusals.{faults};
 ghost use Rattle.tables.specs.Answer.{checked};
-ghost use Rattle.tables.specs.Tests.{farthest, rowsOf, broken, limitOf, mayMiss, fieldFits, fieldsFit, nameBad, parentBad, endBad, referenceBad, renameBad, endsBad, samePart, sameKey, keyTaken};
+ghost use Rattle.tables.specs.Tests.{farthest, rowsOf, broken, limitOf, mayMiss, fieldFits, fieldsFit, nameBad, parentBad, endBad, referenceBad, renameBad, endsBad, Near, partOf, keyOf, samePart, sameKey, keyTaken};
 ghost use Rattle.tables.specs.Order.{isRefused, orElse, asked, spanOf, badRow, numberOf, checkTable, checkRule};
 
 // Letters by their place.
@@ -27,9 +27,9 @@ const U: usize = 8;
 const E: usize = 9;
 
 // What each field of a row is: a letter and a space, then two characters a field. The first says what the field's number is: n a name number,
-// c a row of C, p a row of P, h a row of the holder's table, a digit a number up to it, * any number; the second is ? where it may be missing.
+// c a row of C, p a row of P, h a row of the holder's table, a digit a number up to it, * any number but missing; the second is ? where it may be missing.
 const FIELDS: [u8; 220] = *b"N                   \
-                             C n c?*?n n n?      \
+                             C n c?*?n n n?*     \
                              F n c 9             \
                              X n c 4 n?n?n?n?    \
                              P n                 \
@@ -40,19 +40,28 @@ const FIELDS: [u8; 220] = *b"N                   \
                              E 1 h n 9 2?n?n?n?  \
                              R p 2 n n n?        ";
 
-// What two rows of a letter may not have in common, its key: a letter and a space, then a character for each of the first three fields:
-// = a number that is compared, n a name that is compared folded.
-const KEYS: [u8; 55] = *b"N    \
-                          C    \
-                          F    \
-                          X    \
-                          P n  \
-                          I    \
-                          T =n \
-                          Q =nn\
-                          U =n \
-                          E    \
-                          R ==n";
+// What two rows of a letter may not have in common, its key: a letter and a space, then two characters a part. The first is the field, from 0; the second
+// is = where its numbers are compared, n where they are names that are compared folded. Of C the place comes first: it is seldom the same.
+const KEYS: [u8; 88] = *b"N       \
+                          C 6=1=  \
+                          F       \
+                          X       \
+                          P 0n    \
+                          I       \
+                          T 0=1n  \
+                          Q 0=1n2n\
+                          U 0=1n  \
+                          E       \
+                          R 0=1=2n";
+
+// A part of a key: the field of a row, and how it is compared.
+struct Part {
+    field: usize,
+    mark: u8,
+}
+
+// The key of a letter; a part without a mark compares nothing.
+struct Key(Part, Part, Part);
 
 // The rules in the order of the checks.
 enum Rule {
@@ -62,6 +71,7 @@ enum Rule {
     Fields,
     Root,
     Parents,
+    Places,
     Ends,
     Keys,
 }
@@ -149,7 +159,7 @@ fn field_fits(lens: [usize; LETTER_COUNT], t: &[u32], k: usize, at: usize, j: us
     }
     let what = FIELDS[place];
     if what == b'*' {
-        return true;
+        return v != as5506::MISSING;
     }
     (v as usize) < limit_of(lens, lent::number_at(t, at), what)
 }
@@ -239,47 +249,87 @@ fn bad_ends(t: &[u32], k: usize, at: usize) -> bool
     bad_rename(t, at)
 }
 
-// 9: whether two fields are the same by their character of KEYS; a field that is in no key always is.
-fn same_part(bytes: &[u8], n: &[u32], how: u8, x: u32, y: u32) -> bool
-    ensures { λ r. ⌜ r ≡ samePart (now (bytes .entry)) (now (n .entry)) how x y ⌝ }
+// The number of a digit, and 0 of a character below all digits.
+fn digit_of(character: u8) -> usize
+    ensures { λ r. ⌜ (r ≡ character - 48) × (r ≤ 207) ⌝ }
 {
-    if how == b'=' {
-        return x == y;
+    if character < 48 {
+        return 0;
     }
-    if how == b'n' {
-        return name::same_folded_names(bytes, n, x, y);
+    (character - 48) as usize
+}
+
+// 16, 9: part j of the key of letter k.
+fn part_of(k: usize, j: usize) -> Part
+    requires { ⌜ (k < letterCount) × (j < 3) ⌝ }
+    ensures { λ r. ⌜ (r ≡ partOf k j) × Near r ⌝ }
+{
+    let at = k * 8 + 2 + j * 2;
+    let field = digit_of(KEYS[at]);
+    let mark = KEYS[at + 1];
+    Part {
+        field: field,
+        mark: mark,
+    }
+}
+
+// 16, 9: the key of letter k.
+fn key_of(k: usize) -> Key
+    requires { ⌜ k < letterCount ⌝ }
+    ensures { λ r. ⌜ (r ≡ keyOf k) × Near (r .0) × Near (r .1) × Near (r .2) ⌝ }
+{
+    let first = part_of(k, 0);
+    let second = part_of(k, 1);
+    let third = part_of(k, 2);
+    Key(first, second, third)
+}
+
+// 16, 9: whether the rows at x and y have the same in a part of their key; without a mark they have.
+fn same_part(bytes: &[u8], n: &[u32], t: &[u32], part: Part, x: usize, y: usize) -> bool
+    requires { ⌜ Near part × (x ≤ farthest) × (y ≤ farthest) ⌝ }
+    ensures { λ r. ⌜ r ≡ samePart (now (bytes .entry)) (now (n .entry)) (now (t .entry)) x y part ⌝ }
+{
+    let field = part.field;
+    let mark = part.mark;
+    let one = lent::number_at(t, x + field);
+    let other = lent::number_at(t, y + field);
+    if mark == b'=' {
+        return one == other;
+    }
+    if mark == b'n' {
+        return name::same_folded_names(bytes, n, one, other);
     }
     true
 }
 
-// 9: whether the rows at x and y have the same key.
-fn same_key(bytes: &[u8], n: &[u32], t: &[u32], k: usize, x: usize, y: usize) -> bool
-    requires { ⌜ (k < letterCount) × (x ≤ farthest) × (y ≤ farthest) ⌝ }
-    ensures { λ r. ⌜ r ≡ sameKey (now (bytes .entry)) (now (n .entry)) (now (t .entry)) k x y ⌝ }
+// 16, 9: whether the rows at x and y have the same key.
+fn same_key(bytes: &[u8], n: &[u32], t: &[u32], key: Key, x: usize, y: usize) -> bool
+    requires { ⌜ Near (key .0) × Near (key .1) × Near (key .2) × (x ≤ farthest) × (y ≤ farthest) ⌝ }
+    ensures { λ r. ⌜ r ≡ sameKey (now (bytes .entry)) (now (n .entry)) (now (t .entry)) x y key ⌝ }
 {
-    let mut j: usize = 0;
-    while j < 3 {
-        let how = KEYS[k * 5 + 2 + j];
-        let one = lent::number_at(t, x + j);
-        let other = lent::number_at(t, y + j);
-        if !same_part(bytes, n, how, one, other) {
-            return false;
-        }
-        j += 1;
+    let first = key.0;
+    let second = key.1;
+    let third = key.2;
+    if !same_part(bytes, n, t, first, x, y) {
+        return false;
     }
-    true
+    if !same_part(bytes, n, t, second, x, y) {
+        return false;
+    }
+    same_part(bytes, n, t, third, x, y)
 }
 
-// 9: whether a row before row i has its key. A scan of all pairs of rows: seconds at 4,096 rows of each letter.
+// 16, 9: whether a row before row i has its key. A scan of all pairs of rows: seconds at 4,096 rows of each letter.
 fn key_taken(bytes: &[u8], n: &[u32], t: &[u32], k: usize, i: usize) -> bool
     requires { ⌜ (k < letterCount) × (i ≤ 4096) ⌝ }
     ensures { λ r. ⌜ r ≡ keyTaken (now (bytes .entry)) (now (n .entry)) (now (t .entry)) k i ⌝ }
 {
+    let key = key_of(k);
     let width = as5506::WIDTHS[k];
     let at = i * width;
     let mut j: usize = 0;
     while j < i {
-        if same_key(bytes, n, t, k, at, j * width) {
+        if same_key(bytes, n, t, key, at, j * width) {
             return true;
         }
         j += 1;
@@ -298,6 +348,7 @@ fn asks(rule: Rule) -> [u8; LETTER_COUNT]
         Rule::Fields => *b" **********",
         Rule::Root => *b" 1         ",
         Rule::Parents => *b" *         ",
+        Rule::Places => *b" *         ",
         Rule::Ends => *b"   *    ***",
         Rule::Keys => *b"    * *** *",
     }
@@ -345,6 +396,7 @@ fn bad_row(
         Rule::Fields => !fields_fit(lens, t, k, at),
         Rule::Root => rows_of(lens, k) == 0,
         Rule::Parents => bad_parent(i, lent::number_at(t, at + 1)),
+        Rule::Places => key_taken(bytes, n, t, k, i),
         Rule::Ends => bad_ends(t, k, at),
         Rule::Keys => key_taken(bytes, n, t, k, i),
     }
@@ -361,6 +413,7 @@ fn number_of(rule: Rule) -> u32
         Rule::Fields => 6,
         Rule::Root => 7,
         Rule::Parents => 7,
+        Rule::Places => 16,
         Rule::Ends => 8,
         Rule::Keys => 9,
     }
@@ -479,6 +532,7 @@ pub fn check_tables(
     let found = check_rule(found, Rule::Fields, bytes, n, c, f, x, p, i, t, q, u, e, r);
     let found = check_rule(found, Rule::Root, bytes, n, c, f, x, p, i, t, q, u, e, r);
     let found = check_rule(found, Rule::Parents, bytes, n, c, f, x, p, i, t, q, u, e, r);
+    let found = check_rule(found, Rule::Places, bytes, n, c, f, x, p, i, t, q, u, e, r);
     let found = check_rule(found, Rule::Ends, bytes, n, c, f, x, p, i, t, q, u, e, r);
     check_rule(found, Rule::Keys, bytes, n, c, f, x, p, i, t, q, u, e, r)
 }

@@ -1,4 +1,5 @@
--- The steps that are left from an X row and a child row on: what the scan for the next step keeps. Assumes nothing.
+-- The steps that are left from an X row and a child on: what the scan for the next step keeps. From 0 on are all children, from j + 1 on those behind
+-- child j. Assumes nothing.
 use mathlib.Core.Bool.{Bool, true, false, _&&_, cond}
 use mathlib.Core.Path.{_≡_}
 use mathlib.Core.List.{List, [], _∷_, _++_, map}
@@ -21,15 +22,15 @@ abbrev pub listIf : Bool → List ℕ → List ℕ
 listIf true l = l
 listIf false l = []
 
--- the children to which connection i leads from (p, f), from row j on
+-- the children to which connection i leads from (p, f), from j on
 unfoldable pub leadsTo : Tables → Side → ℕ → ℕ → ℕ → ℕ → List ℕ
 leadsTo m s p f i j = listIf (isStep m s p f i) (foundFrom m p (nameOf m (xSub m s i)) j)
 
--- the steps over connection i from (p, f), to children from row j on
+-- the steps over connection i from (p, f), to children from j on
 unfoldable pub stepsAt : Tables → Side → ℕ → ℕ → ℕ → ℕ → List TheStep
 stepsAt m s p f i j = map (stepTo m s i) (leadsTo m s p f i j)
 
--- the steps from (p, f) from connection i on, over that connection only to children from row j on: all of them from 0 and 0 on (proofs: steps-from-start)
+-- the steps from (p, f) from connection i on, over that connection only to children from j on: all of them from 0 and 0 on (proofs: steps-from-start)
 unfoldable pub stepsFrom : Tables → Side → ℕ → ℕ → ℕ → ℕ → List TheStep
 stepsFrom m s p f i j =
     cond (ltb i (xCount m)) (stepsAt m s p f i j ++ each (λ k. stepsAt m s p f k 0) (span (i + 1) (xCount m - (i + 1)))) []

@@ -95,7 +95,7 @@ fn is_step(
     same_feature(bytes, n, own, feature)
 }
 
-// The first child from row `from` on to which X row i leads, if it is a connection of the component that leads from its feature towards the side.
+// The first child from `from` on (0 is the start, i + 1 is behind child i) to which X row i leads, if it is a connection of the component that leads from its feature towards the side.
 fn next_child(
     bytes: &[u8],
     n: &[u32],
@@ -124,7 +124,7 @@ fn next_child(
     Child::Nothing
 }
 
-// The next step from (component, feature): from X row `row` on, over that row only to children from row `child` on.
+// The next step from (component, feature): from X row `row` on, over that row only to children from `child` on.
 pub fn next_step(
     bytes: &[u8],
     n: &[u32],

@@ -100,6 +100,7 @@ pub fn compare(sheet: &Sheet, renames: Renames, met: &mut Met) -> Result<(), Str
     };
     listed(&tables, huge, &listing, met)?;
     listed(&tables.with_more_names(), exact, &listing, met)?;
+    listed(&tables.with_large_places(), exact, &listing, met)?;
     too_short(&tables, exact, met)
 }
 

@@ -1,5 +1,6 @@
 //! `differential [COUNT] [FIRST]`: compares the proved library with the original on the stored vectors and on COUNT generated
-//! models, and holds it to refusals on tables that are spoilt.
+//! models, and holds it to refusals on tables that are spoilt. A fifth of the generated models has to be one that the original lists
+//! otherwise where children come in the order of their rows.
 //! `differential --stream`: holds it to the texts of a stream of cases on standard input.
 //!
 //! Each model is handed over as a sheet and as tables, with outputs that are exactly full, one number too short, a little too long
@@ -26,6 +27,7 @@ use generate::{Sort, case};
 use oracle::Options;
 use oracle::listing::{REFUSALS_OF_LINES, REFUSALS_OF_TABLES};
 use oracle::model::Renames;
+use oracle::places;
 use oracle::sheet::Sheet;
 use oracle::stream::{self, Case};
 
@@ -75,6 +77,9 @@ fn differences() -> Vec<Case> {
 struct Met {
     models: usize,
     differing: usize,
+    /// Generated models, and those of them that the original lists otherwise with children in the order of their rows.
+    generated: usize,
+    otherwise_by_row: usize,
     traced: traced::Met,
     expansion: expansion::Met,
     group: group::Met,
@@ -114,10 +119,23 @@ impl Met {
         }
     }
 
+    /// Compares a generated model, and counts whether the places of its children decide anything.
+    fn compare_generated(&mut self, case: &Case) {
+        self.compare(case, Renames::Text);
+        self.generated += 1;
+        if let Some(sheet) = Sheet::accepted(&case.sheet) {
+            let otherwise = places::decide(&sheet, Renames::Text);
+            self.otherwise_by_row += usize::from(otherwise);
+        }
+    }
+
     fn print(&self) {
         let (traced, expansion) = (&self.traced, &self.expansion);
         let (group, text) = (&self.group, &self.text);
-        println!("{} models, {} differ", self.models, self.differing);
+        println!(
+            "{} models, {} differ; of {} generated ones the original lists {} otherwise with children by row",
+            self.models, self.differing, self.generated, self.otherwise_by_row,
+        );
         println!(
             "traced listing: {} rows, {} diagnostics; {} calls, {} refused 11, {} refused 12, {} models without end for the original",
             traced.rows,
@@ -157,10 +175,11 @@ impl Met {
         );
     }
 
-    /// Nothing differs, and nothing was left out.
+    /// Nothing differs, nothing was left out, and places decide on a fifth of the generated models.
     fn passes(&self) -> bool {
         let (traced, expansion) = (&self.traced, &self.expansion);
         self.differing == 0
+            && 5 * self.otherwise_by_row >= self.generated
             && traced.rows > 0
             && traced.diagnostics > 0
             && traced.endless > 0
@@ -216,9 +235,11 @@ fn main() -> ExitCode {
         }
     };
     let mut met = Met::default();
-    let generated = (first..first + count).map(|seed| (case(Sort::Accepted, seed), Renames::Text));
-    for (case, renames) in stored().into_iter().chain(generated) {
+    for (case, renames) in stored() {
         met.compare(&case, renames);
+    }
+    for seed in first..first + count {
+        met.compare_generated(&case(Sort::Accepted, seed));
     }
     let mut told = damaged::Met::default();
     for case in differences() {

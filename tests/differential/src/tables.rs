@@ -1,6 +1,6 @@
 //! The tables of a model as a caller lends them.
 
-use oracle::letters::{LETTERS, ROW_LETTERS, Sheet, name};
+use oracle::letters::{LETTERS, ROW_LETTERS, Sheet, component, name, rank};
 use oracle::sheet::NAME_ROWS;
 
 /// A missing field.
@@ -29,6 +29,25 @@ impl Tables {
             for row in sheet.rows(letter) {
                 table.extend(row.iter().map(|field| field.unwrap_or(MISSING)));
             }
+        }
+        tables
+    }
+
+    /// The rows of C, to be changed.
+    pub fn components(&mut self) -> Vec<&mut [u32]> {
+        let rank = rank(b'C').expect("a letter");
+        let rows = self.letters[rank].chunks_mut(component::NUMBERS);
+        rows.collect()
+    }
+
+    /// The same model with places that no sheet has: the largest that there are, in the same order.
+    pub fn with_large_places(&self) -> Tables {
+        let mut tables = self.clone();
+        let components = tables.components();
+        let places = components.iter().map(|row| row[component::PLACE]);
+        let over = MISSING - 1 - places.max().unwrap_or(0);
+        for row in components {
+            row[component::PLACE] += over;
         }
         tables
     }

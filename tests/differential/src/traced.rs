@@ -36,6 +36,8 @@ pub fn compare(sheet: &Sheet, met: &mut Met) -> Result<(), String> {
     let diagnostics = listing.diagnostics.len() * DIAGNOSTIC_NUMBERS;
 
     listed(sheet, &tables, rows, diagnostics, &listing, met)?;
+    let large = tables.with_large_places();
+    listed(sheet, &large, rows, diagnostics, &listing, met)?;
     let (more_rows, more_diagnostics) =
         (rows + ROW_NUMBERS - 1, diagnostics + DIAGNOSTIC_NUMBERS - 1);
     listed(sheet, &tables, more_rows, more_diagnostics, &listing, met)?;

@@ -1,14 +1,14 @@
 //! Tables that are not accepted: the checks and every listing give the same refusal, leave zeros in their outputs and their
 //! inputs as they were.
 
-use oracle::letters::{LETTERS, name, row_numbers};
+use oracle::letters::{LETTERS, component, name, row_numbers};
 use oracle::listing::REFUSALS_OF_TABLES;
 use oracle::sheet::{NAME_BYTES, Sheet};
 
 use crate::lent::Lent;
 use crate::library::{self, Outputs};
 use crate::records;
-use crate::tables::Tables;
+use crate::tables::{MISSING, Tables};
 use crate::{DIAGNOSTIC_NUMBERS, ROW_NUMBERS};
 
 const ROWS: usize = 4096;
@@ -25,7 +25,8 @@ pub struct Met {
 /// A refusal's number, place and letter.
 pub type Refusal = [u64; 3];
 
-/// Tables of a model that are spoilt at one place or two, by `seed`, with the refusal that they earn: 10 in its three ways.
+/// Tables of a model that are spoilt at one place or two, by `seed`, with the refusal that they earn: 10 in its three ways, a missing
+/// place and equal places.
 pub fn compare(sheet: &Sheet, seed: usize, met: &mut Met) -> Result<(), String> {
     let tables = Tables::of(sheet);
     let rank = seed % LETTERS.len();
@@ -73,7 +74,40 @@ pub fn compare(sheet: &Sheet, seed: usize, met: &mut Met) -> Result<(), String> 
         }
         refused(&named, [10, row as u64, b'N'.into()], met)?;
     }
-    Ok(())
+    places(sheet, &tables, seed, met)
+}
+
+/// A component without a place, which no sheet has; two children of one component with the same place, and both without one.
+fn places(sheet: &Sheet, tables: &Tables, seed: usize, met: &mut Met) -> Result<(), String> {
+    let spoilt = |rows: &[u32], place: u32| {
+        let mut spoilt = tables.clone();
+        let mut components = spoilt.components();
+        for &row in rows {
+            components[row as usize][component::PLACE] = place;
+        }
+        spoilt
+    };
+    let components = sheet.components.len();
+    // the root every other time
+    let row = [0, seed / 2 % components][seed % 2];
+    let missing = spoilt(&[row as u32], MISSING);
+    refused(&missing, [6, row as u64, b'C'.into()], met)?;
+
+    let families = (0..components as u32).map(|owner| sheet.children(owner));
+    let families: Vec<Vec<u32>> = families.filter(|children| children.len() > 1).collect();
+    if families.is_empty() {
+        return Ok(());
+    }
+    let children = &families[seed % families.len()];
+    let one = seed % children.len();
+    let other = (one + 1 + seed % (children.len() - 1)) % children.len();
+    let mut pair = [children[one], children[other]];
+    pair.sort_unstable();
+    let place = sheet.components[children[one] as usize][component::PLACE];
+    let equal = spoilt(&pair, place.expect("a place"));
+    refused(&equal, [16, pair[1].into(), b'C'.into()], met)?;
+    let neither = spoilt(&pair, MISSING);
+    refused(&neither, [6, pair[0].into(), b'C'.into()], met)
 }
 
 fn spoil(table: &mut Vec<u32>, width: usize) {

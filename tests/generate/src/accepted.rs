@@ -1,5 +1,6 @@
-//! Accepted sheets: a model of some profile, its rows in another order,
-//! sometimes filled up to the sizes that `conlist` lends.
+//! Accepted sheets: a model of some profile, its rows in another order, its
+//! children in yet another by their places, sometimes filled up to the sizes
+//! that `conlist` lends.
 
 use oracle::letters::{Field, Meaning, ROW_LETTERS, Sheet, columns};
 use oracle::model::Renames;
@@ -73,6 +74,7 @@ fn attempted(seed: u64, attempt: u64, wild: bool, (_, _, make): Profile) -> Vec<
     make(&mut draft);
     draft.classify_components();
     reorder(&mut draft);
+    draft.place_components();
     fill_up(&mut draft);
     draft.sheet.bytes()
 }
@@ -119,7 +121,7 @@ fn reorder(draft: &mut Draft) {
 }
 
 /// Another order of the components, every parent still before its children.
-fn reorder_components(draft: &mut Draft) {
+pub fn reorder_components(draft: &mut Draft) {
     let count = draft.sheet.components.len();
     let mut open = vec![0];
     let mut order = Vec::new();
@@ -128,7 +130,7 @@ fn reorder_components(draft: &mut Draft) {
         let next = open.swap_remove(draft.random.below(open.len()));
         new_row[next as usize] = order.len() as u32;
         order.push(next);
-        open.extend(draft.children(next));
+        open.extend(draft.sheet.children(next));
     }
     let moved = |row: Field| row.map(|row| new_row[row as usize]);
     let sheet = &mut draft.sheet;

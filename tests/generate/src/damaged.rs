@@ -3,20 +3,21 @@
 //!
 //! Refusal 10 cannot be reached: the reader only makes whole rows, at most 96 or
 //! 256 of them, and good names inside the byte table. Nor can the byte table of
-//! refusal 5 be full: it is as long as the longest sheet.
+//! refusal 5 be full: it is as long as the longest sheet. Nor is a place missing
+//! in the tables, which is 6: in a sheet that is 4.
 
 // Every damage of lines has the same signature, also one that adds no line.
 #![allow(clippy::ptr_arg)]
 
 use oracle::letters::{
-    Column, Field, LETTERS, Meaning, ROW_LETTERS, blank, columns, component, connection,
-    declared_feature, group_type, rank, rename,
+    Column, Field, LETTERS, Meaning, ROW_LETTERS, blank, column_at, columns, component, connection,
+    declared_feature, group_type, line_length, rank, rename,
 };
 use oracle::listing::refusal_line;
 use oracle::sheet::{KEYS, NAME_BYTES, NAME_ROWS, SHEET_BYTES, TABLE_ROWS, bound, bytes_of};
 use oracle::{Options, conlist};
 
-use crate::accepted::attempted_of;
+use crate::accepted::{attempted_of, reorder_components};
 use crate::draft::{Draft, GROUP_CONNECTION, Holder, NO_REFERENCE, put_reference};
 use crate::random::Random;
 
@@ -43,6 +44,11 @@ const DAMAGES: &[(&str, Damage)] = &[
     ("4 field is no number", Damage::Lines(field_is_no_number)),
     ("4 leading zero", Damage::Lines(leading_zero)),
     ("4 missing not allowed", Damage::Lines(missing_not_allowed)),
+    ("4 place missing", Damage::Lines(place_missing)),
+    (
+        "4 no field for the place",
+        Damage::Lines(no_field_for_the_place),
+    ),
     ("4 N without its space", Damage::Lines(name_without_space)),
     ("4 name length", Damage::Lines(name_length)),
     ("4 name byte", Damage::Lines(name_byte)),
@@ -61,6 +67,26 @@ const DAMAGES: &[(&str, Damage)] = &[
     ("7 root has a parent", Damage::Tables(root_has_a_parent)),
     ("7 parent missing", Damage::Tables(parent_missing)),
     ("7 parent not smaller", Damage::Tables(parent_not_smaller)),
+    (
+        "7 behind equal places",
+        Damage::Tables(parent_behind_equal_places),
+    ),
+    (
+        "16 children of the root",
+        Damage::Tables(equal_places_below_the_root),
+    ),
+    (
+        "16 children further down",
+        Damage::Tables(equal_places_further_down),
+    ),
+    (
+        "16 several times",
+        Damage::Tables(equal_places_several_times),
+    ),
+    (
+        "16 one inside another",
+        Damage::Tables(equal_places_inside_equal_places),
+    ),
     ("8 end without feature", Damage::Tables(end_without_feature)),
     (
         "8 package without type",
@@ -102,25 +128,46 @@ const REFUSED_LISTINGS: &[(u32, &str)] = &[
     (13, "several limits"),
 ];
 
-/// How many turns of each round go to sheets with two faults.
+/// Sheets with two faults of which one is 16, which is not checked in the order
+/// of the numbers: the refusal of the other.
+const BESIDE_EQUAL_PLACES: &[u32] = &[6, 7, 8, 9];
+
+/// How many turns of each round go to sheets with any two faults.
 const TURNS_OF_TWO_FAULTS: usize = 7;
 
 /// A sheet that earns a refusal, and what was done to it. The damages take
 /// turns with the seed.
 pub fn damaged(seed: u64) -> (Vec<u8>, String) {
-    let round = DAMAGES.len() + REFUSED_LISTINGS.len() + TURNS_OF_TWO_FAULTS;
+    let round =
+        DAMAGES.len() + REFUSED_LISTINGS.len() + BESIDE_EQUAL_PLACES.len() + TURNS_OF_TWO_FAULTS;
     let turn = (seed % round as u64) as usize;
     if let Some((label, damage)) = DAMAGES.get(turn) {
         return (with_damages(seed, &[*damage]), label.to_string());
     }
-    if let Some((refusal, profile)) = REFUSED_LISTINGS.get(turn - DAMAGES.len()) {
+    let turn = turn - DAMAGES.len();
+    if let Some((refusal, profile)) = REFUSED_LISTINGS.get(turn) {
         let sheet = refused_listing(seed, *refusal, profile);
         return (sheet, format!("{refusal} {profile}"));
     }
+    let turn = turn - REFUSED_LISTINGS.len();
     let mut random = Random::new(!seed);
-    let (one, other) = (random.pick(DAMAGES), random.pick(DAMAGES));
+    let (one, other) = match BESIDE_EQUAL_PLACES.get(turn) {
+        Some(&refusal) => (
+            random.pick(&damages_for(16)),
+            random.pick(&damages_for(refusal)),
+        ),
+        None => (random.pick(DAMAGES), random.pick(DAMAGES)),
+    };
     let sheet = with_damages(seed, &[one.1, other.1]);
     (sheet, format!("{}, {}", one.0, other.0))
+}
+
+/// The damages that earn a refusal, which their labels begin with.
+fn damages_for(refusal: u32) -> Vec<(&'static str, Damage)> {
+    let mut damages = DAMAGES.to_vec();
+    let number = refusal.to_string();
+    damages.retain(|(label, _)| label.split(' ').next() == Some(&number));
+    damages
 }
 
 fn with_damages(seed: u64, damages: &[Damage]) -> Vec<u8> {
@@ -195,7 +242,14 @@ fn every_letter(draft: &mut Draft) {
     let root = draft.root();
     let (axis, motor) = (draft.name("axis[1]"), draft.name("motor"));
     let first = draft.component(axis, Some(root), Some(1));
-    for _ in 0..draft.random.range(1, 3) {
+    for element in 2..=draft.random.range(2, 5) as u32 {
+        let name = draft.name(&format!("axis[{element}]"));
+        let other = draft.component(name, Some(root), Some(element));
+        if draft.random.chance(50) {
+            draft.component(motor, Some(other), None);
+        }
+    }
+    for _ in 0..draft.random.range(2, 5) {
         draft.component(motor, Some(first), None);
     }
     for component in 0..draft.sheet.components.len() as u32 {
@@ -208,6 +262,10 @@ fn every_letter(draft: &mut Draft) {
     draft.connection(root, GROUP_CONNECTION, [axis, bus, None, bus]);
     draft.connection(first, 0, [motor, position, motor, position]);
     draft.connection(root, 0, [None, position, None, None]);
+    if draft.random.chance(50) {
+        reorder_components(draft);
+    }
+    draft.place_components();
     for &letter in ROW_LETTERS {
         if draft.sheet.rows(letter).is_empty() {
             draft.sheet.push(letter, &blank(letter));
@@ -402,6 +460,35 @@ fn missing_not_allowed(random: &mut Random, lines: &mut Vec<Line>) {
     put_field(random, lines, b"     -", |column| !column.may_miss);
 }
 
+/// The lines of components that are still as long as they have to be.
+fn component_lines(lines: &[Line]) -> Vec<usize> {
+    let whole = |line: &Line| line.first() == Some(&b'C') && line.len() == line_length(b'C');
+    let all = 0..lines.len();
+    all.filter(|&line| whole(&lines[line])).collect()
+}
+
+fn place_missing(random: &mut Random, lines: &mut Vec<Line>) {
+    let components = component_lines(lines);
+    if !components.is_empty() {
+        let column = column_at(component::COLUMNS, component::PLACE);
+        let field = format!("{:>1$}", "-", column.width);
+        let line = random.pick(&components);
+        lines[line][column.characters()].copy_from_slice(field.as_bytes());
+    }
+}
+
+/// Cuts off the field of the place, of every component or of one.
+fn no_field_for_the_place(random: &mut Random, lines: &mut Vec<Line>) {
+    let mut components = component_lines(lines);
+    if !components.is_empty() && random.chance(50) {
+        components = vec![random.pick(&components)];
+    }
+    let column = column_at(component::COLUMNS, component::PLACE);
+    for line in components {
+        lines[line].truncate(column.characters().start);
+    }
+}
+
 fn name_without_space(random: &mut Random, lines: &mut Vec<Line>) {
     let Some(place) = some_name_line(random, lines) else {
         return;
@@ -589,6 +676,88 @@ fn parent_not_smaller(draft: &mut Draft) {
     }
 }
 
+/// The pairs of children of one component that have a component behind them, each with the smaller row first.
+fn pairs_with_a_row_behind(draft: &Draft) -> Vec<[u32; 2]> {
+    let last = component_rows(draft).saturating_sub(1);
+    let parent = |row: u32| draft.sheet.components[row as usize][component::PARENT];
+    let mut pairs = Vec::new();
+    for later in 1..last {
+        for earlier in 1..later {
+            if parent(earlier).is_some() && parent(earlier) == parent(later) {
+                pairs.push([earlier, later]);
+            }
+        }
+    }
+    pairs
+}
+
+/// A parent that is missing or not smaller, in a row behind two children with the same place.
+fn parent_behind_equal_places(draft: &mut Draft) {
+    let pairs = pairs_with_a_row_behind(draft);
+    if pairs.is_empty() {
+        return;
+    }
+    let [earlier, later] = draft.random.pick(&pairs);
+    draft.set_place(later, draft.place(earlier));
+    let rows: Vec<u32> = (later + 1..component_rows(draft)).collect();
+    let child = draft.random.pick(&rows);
+    let parent = draft.random.pick(&[None, Some(child)]);
+    draft.sheet.components[child as usize][component::PARENT] = parent;
+}
+
+/// A component with two children or more for which this holds, if there is one.
+fn some_owner(draft: &mut Draft, holds: impl Fn(u32) -> bool) -> Option<u32> {
+    let mut owners: Vec<u32> = (0..component_rows(draft)).collect();
+    owners.retain(|&owner| holds(owner) && draft.sheet.children(owner).len() > 1);
+    (!owners.is_empty()).then(|| draft.random.pick(&owners))
+}
+
+/// Gives a child of such a component the place of another.
+fn equal_places(draft: &mut Draft, holds: impl Fn(u32) -> bool) {
+    if let Some(owner) = some_owner(draft, holds) {
+        let mut children = draft.sheet.children(owner);
+        draft.random.shuffle(&mut children);
+        draft.set_place(children[0], draft.place(children[1]));
+    }
+}
+
+fn equal_places_below_the_root(draft: &mut Draft) {
+    equal_places(draft, |owner| owner == 0);
+}
+
+fn equal_places_further_down(draft: &mut Draft) {
+    equal_places(draft, |owner| owner > 0);
+}
+
+fn equal_places_several_times(draft: &mut Draft) {
+    for _ in 0..draft.random.range(2, 4) {
+        equal_places(draft, |_| true);
+    }
+}
+
+/// Of four children the first and the last have the same place, and so do the two between them.
+fn equal_places_inside_equal_places(draft: &mut Draft) {
+    let Some(owner) = some_owner(draft, |_| true) else {
+        return;
+    };
+    let children = draft.sheet.children(owner);
+    for _ in children.len()..4 {
+        draft.namesake(children[0]);
+    }
+    draft.place_children(owner, false);
+    let mut children = draft.sheet.children(owner);
+    while children.len() > 4 {
+        let left_out = draft.random.below(children.len());
+        children.remove(left_out);
+    }
+    children.sort_unstable();
+    let [first, second, third, last] = children[..] else {
+        return;
+    };
+    draft.set_place(last, draft.place(first));
+    draft.set_place(third, draft.place(second));
+}
+
 /// Changes a random row of a letter, if the letter has rows.
 fn change_row(draft: &mut Draft, letter: u8, change: impl Fn(&mut Random, &mut [Field])) {
     let rows = draft.sheet.rows(letter).len();
@@ -658,8 +827,12 @@ fn clash(draft: &mut Draft, letter: u8) {
         let original = draft.random.below(rows.len());
         let mut clashing = rows[original].clone();
         for &name in names {
-            let text = draft.text(clashing[name]);
-            clashing[name] = draft.spelled(&text, 70);
+            // A number that another damage has put past the names stays as it is.
+            let known = draft.sheet.names.len() as u32;
+            if clashing[name].is_some_and(|number| number < known) {
+                let text = draft.text(clashing[name]);
+                clashing[name] = draft.spelled(&text, 70);
+            }
         }
         let place = draft.random.range(original + 1, rows.len());
         rows.insert(place, clashing);

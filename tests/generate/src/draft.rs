@@ -83,7 +83,7 @@ impl Draft {
         one.eq_ignore_ascii_case(other)
     }
 
-    /// Adds a component. Its package and type are chosen at the end.
+    /// Adds a component. Its package, type and place are chosen at the end.
     pub fn component(&mut self, name: Field, parent: Field, array_index: Field) -> u32 {
         let row = self.sheet.components.len();
         if row == TABLE_ROWS {
@@ -99,6 +99,17 @@ impl Draft {
         row as u32
     }
 
+    /// Adds a sibling of a component that is alike but for its place: a connection that finds the one finds both.
+    pub fn namesake(&mut self, component: u32) -> u32 {
+        let row = self.sheet.components.len();
+        if row == TABLE_ROWS {
+            return component;
+        }
+        let fields = self.sheet.components[component as usize];
+        self.sheet.components.push(fields);
+        row as u32
+    }
+
     /// The root, added if it is not there yet.
     pub fn root(&mut self) -> u32 {
         if self.sheet.components.is_empty() {
@@ -108,15 +119,16 @@ impl Draft {
         0
     }
 
-    pub fn children(&self, owner: u32) -> Vec<u32> {
-        let rows = self.sheet.components.iter().zip(0..);
-        rows.filter(|(fields, _)| fields[component::PARENT] == Some(owner))
-            .map(|(_, row)| row)
-            .collect()
-    }
-
     pub fn component_name(&self, component: u32) -> String {
         self.text(self.sheet.components[component as usize][component::NAME])
+    }
+
+    pub fn place(&self, component: u32) -> u32 {
+        self.sheet.components[component as usize][component::PLACE].expect("a place")
+    }
+
+    pub fn set_place(&mut self, component: u32, place: u32) {
+        self.sheet.components[component as usize][component::PLACE] = Some(place);
     }
 
     pub fn set_classifier(&mut self, component: u32, package: Field, type_name: Field) {

@@ -401,7 +401,7 @@ impl Draft {
 
     /// A child of the owner and a group feature of it.
     fn group_end(&mut self, owner: u32) -> [Field; 2] {
-        let children = self.children(owner);
+        let children = self.sheet.children(owner);
         if children.is_empty() || self.random.chance(5) {
             let text = self.random.pick(GROUP_FEATURES);
             return [self.subcomponent(owner), self.spelled(text, 15)];

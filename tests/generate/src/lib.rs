@@ -1,5 +1,5 @@
 //! Seeded sheets for comparing readers and listings: the same seed gives the
-//! same sheet, for ever.
+//! same sheet, as long as the sheet has this form.
 //!
 //! Accepted sheets are dense in what the rules of document 01 are about;
 //! damaged sheets earn every refusal that a sheet can reach.
@@ -8,6 +8,7 @@ mod accepted;
 mod damaged;
 mod draft;
 mod groups;
+mod places;
 mod random;
 mod resolving;
 mod sizes;

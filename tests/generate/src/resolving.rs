@@ -184,21 +184,32 @@ impl Draft {
         }
     }
 
-    /// A component of each package's device type.
+    /// A component of each package's device type. Sometimes two have one name,
+    /// of which the first by its place is found.
     fn devices(&mut self, names: &Names) {
         self.root();
         let (package, device) = (self.some_package_name(names), self.name("dev"));
         self.set_classifier(0, package, device);
-        for package in 0..names.packages.len() {
-            let name = self.name(&format!("s{package}"));
-            let row = self.component(name, Some(0), None);
-            let home = self.sheet.packages[package][package::NAME];
-            let device = self.spelled("dev", 10);
-            self.set_classifier(row, home, device);
-            for number in 0..GROUPS {
-                let group = self.spelled(&format!("g{number}"), 8);
-                self.feature(group, row, FEATURE_GROUP);
-            }
+        let packages = names.packages.len();
+        for package in 0..packages {
+            self.device(package, package);
+        }
+        if self.random.chance(40) {
+            let (number, package) = (self.random.below(packages), self.random.below(packages));
+            self.device(number, package);
+        }
+    }
+
+    /// The device with this number, of a package's device type.
+    fn device(&mut self, number: usize, package: usize) {
+        let name = self.name(&format!("s{number}"));
+        let row = self.component(name, Some(0), None);
+        let home = self.sheet.packages[package][package::NAME];
+        let device = self.spelled("dev", 10);
+        self.set_classifier(row, home, device);
+        for number in 0..GROUPS {
+            let group = self.spelled(&format!("g{number}"), 8);
+            self.feature(group, row, FEATURE_GROUP);
         }
     }
 

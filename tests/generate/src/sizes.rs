@@ -1,13 +1,14 @@
 //! Models at the edges of the depth limit, the visit limit and the sizes of
 //! `conlist`'s outputs, a little below and a little above.
 
-use oracle::letters::connection;
+use oracle::letters::{Field, connection};
 
 use crate::draft::{Draft, FEATURE_GROUP, GROUP_CONNECTION, Holder, NO_REFERENCE};
 
 impl Draft {
     /// The root with two children of one type, both with a group feature of the
-    /// group type that is handed back, and a connection between them.
+    /// group type that is handed back, and a connection between them. Sometimes
+    /// a child is there twice, and then mostly with the group feature twice.
     pub fn two_ends(&mut self) -> u32 {
         let package_name = self.name("p");
         let package = self.package(package_name).expect("the first package");
@@ -29,8 +30,26 @@ impl Draft {
         for component in 0..3 {
             self.set_classifier(component, package_name, device_name);
         }
+        for end in 1..3 {
+            if self.random.chance(25) {
+                let twin = self.namesake(end);
+                if self.random.chance(85) {
+                    self.feature(bus, twin, FEATURE_GROUP);
+                }
+            }
+        }
         self.connection(0, GROUP_CONNECTION, [left, bus, right, bus]);
         group_type
+    }
+
+    /// Gives an end, and the child with its name, one more group feature.
+    fn group_feature_of_end(&mut self, feature: Field, end: u32) {
+        let name = self.component_name(end);
+        for child in self.sheet.children(0) {
+            if self.component_name(child) == name {
+                self.feature(feature, child, FEATURE_GROUP);
+            }
+        }
     }
 
     fn plain_feature(&mut self, group_type: u32, text: &str, kind: u32) {
@@ -187,7 +206,7 @@ impl Draft {
         let link = self.name("link");
         let reference = [None, self.group_type_name(other), None];
         self.declared_feature(Holder::Type(0), link, FEATURE_GROUP, reference);
-        self.feature(link, 2, FEATURE_GROUP);
+        self.group_feature_of_end(link, 2);
         self.sheet.connections[0][connection::DESTINATION_FEATURE] = link;
         for number in 0..self.random.below(5) {
             self.plain_feature(other, &format!("k{number}"), 0);
@@ -234,8 +253,8 @@ impl Draft {
         }
         let load = self.name("load");
         self.declared_feature(Holder::Type(0), load, FEATURE_GROUP, [None, name, None]);
-        self.feature(load, 1, FEATURE_GROUP);
-        self.feature(load, 2, FEATURE_GROUP);
+        self.group_feature_of_end(load, 1);
+        self.group_feature_of_end(load, 2);
         let (left, right) = (self.name("l"), self.name("r"));
         self.connection(0, GROUP_CONNECTION, [left, load, right, load]);
     }

@@ -56,6 +56,11 @@ impl Draft {
         self.root();
         for _ in 0..count {
             let used = self.sheet.components.len();
+            if used > 1 && self.random.chance(15) {
+                let twin = self.random.range(1, used - 1);
+                self.namesake(twin as u32);
+                continue;
+            }
             let parent = match self.random.chance(45) {
                 true => used - 1 - self.random.below(used.min(3)),
                 false => self.random.below(used),
@@ -90,7 +95,7 @@ impl Draft {
         }
         for _ in 0..6 {
             let owner = self.random.below(self.sheet.components.len()) as u32;
-            if !self.children(owner).is_empty() {
+            if !self.sheet.children(owner).is_empty() {
                 return owner;
             }
         }
@@ -100,7 +105,7 @@ impl Draft {
     /// A subcomponent as a connection of the owner names it: mostly there, as
     /// it is spelled, by its base name, or in another case.
     pub fn subcomponent(&mut self, owner: u32) -> Field {
-        let children = self.children(owner);
+        let children = self.sheet.children(owner);
         if children.is_empty() || self.random.chance(5) {
             let name = self.random.pick(CHILD_NAMES);
             return self.spelled(name, 20);
@@ -180,7 +185,10 @@ impl Draft {
             true => "cmd".to_string(),
             false => format!("{tag}f{step}"),
         };
-        let (start, mut current) = self.link(0, tag, 0);
+        let twins: Vec<usize> = (0..self.random.below(3))
+            .map(|_| self.random.below(steps + 1))
+            .collect();
+        let (start, mut current) = self.link(0, tag, 0, twins.contains(&0));
         let start_feature = self.name(&feature_name(0));
         let branches = self.random.below(4);
         let branching: Vec<usize> = (0..branches)
@@ -189,7 +197,8 @@ impl Draft {
         for step in 0..steps {
             let outer = self.name(&feature_name(step));
             let inner = self.name(&feature_name(step + 1));
-            let (child, next) = self.link(current, tag, step + 1);
+            let twice = twins.contains(&(step + 1));
+            let (child, next) = self.link(current, tag, step + 1, twice);
             let kind = self.random.below(5) as u32;
             self.step(side, current, kind, (child, inner), outer);
             if branching.contains(&step) && self.sheet.components.len() < 90 {
@@ -207,9 +216,10 @@ impl Draft {
         (start, start_feature)
     }
 
-    /// A child of a chain, sometimes an array element. Gives the name by which
-    /// a connection finds it, and its row.
-    fn link(&mut self, parent: u32, tag: &str, step: usize) -> (Field, u32) {
+    /// A child of a chain, sometimes an array element, and where it is there
+    /// twice a second one, at which the chain ends. Gives the name by which a
+    /// connection finds it, and its row.
+    fn link(&mut self, parent: u32, tag: &str, step: usize, twice: bool) -> (Field, u32) {
         let element = self.random.chance(25);
         let text = match element {
             true => format!("{tag}{step}[1]"),
@@ -218,6 +228,9 @@ impl Draft {
         let array_index = element.then(|| self.random.below(4) as u32);
         let name = self.name(&text);
         let row = self.component(name, Some(parent), array_index);
+        if twice {
+            self.namesake(row);
+        }
         let found_by = match element && self.random.chance(60) {
             true => self.spelled(base_name(&text), 40),
             false => self.name(&text),

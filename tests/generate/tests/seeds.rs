@@ -1,10 +1,12 @@
 //! Generated sheets are what they are said to be, the original answers them, and
-//! a seed gives the same sheet for ever.
+//! a seed gives the sheet that is stored of it.
 
 use std::fs;
 
 use generate::{Sort, case};
 use oracle::model::Renames;
+use oracle::places;
+use oracle::sheet::Sheet;
 use oracle::stream::{self, Case};
 use oracle::{NoAnswer, Options, conlist};
 
@@ -29,6 +31,29 @@ fn accepted_sheets_are_answered_and_have_no_wild_names() {
         assert!(answer.is_ok(), "{label}");
         assert_eq!(answer, conlist(&sheet, exact), "{label}");
     }
+}
+
+/// Half of the sheets that have siblings, and not all of them.
+#[test]
+fn siblings_stand_in_another_order_than_their_rows() {
+    let (mut with_siblings, mut parted) = (0, 0);
+    for seed in seeds() {
+        let sheet = Sheet::accepted(&case(Sort::Accepted, seed).sheet).expect("accepted");
+        let mut owners = 0..sheet.components.len() as u32;
+        with_siblings += usize::from(owners.any(|owner| sheet.children(owner).len() > 1));
+        parted += usize::from(places::part_from_rows(&sheet));
+    }
+    assert!(with_siblings / 2 <= parted && parted < with_siblings);
+}
+
+#[test]
+fn places_decide_on_a_fifth_of_the_accepted_sheets() {
+    let mut decided = 0;
+    for seed in seeds() {
+        let sheet = Sheet::accepted(&case(Sort::Accepted, seed).sheet).expect("accepted");
+        decided += usize::from(places::decide(&sheet, Renames::Text));
+    }
+    assert!(5 * decided >= seeds().count(), "{decided}");
 }
 
 #[test]

@@ -155,6 +155,7 @@ letters! {
         PACKAGE: needed(Name),
         TYPE: needed(Name),
         PATTERN: optional(Name),
+        PLACE: needed(Any),
     }
     /// F: features.
     b'F' feature in features {

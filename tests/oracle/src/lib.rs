@@ -10,6 +10,7 @@ pub mod group;
 pub mod letters;
 pub mod listing;
 pub mod model;
+pub mod places;
 pub mod resolve;
 pub mod sheet;
 pub mod stream;

@@ -85,7 +85,7 @@ pub fn put_numbers<T: std::fmt::Display>(text: &mut String, numbers: impl IntoIt
 /// The refusals before any listing, which the original does not know: those of
 /// the sheet and its lines, and those of the tables.
 pub const REFUSALS_OF_LINES: [u64; 5] = [1, 2, 3, 4, 5];
-pub const REFUSALS_OF_TABLES: [u64; 5] = [6, 7, 8, 9, 10];
+pub const REFUSALS_OF_TABLES: [u64; 6] = [6, 7, 8, 9, 10, 16];
 
 pub fn is_before_the_listings(refusal: u64) -> bool {
     REFUSALS_OF_LINES.contains(&refusal) || REFUSALS_OF_TABLES.contains(&refusal)

@@ -1,7 +1,8 @@
 //! The original's instance and scope, built from the tables of a sheet.
 //!
-//! A child, feature, connection or import list is all rows that name the owner,
-//! ascending. There is one item tree, so an arena index is a row.
+//! A feature, connection or import list is all rows that name the owner,
+//! ascending; a child list has them in the order of their places. There is one
+//! item tree, so an arena index is a row.
 
 use std::sync::Arc;
 
@@ -377,6 +378,7 @@ fn add_component(
 ) {
     let fields = &sheet.components[row];
     let own = Some(row as u32);
+    let children = sheet.children(row as u32);
     let added = instance.components.alloc(ComponentInstance {
         name: name(sheet, fields[component::NAME]),
         category: ComponentCategory::System,
@@ -384,7 +386,7 @@ fn add_component(
         impl_name: None,
         package: name(sheet, fields[component::PACKAGE]),
         parent: fields[component::PARENT].map(index),
-        children: rows_where(&sheet.components, |other| other[component::PARENT] == own),
+        children: children.into_iter().map(index).collect(),
         features: rows_where(&sheet.features, |other| other[feature::OWNER] == own),
         connections: rows_where(connections, |other| other[connection::OWNER] == own),
         flows: vec![],

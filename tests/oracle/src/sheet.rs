@@ -33,6 +33,7 @@ impl Sheet {
         let sheet = read(bytes)?;
         let accepted = numbers_in_range(&sheet)
             && components_form_a_tree(&sheet)
+            && places_differ(&sheet)
             && references_are_whole(&sheet)
             && keys_differ(&sheet);
         accepted.then_some(sheet)
@@ -41,6 +42,17 @@ impl Sheet {
     /// The name with the number in a field that is not missing.
     pub fn name(&self, field: Field) -> &str {
         &self.names[field.expect("a name number") as usize]
+    }
+
+    /// The children of a component, in the order of their places.
+    pub fn children(&self, owner: u32) -> Vec<u32> {
+        let rows = self.components.iter().zip(0..);
+        let mut children: Vec<u32> = rows
+            .filter(|(fields, _)| fields[component::PARENT] == Some(owner))
+            .map(|(_, row)| row)
+            .collect();
+        children.sort_by_key(|&row| self.components[row as usize][component::PLACE]);
+        children
     }
 
     /// The lines of the sheet, without their LF.
@@ -182,6 +194,13 @@ fn components_form_a_tree(sheet: &Sheet) -> bool {
     };
     let mut others = others.iter().zip(1..);
     others.all(|(parent, own)| parent.is_some_and(|parent| parent < own))
+}
+
+/// No two children of one parent have the same place. The root, which has no parent, has no siblings either.
+fn places_differ(sheet: &Sheet) -> bool {
+    let mut seen = HashSet::new();
+    let mut components = sheet.components.iter();
+    components.all(|row| seen.insert((row[component::PARENT], row[component::PLACE])))
 }
 
 fn references_are_whole(sheet: &Sheet) -> bool {

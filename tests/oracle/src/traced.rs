@@ -201,19 +201,18 @@ impl Chains<'_> {
 
 /// The original's private `find_children_by_name`, restated.
 pub fn children_by_name(sheet: &Sheet, owner: u32, wanted: &str) -> Vec<u32> {
-    let children = || {
-        let rows = sheet.components.iter().zip(0..);
-        rows.filter(move |(fields, _)| fields[component::PARENT] == Some(owner))
-    };
-    let equal = children().filter(|(fields, _)| sheet.name(fields[component::NAME]) == wanted);
-    let equal: Vec<u32> = equal.map(|(_, row)| row).collect();
+    let fields = |child: u32| &sheet.components[child as usize];
+    let name = |child: u32| sheet.name(fields(child)[component::NAME]);
+    let children = sheet.children(owner);
+    let mut equal = children.clone();
+    equal.retain(|&child| name(child) == wanted);
     if !equal.is_empty() || wanted.contains('[') {
         return equal;
     }
-    let elements = children().filter(|(fields, _)| {
-        let name = sheet.name(fields[component::NAME]);
-        let base = name.split('[').next().unwrap_or(name);
-        fields[component::ARRAY_INDEX].is_some() && base.eq_ignore_ascii_case(wanted)
+    let mut elements = children;
+    elements.retain(|&child| {
+        let base = name(child).split('[').next().unwrap_or(name(child));
+        fields(child)[component::ARRAY_INDEX].is_some() && base.eq_ignore_ascii_case(wanted)
     });
-    elements.map(|(_, row)| row).collect()
+    elements
 }

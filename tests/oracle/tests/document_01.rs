@@ -1,4 +1,4 @@
-//! What document 01 itself gives: its run, which is an example too, and its trial rows.
+//! What document 01 itself gives: its run, as document 02 has changed its sheet, which is an example too, and its trial rows.
 
 use std::fs;
 
@@ -31,18 +31,36 @@ fn file(path: &str) -> String {
     fs::read_to_string(&path).unwrap_or_else(|error| panic!("{path}: {error}"))
 }
 
-/// The sheet and the list of the run in document 01, which has the sheet's names in words.
+/// The places that document 02 gives to the components of the run, from its sentence about them.
+fn places_of_the_run() -> Vec<u32> {
+    let page = file("docs/02-change-requests.md");
+    let (_, places) = page.split_once("01's run gains the places ").unwrap();
+    let (places, _) = places.split_once(" and follows").unwrap();
+    let places = places.split(", ").map(|place| place.parse().unwrap());
+    places.collect()
+}
+
+/// The sheet and the list of the run in document 01, which has the sheet's names in words and no places.
 fn run_of_the_document() -> (String, String) {
     let page = file("docs/01-scope.md");
     let (_, run) = page.split_once("Input, after `N` lines ").unwrap();
     let (names, run) = run.split_once(":\n```\n").unwrap();
     let (rows, run) = run.split_once("```\nOutput:\n```\n").unwrap();
     let (list, _) = run.split_once("```\n").unwrap();
-    let names: String = names
+    let mut sheet: String = names
         .split(", ")
         .map(|name| format!("N {name}\n"))
         .collect();
-    (names + rows, list.to_string())
+    let mut places = places_of_the_run().into_iter();
+    for row in rows.lines() {
+        sheet += row;
+        if row.starts_with('C') {
+            sheet += &format!("{:>6}", places.next().unwrap());
+        }
+        sheet += "\n";
+    }
+    assert_eq!(places.next(), None);
+    (sheet, list.to_string())
 }
 
 #[test]

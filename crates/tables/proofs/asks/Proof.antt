@@ -29,6 +29,9 @@ enum-told-7 c = search needs
 enum-told-8 : tie.Need-enum-told-8
 enum-told-8 c = search needs
 
+enum-told-9 : tie.Need-enum-told-9
+enum-told-9 c = search needs
+
 returns : tie.Need-returns
 returns c = sym (ap asked (c .before .before .enum-told .given .1))
 
@@ -53,6 +56,9 @@ returns-7 c = sym (ap asked (c .before .before .enum-told7 .given .1))
 returns-8 : tie.Need-returns-8
 returns-8 c = sym (ap asked (c .before .before .enum-told8 .given .1))
 
+returns-9 : tie.Need-returns-9
+returns-9 c = sym (ap asked (c .before .before .enum-told9 .given .1))
+
 pub asks-spec : {M : Type 1} → statement M
 asks-spec =
     tie.close
@@ -65,6 +71,7 @@ asks-spec =
     enum-told-6
     enum-told-7
     enum-told-8
+    enum-told-9
     returns
     returns-2
     returns-3
@@ -72,4 +79,5 @@ asks-spec =
     returns-5
     returns-6
     returns-7
-    returns-8)
+    returns-8
+    returns-9)

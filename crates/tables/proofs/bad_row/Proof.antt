@@ -5,7 +5,7 @@ use Prim.Native.Nat.{ℕ}
 use native.Mathlib.Omega.{arith}
 use lib.Dec.{eqb}
 use borrow.Author.Needs.{needs}
-use Rattle.tables.specs.declared.Rule.the-variants.{Whole, Few, Names, Fields, Root, Parents, Ends, Keys}
+use Rattle.tables.specs.declared.Rule.the-variants.{Whole, Few, Names, Fields, Root, Parents, Places, Ends, Keys}
 use Rattle.tables.specs.declared.Rule.{Rule}
 use Rattle.tables.specs.Tests.{parentBad}
 use Rattle.tables.specs.Order.{badRow}
@@ -78,16 +78,22 @@ bad-parent-requires c κs = search needs
 enum-told-7 : tie.Need-enum-told-7
 enum-told-7 c = search needs
 
+key-taken-requires : tie.Need-key-taken-requires
+key-taken-requires c κs = search needs
+
+enum-told-8 : tie.Need-enum-told-8
+enum-told-8 c = search needs
+
 bad-ends-requires : tie.Need-bad-ends-requires
 bad-ends-requires c κs =
     let s = c .before .before .before .before .before in
     row-start (s .args .k) (s .args .i) (s .pre .0) (s .pre .1)
 
-enum-told-8 : tie.Need-enum-told-8
-enum-told-8 c = search needs
+enum-told-9 : tie.Need-enum-told-9
+enum-told-9 c = search needs
 
-key-taken-requires : tie.Need-key-taken-requires
-key-taken-requires c κs = search needs
+key-taken-requires-2 : tie.Need-key-taken-requires-2
+key-taken-requires-2 c κs = search needs
 
 returns : tie.Need-returns
 unfolding badRow
@@ -115,11 +121,15 @@ returns-6 c = told (c .before .before .before .before .before .before .before) _
 
 returns-7 : tie.Need-returns-7
 unfolding badRow
-returns-7 c = told (c .before .before .before .before .before .before) _ Ends (c .before .enum-told7 .given .1) (c .bad-ends .ensures)
+returns-7 c = told (c .before .before .before .before .before .before) _ Places (c .before .enum-told7 .given .1) (c .key-taken .ensures)
 
 returns-8 : tie.Need-returns-8
 unfolding badRow
-returns-8 c = told (c .before .before .before .before .before .before) _ Keys (c .before .enum-told8 .given .1) (c .key-taken .ensures)
+returns-8 c = told (c .before .before .before .before .before .before) _ Ends (c .before .enum-told8 .given .1) (c .bad-ends .ensures)
+
+returns-9 : tie.Need-returns-9
+unfolding badRow
+returns-9 c = told (c .before .before .before .before .before .before) _ Keys (c .before .enum-told9 .given .1) (c .key-taken2 .ensures)
 
 pub bad-row-spec : {M : Type 1} → statement M
 bad-row-spec =
@@ -142,9 +152,11 @@ bad-row-spec =
     number-at-requires
     bad-parent-requires
     enum-told-7
-    bad-ends-requires
-    enum-told-8
     key-taken-requires
+    enum-told-8
+    bad-ends-requires
+    enum-told-9
+    key-taken-requires-2
     returns
     returns-2
     returns-3
@@ -152,4 +164,5 @@ bad-row-spec =
     returns-5
     returns-6
     returns-7
-    returns-8)
+    returns-8
+    returns-9)
