@@ -15,7 +15,8 @@ HEADER = re.compile(rb"V([ 0-9]{5}[0-9])([ 0-9]{5}[0-9]) (.*)\Z", re.DOTALL)
 
 
 def columns(numbers):
-    """Numbers as they stand in a case."""
+    """Numbers as they stand in a case: of six digits at most, or 4294967295."""
+    assert all(number == MISSING or number <= 999999 for number in numbers)
     return b"".join(b"     -" if number == MISSING else b"%6d" % number for number in numbers)
 
 

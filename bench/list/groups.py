@@ -8,6 +8,9 @@ import sys
 
 ROWS, NAMES, BYTES = 96, 256, 16384
 
+# The columns that a field of a letter takes where they are not six: the array index of C.
+COLUMNS = {("C", 2): 20}
+
 
 class Sheet:
     def __init__(self):
@@ -23,11 +26,14 @@ class Sheet:
         self.rows[letter].append(fields)
         return len(self.rows[letter]) - 1
 
+    def line(self, letter, row):
+        fields = ["-" if field is None else str(field) for field in row]
+        return letter + "".join(field.rjust(COLUMNS.get((letter, k), 6)) for k, field in enumerate(fields))
+
     def text(self):
         lines = ["N " + name for name in self.names]
         for letter, rows in self.rows.items():
-            for row in rows:
-                lines.append(letter + "".join("%6s" % ("-" if field is None else field) for field in row))
+            lines += [self.line(letter, row) for row in rows]
         text = "".join(line + "\n" for line in lines)
         assert len(text) <= BYTES and len(self.names) <= NAMES, (len(text), len(self.names))
         assert all(len(rows) <= ROWS for rows in self.rows.values()), {k: len(v) for k, v in self.rows.items()}

@@ -54,8 +54,11 @@ fn read(sheet: &[u8], tables: &mut Tables) -> u64 {
     told[0]
 }
 
-fn row(letter: char, width: usize, count: usize) -> String {
-    format!("{letter}{}\n", format!("{:6}", 12345).repeat(width)).repeat(count)
+/// So many lines of a letter with so many fields, each of six columns, but for the array index of C, which has twenty.
+fn row(letter: char, fields: usize, count: usize) -> String {
+    let columns = |field: usize| if (letter, field) == ('C', 2) { 20 } else { 6 };
+    let line: String = (0..fields).map(|field| format!("{:1$}", 12345, columns(field))).collect();
+    format!("{letter}{line}\n").repeat(count)
 }
 
 /// A sheet of 16,384 bytes: `text`, then as many names in front as fill it up.

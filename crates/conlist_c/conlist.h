@@ -1,7 +1,9 @@
 /* The library for C. Each slice crosses as two arguments, a pointer and a count; an answer is told in numbers.
 
    No pointer is null, and no slice that is written overlaps another. A slice of `uint32_t` holds whole rows, one behind the other: of the tables
-   N C F X P I T Q U E R a row has 2 7 3 7 1 2 3 4 9 8 5 numbers, of a listing 49, of diagnostics 4, of an expansion 14. A number that is missing is
+   N C F X P I T Q U E R a row has 2 9 3 7 1 2 3 4 9 8 5 numbers, of a listing 49, of diagnostics 4, of an expansion 14. The numbers of a C row are name,
+   parent, present, high, low, package, type, pattern and place. Present, high and low are the array index, of 64 bits: 1, its high 32 bits and its low 32
+   bits, or three zeros where it is missing; with present above 1, or 0 and other bits set, a call refuses with 6. Any other number that is missing is
    4294967295. `bytes` holds the bytes of the tables' names, and `names` takes the three names of each group row, unseparated.
 
    Afterwards an output holds its rows from the front and zeros behind, or zeros alone where the call refuses; that of text holds the list, or the

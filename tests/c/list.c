@@ -1,5 +1,6 @@
 /* Prints the connection list of a sheet on standard input, as conlist does; then reads the sheet into tables, and sees that the calls over tables
-   agree with one another: the listings each by itself and both in one call, and diagnostics as numbers and as records. */
+   agree with one another: the listings each by itself and both in one call, and diagnostics as numbers and as records. Last it changes the array
+   indices: any bits list the same, and numbers that no index has are refused. */
 #include "conlist.h"
 #include <stdio.h>
 #include <stdlib.h>
@@ -11,7 +12,7 @@
 /* the letters in their order, each with the numbers of a row and the rows that are lent */
 #define LETTERS(EACH)                                                                                                  \
     EACH(n, 2, 256)                                                                                                    \
-    EACH(c, 7, 96)                                                                                                     \
+    EACH(c, 9, 96)                                                                                                     \
     EACH(f, 3, 96)                                                                                                     \
     EACH(x, 7, 96)                                                                                                     \
     EACH(p, 1, 96)                                                                                                     \
@@ -36,6 +37,9 @@ static uint64_t read[numbers_told];
 
 #define NUMBERS_OF(letter, numbers, rows) numbers_of_##letter = numbers,
 enum { LETTERS(NUMBERS_OF) };
+
+/* the three numbers of an array index in a row of C: whether there is one, its high 32 bits and its low 32 bits */
+enum { index_present = 2, index_high, index_low };
 
 /* the outputs of a listing by itself, and of both in one call */
 static uint32_t rows[64 * 49], diagnostics[64 * 4], group_rows[64 * 49], group_diagnostics[64 * 4], features[64 * 14];
@@ -76,6 +80,30 @@ static void expect_group(void) {
     expect(memcmp(both_group_diagnostics, group_diagnostics, sizeof group_diagnostics) == 0,
            "other numbers of group diagnostics");
     expect(memcmp(group_records, group_diagnostics, sizeof group_diagnostics) == 0, "another group record");
+}
+
+/* Array indices of all bits list the same. */
+static void expect_any_index(void) {
+    for (uint64_t row = 0; row < read[rows_of_c]; row++) {
+        uint32_t *component = &c[row * numbers_of_c];
+        if (component[index_present] == 1) component[index_high] = component[index_low] = UINT32_MAX;
+    }
+    uint64_t told[3];
+    conlist_compute_semantic_connections(TABLES, WHOLE(both_rows), WHOLE(both_diagnostics), told);
+    expect(told[0] == 0, "array indices of all bits are refused");
+    expect(memcmp(both_rows, rows, sizeof rows) == 0 && memcmp(both_diagnostics, diagnostics, sizeof diagnostics) == 0,
+           "another traced list with array indices of all bits");
+}
+
+/* The last component with these numbers in place of its array index is refused 6 at its row. */
+static void expect_no_index(uint32_t present, uint32_t high, uint32_t low) {
+    uint64_t last = read[rows_of_c] - 1, told[3];
+    uint32_t *component = &c[last * numbers_of_c];
+    component[index_present] = present;
+    component[index_high] = high;
+    component[index_low] = low;
+    conlist_check_tables(TABLES, told);
+    expect(told[0] == 6 && told[1] == last && told[2] == 'C', "numbers that no array index has are not refused");
 }
 
 int main(void) {
@@ -125,5 +153,11 @@ int main(void) {
         for (size_t place = expanded[1] * 14; place < COUNT(features); place++)
             expect(features[place] == 0, "unused output of features is not zero");
     }
+
+    expect_any_index();
+    expect_no_index(2, 0, 0);
+    expect_no_index(UINT32_MAX, 0, 0);
+    expect_no_index(0, 1, 0);
+    expect_no_index(0, 0, 1);
     return 0;
 }

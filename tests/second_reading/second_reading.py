@@ -25,6 +25,10 @@ _DROP = ("`parse_connection_pattern` drops round brackets, commas, spaces, tabs,
 _PLACE = "The `C` line gains a field after pattern, the place among siblings."
 _BY_PLACE = "Pairs, chains and the first found child follow that place from then on."
 _BY_ROW = "Demand 2 covers child lists in any order; connections still go by row."
+_LONG = "The third field of `C` becomes twenty columns for 64 bits, as in the Rust."
+_BITS = ("In the tables three columns hold it, present 0 or 1, high 32 bits, low 32 bits, so no number "
+         "stands for missing; present above 1, or 0 with other bits set, is the existing 6.")
+_LARGEST = "18,446,744,073,709,551,615 is taken; one more is refused by the existing 4."
 _STEP = ("a connection of that component with a source subcomponent, no destination subcomponent, "
          "its destination feature byte-equal, and one found child.")
 _CHILD = ("byte-equal names; if none and the wanted name has no `[`, children with an array index "
@@ -95,6 +99,12 @@ RULES = {
     "4: C line without its place": _PLACE,
     "4: field is no right-justified number": _COLUMNS,
     "4: leading zero": _COLUMNS,
+    "4: C line with an index of six columns": _LONG,
+    "4: array index too large": _LARGEST,
+    "4: array index 18,446,744,073,709,551,616": _LARGEST,
+    "4: array index with a leading zero": _COLUMNS,
+    "4: array index, - not in the last column": _LONG,
+    "4: array index is no right-justified number": _COLUMNS,
     "4: missing where not allowed": "A lone `-` in the last column means missing, allowed only in fields marked ?.",
     "4: N without its space": _NAME,
     "4: name length": _NAME,
@@ -183,6 +193,12 @@ RULES = {
     "array rule with other case": _CHILD,
     "array rule needs an array index": _CHILD,
     "array index 0 is an index": _CHILD,
+    "array index of over six digits": _LONG,
+    "array index 4,294,967,295": _BITS,
+    "array index of 2^32 or more": _LONG,
+    "array index with low bits 0": _BITS,
+    "array index of twenty digits": _LONG,
+    "array index 18,446,744,073,709,551,615": _LARGEST,
     "wanted name with [ has no array rule": _CHILD,
     "no child found": _CHILD,
     # pattern
@@ -277,6 +293,9 @@ RULES = {
 RULES_BEYOND_SHEETS = {
     "5: byte table": _5,
     "6: missing place": "In the tables a missing place is the existing 6.",
+    "6: present above 1": _BITS,
+    "6: high bits of a missing index": _BITS,
+    "6: low bits of a missing index": _BITS,
     "10: no whole number of rows": _10,
     "10: over 4,096 rows": _10,
     "10: name past the byte table": _10,
@@ -301,9 +320,9 @@ def mark(rule, when=True):
 Field = collections.namedtuple("Field", "name holds may_be_missing columns numbers")
 
 # A name number; a row of T or of U, by the row's holder kind; any number but that
-# of a missing field. A letter stands for a row of its table, (word, n) for a number
-# 0 to n.
-NAME, HOLDER, ANY = "name number", "holder row", "any number"
+# of a missing field; any number of 64 bits. A letter stands for a row of its table,
+# (word, n) for a number 0 to n.
+NAME, HOLDER, ANY, LONG = "name number", "holder row", "any number", "long number"
 KIND = ("kind", 9)
 FLAG = ("flag", 1)
 
@@ -324,10 +343,12 @@ def reference(word):
 
 
 # "Letters stand in this order"; "The `C` line gains a field after pattern, the place
-# among siblings." (02, i)
+# among siblings." (02, i) "The third field of `C` becomes twenty columns for 64 bits";
+# "In the tables three columns hold it" (02, ii)
 FIELDS = {
-    "C": [field("name", NAME), field("parent?", "C"), field("array_index?", ANY),
-          field("package", NAME), field("type", NAME), field("pattern?", NAME), field("place", ANY)],
+    "C": [field("name", NAME), field("parent?", "C"),
+          field("array_index?", LONG, columns=20, numbers=3), field("package", NAME),
+          field("type", NAME), field("pattern?", NAME), field("place", ANY)],
     "F": [field("name", NAME), field("owner", "C"), field("kind", KIND)],
     "X": [field("name", NAME), field("owner", "C"), field("kind", ("kind", 4)),
           field("source_subcomponent?", NAME), field("source_feature?", NAME),
@@ -357,26 +378,37 @@ WIDTH = {letter: sum(form.numbers for form in forms) for letter, forms in FIELDS
 WIDTH["N"] = len(ROWS["N"]._fields)
 LINE = {letter: 1 + sum(form.columns for form in forms) for letter, forms in FIELDS.items()}
 
+# A C line whose array index has six columns, as in 01, and not twenty.
+LINE_WITH_SHORT_INDEX = LINE["C"] - (20 - 6)
+
 # "a missing field as 4,294,967,295"
 MISSING = 4294967295
 
+# "18,446,744,073,709,551,615 is taken" (02, ii)
+LARGEST_LONG = 18446744073709551615
+LOW_BITS = 0xFFFFFFFF
 
+
+# "In the tables three columns hold it, present 0 or 1, high 32 bits, low 32 bits, so no
+# number stands for missing" (02, ii)
 def numbers_of(form, value):
-    """The numbers of the row that a field takes: the low one first, if several."""
-    if value is None:
-        return [MISSING] * form.numbers
-    assert value >> 32 * form.numbers == 0
-    return [value >> 32 * part & 0xFFFFFFFF for part in range(form.numbers)]
+    """The numbers of the row that a field takes. A tuple is these numbers themselves."""
+    if isinstance(value, tuple):
+        return list(value)
+    if form.holds == LONG:
+        return [0, 0, 0] if value is None else [1, value >> 32, value & LOW_BITS]
+    return [MISSING if value is None else value]
 
 
 def value_of(form, numbers):
-    """The value of a field with these numbers; None where it is missing."""
-    if form.may_be_missing and numbers == [MISSING] * form.numbers:
-        return None
-    value = 0
-    for number in reversed(numbers):
-        value = value << 32 | number
-    return value
+    """The value of a field with these numbers; None where it is missing. A long number that
+    these cannot stand for is the tuple of them."""
+    if form.holds == LONG:
+        present, high, low = numbers
+        if present == 1:
+            return high << 32 | low
+        return None if present == high == low == 0 else tuple(numbers)
+    return None if form.may_be_missing and numbers == [MISSING] else numbers[0]
 
 
 def row_of(letter, numbers):
@@ -437,7 +469,8 @@ NUMBER = re.compile(rb" *(0|[1-9][0-9]*)\Z")
 
 # "a letter, then decimal fields of six columns, right-justified with spaces, no
 # leading zeros. A lone `-` in the last column means missing, allowed only in
-# fields marked ?."
+# fields marked ?." "18,446,744,073,709,551,615 is taken; one more is refused by the
+# existing 4." (02, ii)
 def read_field(columns, form):
     """The field's numbers of the row, or None where it is against the rules."""
     if columns.lstrip(b" ") == b"-":
@@ -445,11 +478,25 @@ def read_field(columns, form):
         return numbers_of(form, None) if form.may_be_missing else None
     found = NUMBER.match(columns)
     if not found:
-        digits = columns.lstrip(b" ")
-        zero = digits.isdigit() and digits.startswith(b"0")
-        mark("4: leading zero" if zero else "4: field is no right-justified number")
+        mark_no_number(columns, form)
         return None
-    return numbers_of(form, int(found.group(1)))
+    value = int(found.group(1))
+    if form.holds == LONG and value > LARGEST_LONG:
+        mark("4: array index too large")
+        mark("4: array index 18,446,744,073,709,551,616", value == LARGEST_LONG + 1)
+        return None
+    return numbers_of(form, value)
+
+
+def mark_no_number(columns, form):
+    """For the marks only: why a field is no number."""
+    digits = columns.lstrip(b" ")
+    zero = digits.isdigit() and digits.startswith(b"0")
+    mark("4: leading zero" if zero else "4: field is no right-justified number")
+    if form.holds == LONG:
+        mark("4: array index with a leading zero" if zero
+             else "4: array index, - not in the last column" if columns.strip(b" ") == b"-"
+             else "4: array index is no right-justified number")
 
 
 def read_row(letter, line):
@@ -514,6 +561,8 @@ def read_sheet(sheet, bytes_room, rooms):
                 mark("4: length of the line")
                 mark("4: C line without its place",
                      letter == "C" and len(line) == LINE["C"] - FIELDS["C"][-1].columns)
+                mark("4: C line with an index of six columns",
+                     letter == "C" and len(line) == LINE_WITH_SHORT_INDEX)
                 return Refusal(4, "-", place)
             row = read_row(letter, line)
             if row is None:
@@ -584,29 +633,47 @@ def check_10(bytes_table, tables):
 
 
 # "a row or name number past its table, or a kind, flag, direction or what past
-# its range"; "In the tables a missing place is the existing 6." (02, i)
+# its range"; "In the tables a missing place is the existing 6." (02, i) "present above
+# 1, or 0 with other bits set, is the existing 6." (02, ii)
 def check_6(rows):
     for letter, forms in FIELDS.items():
         for row, values in enumerate(rows[letter]):
             for form, value in zip(forms, values):
-                if value is None:
-                    continue
-                word, end = end_of(form.holds, values, rows)
-                if value >= end:
-                    mark("6: " + word)
+                fault = against_6(form, value, values, rows)
+                if fault:
+                    mark("6: " + fault)
                     return Refusal(6, letter, row)
     return None
 
 
-def end_of(holds, values, rows):
+def against_6(form, value, values, rows):
+    """Where the field of a row may not have this value: why, in a word."""
+    if value is None:
+        return None
+    if form.holds == LONG:
+        return against_long(value) if isinstance(value, tuple) else None
+    word, end = end_of(form, values, rows)
+    return word if value >= end else None
+
+
+def against_long(numbers):
+    """Why these three stand for no long number and for no missing one."""
+    present, high, _ = numbers
+    if present > 1:
+        return "present above 1"
+    return "high bits of a missing index" if high else "low bits of a missing index"
+
+
+def end_of(form, values, rows):
     """What a field holds in a word, and the first number past it."""
+    holds = form.holds
     if isinstance(holds, tuple):
         word, last = holds
         return word, last + 1
     if holds == NAME:
         return NAME, len(rows["N"])
     if holds == ANY:
-        return "missing place", MISSING
+        return "missing " + form.name, MISSING
     if holds == HOLDER:  # the holder kind stands before it, and was good
         return HOLDER, len(rows["T" if values.holder_kind == 0 else "U"])
     return {"C": "component row", "P": "package row"}[holds], len(rows[holds])
@@ -1082,11 +1149,23 @@ def find_children_by_name(model, owner, wanted):
         mark("array rule with other case",
              any(base_name_of(model.name(component.name)) != wanted for component in elements))
         mark("array rule needs an array index", bool(unindexed))
-        mark("array index 0 is an index", any(component.array_index == 0 for component in elements))
+        for component in elements:
+            mark_index(component.array_index)
         found = array
     mark("no child found", not found)
     model.found_children[key] = found
     return found
+
+
+def mark_index(index):
+    """For the marks only: an index that is not like most."""
+    mark("array index 0 is an index", index == 0)
+    mark("array index of over six digits", index > 999999)
+    mark("array index 4,294,967,295", index == LOW_BITS)
+    mark("array index of 2^32 or more", index > LOW_BITS)
+    mark("array index with low bits 0", index > LOW_BITS and index & LOW_BITS == 0)
+    mark("array index of twenty digits", index >= 10 ** 19)
+    mark("array index 18,446,744,073,709,551,615", index == LARGEST_LONG)
 
 
 # "`parse_connection_pattern` drops round brackets, commas, spaces, tabs, and compares

@@ -1,7 +1,7 @@
 """The sheets written by hand: the trial rows of document 01, single points of its rules and of the changes of them (document 02),
 and where the Rust goes another way than AS5506 or document 01. Each is as small as it can be."""
 
-from second_reading import CONLIST_LINES, FIELDS, LETTERS, Refusal
+from second_reading import CONLIST_LINES, FIELDS, LARGEST_LONG, LETTERS, Refusal
 from sheets import NOTHING, Sheet
 
 
@@ -61,6 +61,17 @@ def of_one_name(places):
     sheet.component("b", 0, place=100)
     for place in places:
         sheet.component("a", 0, place=place)
+    sheet.connection("c", 0, 0, "a", "f", "b", "f")
+    return sheet
+
+
+def indexed(*indices):
+    """Children with these array indices, found by the base name that the connection wants, but for those without an index."""
+    sheet = Sheet()
+    sheet.component("root")
+    sheet.component("b", 0)
+    for number, index in enumerate(indices):
+        sheet.component("a[%d]" % number, 0, index)
     sheet.connection("c", 0, 0, "a", "f", "b", "f")
     return sheet
 
@@ -144,11 +155,19 @@ def with_fields(sheet, component, **fields):
     return sheet
 
 
+def lines_changed(sheet, change):
+    """The bytes of a sheet, with the lines of components changed."""
+    return b"".join(change(line) if line.startswith(b"C") else line for line in sheet.splitlines(keepends=True))
+
+
 def without_places(sheet):
-    """The lines of the sheet, those of components without their last field."""
-    short = FIELDS["C"][-1].columns
-    lines = sheet.bytes().split(b"\n")
-    return b"\n".join(line[:-short] if line.startswith(b"C") else line for line in lines)
+    """The sheet with components that lack their last field."""
+    return lines_changed(sheet, lambda line: line[:-1 - FIELDS["C"][-1].columns] + b"\n")
+
+
+def with_short_indices(sheet):
+    """The sheet with array indices in six columns."""
+    return lines_changed(sheet, lambda line: line[:13] + line[27:])
 
 
 def pump():
@@ -501,6 +520,17 @@ ACCEPTED = {
     "places that differ by a digit": arrays(None, 2, 2, (100000, 10000, 1000, 100)),
     "falling places of 64 traced rows": arrays(None, 8, 8, range(16, 0, -1)),
     "falling places of a full table": full_of_children(range(999999, 0, -10000)),
+    "the array index 0": indexed(0),
+    "the array index 4294967294": indexed(4294967294),
+    "the array index 4294967295": indexed(4294967295),
+    "the array index 4294967296": indexed(4294967296),
+    "the array index 18446744073709551615": indexed(LARGEST_LONG),
+    "array indices of all lengths": indexed(*(10 ** digits for digits in range(20)), LARGEST_LONG),
+    "array indices at the limits of 32 and 64 bits": indexed(0, 4294967295, 4294967296, LARGEST_LONG, LARGEST_LONG - 4294967295),
+    "array indices beside missing ones": indexed(None, 4294967295, None, LARGEST_LONG, None, 0),
+    "array indices that are alike": indexed(12345678901234567890, 12345678901234567890),
+    "array indices that differ in their high bits": indexed(7, 4294967296 + 7, 7),
+    "missing array indices alone": indexed(None, None),
 }
 
 # Label -> (sheet, its refusal). A label has no number in second place: that is where the seed of a generated sheet stands.
@@ -523,7 +553,23 @@ REFUSED = {
     "place of the root missing": (with_fields(tree((0, 0)), 0, place=None).bytes(), Refusal(4, "-", 5)),
     "place with a zero in front": (with_fields(tree((0, 0)), 1, place="01").bytes(), Refusal(4, "-", 6)),
     "place of seven digits": (with_fields(tree((0, 0)), 1, place=1000000).bytes(), Refusal(4, "-", 6)),
-    "run of document 01 without its places": (without_places(run()), Refusal(4, "-", 11)),
+    "run of document 01 without its places": (without_places(run().bytes()), Refusal(4, "-", 11)),
+    "run of document 01 with array indices in six columns": (with_short_indices(run().bytes()), Refusal(4, "-", 11)),
+    "run of document 01 as it stands there": (without_places(with_short_indices(run().bytes())), Refusal(4, "-", 11)),
+    "array indices in six columns": (with_short_indices(indexed(1, 2).bytes()), Refusal(4, "-", 10)),
+    "index one above the largest": (indexed(7, LARGEST_LONG + 1).bytes(), Refusal(4, "-", 13)),
+    "index of twenty digits, 5 above the largest": (indexed(7, LARGEST_LONG + 5).bytes(), Refusal(4, "-", 13)),
+    "index of twenty nines": (indexed(7, "9" * 20).bytes(), Refusal(4, "-", 13)),
+    "index of twenty-one digits": (indexed(7, "1" * 21).bytes(), Refusal(4, "-", 13)),
+    "index with a zero in front": (indexed(7, "01").bytes(), Refusal(4, "-", 13)),
+    "index of twenty digits with a zero in front": (indexed(7, "0" + "7" * 19).bytes(), Refusal(4, "-", 13)),
+    "index that is blank": (indexed(7, "").bytes(), Refusal(4, "-", 13)),
+    "index that ends before its last column": (indexed(7, "7 ").bytes(), Refusal(4, "-", 13)),
+    "index that is padded behind": (indexed(7, "7".rjust(6).ljust(20)).bytes(), Refusal(4, "-", 13)),
+    "index missing, not in the last column": (indexed(7, "- ").bytes(), Refusal(4, "-", 13)),
+    "index with a sign": (indexed(7, "+7").bytes(), Refusal(4, "-", 13)),
+    "index below zero": (indexed(7, "-7").bytes(), Refusal(4, "-", 13)),
+    "index with a space inside": (indexed(7, "1 000").bytes(), Refusal(4, "-", 13)),
     "clash of places in the last row of many": (full_of_children([*range(94), 0]).bytes(), Refusal(16, "C", 95)),
 }
 

@@ -2,7 +2,7 @@
 
 use std::collections::HashMap;
 
-use oracle::letters::component;
+use oracle::letters::{component, put_array_index};
 use oracle::sheet::{Field, NAME_BYTES, NAME_ROWS, SHEET_BYTES, Sheet, TABLE_ROWS};
 
 const PORT: u32 = 0;
@@ -37,15 +37,13 @@ impl Draft {
     /// A component whose place is its row.
     fn component(&mut self, name: &str, parent: Field, package: &str, type_name: &str) -> u32 {
         let row = self.sheet.components.len() as u32;
-        let fields = [
-            self.name(name),
-            parent,
-            None,
-            self.name(package),
-            self.name(type_name),
-            None,
-            Some(row),
-        ];
+        let fields = component::row([
+            (component::NAME, self.name(name)),
+            (component::PARENT, parent),
+            (component::PACKAGE, self.name(package)),
+            (component::TYPE, self.name(type_name)),
+            (component::PLACE, Some(row)),
+        ]);
         self.sheet.components.push(fields);
         row
     }
@@ -57,7 +55,7 @@ impl Draft {
     /// A child with an array index.
     fn element(&mut self, name: &str, parent: u32) {
         let row = self.child(name, parent);
-        self.sheet.components[row as usize][2] = Some(1);
+        put_array_index(&mut self.sheet.components[row as usize], Some(1));
     }
 
     fn feature(&mut self, name: &str, owner: u32, kind: u32) {
@@ -95,7 +93,8 @@ impl Draft {
     /// The sheet, filled up with names that nothing uses to as many bytes as are read.
     fn filled(mut self) -> Vec<u8> {
         while self.sheet.names.len() < NAME_ROWS {
-            let room = SHEET_BYTES - self.sheet.bytes().len();
+            let room = SHEET_BYTES.checked_sub(self.sheet.bytes().len());
+            let room = room.expect("no more bytes than are read");
             if room < 4 {
                 break;
             }
@@ -109,7 +108,7 @@ impl Draft {
 
 /// A name as long as those of cabinets are.
 fn cabinet(k: usize) -> String {
-    format!("cabinet_of_the_northern_row_with_module_{k:02}")
+    format!("cabinet_of_north_row_module_{k:02}")
 }
 
 /// 96 components, 96 features and 96 connections. 64 of the connections give a row each, over an inner one at its source; or all
@@ -316,8 +315,11 @@ pub fn worst_imports() -> Vec<u8> {
     let nowhere = draft.name(&alike("--"));
     let (package, public, none) = (Some(LAST as u32), Some(0), None);
     let sheet = &mut draft.sheet;
-    let (own, home, place) = (names[0], names[LAST], Some(0));
-    sheet.push(b'C', &[own, none, none, home, own, none, place]);
+    sheet.components.push(component::row([
+        (component::NAME, names[0]),
+        (component::PACKAGE, names[LAST]),
+        (component::TYPE, names[0]),
+    ]));
     for name in names.iter().copied() {
         sheet.push(b'P', &[name]);
         sheet.push(b'I', &[package, names[LAST]]);

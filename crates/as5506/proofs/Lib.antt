@@ -5,6 +5,7 @@
 --     Sorted        lists in an order, and rows sorted by keys
 --     Next          the next of sorted rows, by a scan that keeps the best so far
 --     Letters       the orders of letters agree with each other
+--     Fields        what a field of few columns can say, and the fields of a line one by one
 --     Answers       answers that are given or refused
 --     Whole         what the limit of steps takes of accepted tables, and demand 3's condition over lists
 --     Accepted      accepted tables have it
@@ -15,6 +16,9 @@
 --     Demand        demand 3 over the definition
 --     Back          rows and diagnostics read back from their outputs
 --     Output        demand 3 of what the traced listing hands back
+--     Widened       tables with the index in three numbers in place of one: refused as before
+--     PaddedLines   lines with the index in six columns, padded: their rows, refused as before
+--     IndexKept     02 (ii): a sheet written before keeps its index once padded
 --     TrialForms    how a trial is written
 --     Trials        the trials, of reading (TrialsRead), resolving and expanding (TrialsFind), listing and printing (TrialsList), as one table
 pub mod Laws
@@ -22,6 +26,7 @@ pub mod Scans
 pub mod Sorted
 pub mod Next
 pub mod Letters
+pub mod Fields
 pub mod Answers
 pub mod Whole
 pub mod Limit
@@ -32,6 +37,9 @@ pub mod Children
 pub mod Demand
 pub mod Back
 pub mod Output
+pub mod Widened
+pub mod PaddedLines
+pub mod IndexKept
 pub mod TrialForms
 pub mod TrialsRead
 pub mod TrialsFind

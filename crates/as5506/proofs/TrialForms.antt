@@ -4,16 +4,17 @@ use mathlib.Core.Bool.{Bool, true, false, not, _&&_, cond}
 use mathlib.Core.Path.{_≡_, refl, sym, ap, ap₂, _∙_, subst}
 use mathlib.Core.List.{List, [], _∷_, _++_, map}
 use mathlib.Core.Option.{Option, none, some}
-use Prim.Native.Nat.{ℕ, suc, _+_, _-_, _*_, _/_}
+use Prim.Native.Nat.{ℕ, suc, _+_, _-_, _*_, _/_, _%_}
 use Prim.Native.String.{String}
 use lib.Dec.{T, eqb, leb, eqb→eq, eqb-refl, T-not}
-use lib.ListN.{length, getD, drop}
+use lib.ListN.{length, getD, take, drop}
 use Rattle.as5506.specs.Lists.{keep, each, firstOf, sameBytes, bytesOf}
-use Rattle.as5506.specs.Tables.{Tables, count, missing, Letter, letterN, letterC, letterF, letterX, letterP, letterI, letterT, letterQ, letterU, letterE, letterR, table, nameOf, Ref, ref}
+use Rattle.as5506.specs.Tables.{Tables, count, missing, twoTo32, Letter, letterN, letterC, letterF, letterX, letterP, letterI, letterT, letterQ, letterU, letterE, letterR, table, nameOf, Ref, ref}
 use Rattle.as5506.specs.Names.{goodName, folded, baseName, isOneToOne}
 use Rattle.as5506.specs.Answers.{Place, nowhere, line, row, Refusal, refusal, Answer, given, refused}
-use Rattle.as5506.specs.Sheet.{Lent, lentOf, readSheet, tableAfter, bytesAfter}
+use Rattle.as5506.specs.Sheet.{Lent, isN, lentOf, readSheet, tableAfter, bytesAfter}
 use Rattle.as5506.specs.Refusals.{faults10, faults, accepted}
+use Rattle.as5506.specs.Before.{widthBefore, readBefore, faultsBefore, paddedSheet}
 use Rattle.as5506.specs.Resolve.{Resolved, componentType, componentImpl, groupType, unresolved, resolve}
 use Rattle.as5506.specs.Groups.{Feature, Expansion, expand}
 use Rattle.as5506.specs.Rows.{Row}
@@ -22,7 +23,7 @@ use Rattle.as5506.specs.GroupList.{GroupConnection}
 use Rattle.as5506.specs.Listing.{Room, BothLists, groupOf, expansionWithin, expandAnswer, tracedAnswer, groupAnswer, bothAnswer}
 use Rattle.as5506.specs.Layout.{roomIn, output, featureNumbers, tracedRowNumbers, tracedDiagNumbers, groupRowNumbers, groupDiagNumbers, expansionNumbers, composedNames, ofTraced, ofGroup}
 use Rattle.as5506.specs.Text.{column}
-use Rattle.as5506.specs.Program.{lent, textLent, conlistText, textAfter, conlist}
+use Rattle.as5506.specs.Program.{rowsLent, lent, textLent, conlistText, textAfter, conlist}
 use Rattle.as5506.proofs.Laws.{All, and-left, and-right, and-both, is-true}
 
 -- ---- sheets, and models in words
@@ -69,9 +70,13 @@ linesWith ls letter = map (drop 1) (keep (λ l. eqb (getD l 0 0) (getD (bytesOf 
 abbrev rowsWith : List (List ℕ) → String → List ℕ
 rowsWith ls letter = each (λ l. l) (linesWith ls letter)
 
--- a C row may leave its place out: then the row's number is its place, so that children stand in row order
+-- The third number of a C row is its array index, of which a row has three; a row may leave its place out: then the row's number is its place, so that
+-- children stand in row order
+abbrev indexNumbers : ℕ → List ℕ
+indexNumbers v = cond (eqb v missing) (0 ∷ 0 ∷ 0 ∷ []) (1 ∷ v / twoTo32 ∷ v % twoTo32 ∷ [])
+
 abbrev componentRow : ℕ → List ℕ → List ℕ
-componentRow i l = cond (eqb (length l) 6) (l ++ (i ∷ [])) l
+componentRow i l = take 2 l ++ indexNumbers (getD l 2 0) ++ drop 3 l ++ cond (eqb (length l) 6) (i ∷ []) []
 
 abbrev pub componentRows : ℕ → List (List ℕ) → List ℕ
 componentRows i [] = []
@@ -195,6 +200,14 @@ featureText m f =
 abbrev pub featureTexts : Tables → Expansion → List (List ℕ)
 featureTexts m x = map (featureText m) (x .features)
 
+-- the refusal of a sheet written before 02 (ii), by the reader and the checks of then, where conlist lends as many rows
+abbrev refusalIn : Answer Tables → Option Refusal
+refusalIn (given m) = firstOf (faultsBefore m)
+refusalIn (refused r) = some r
+
+abbrev pub refusalBefore : List ℕ → Option Refusal
+refusalBefore sheet = refusalIn (readBefore (record { bytes = 16384; numbers = λ l. rowsLent (isN l) * widthBefore l }) sheet)
+
 -- the lengths of what is lent to the reader
 abbrev pub lengths : Lent → List ℕ
 lengths l = l .bytes ∷ map (l .numbers) letters
@@ -222,6 +235,8 @@ pub data Trial : Type 0 where
   fills : List ℕ → List ℕ → Trial
   -- the lengths of the byte table and of each letter's table that conlist lends
   lends : List ℕ → Trial
+  -- a sheet written before 02 (ii), its refusal then or none, and what it is once padded
+  pads : List ℕ → Option Refusal → List ℕ → Trial
   -- tables, and what conlist prints for them
   lists : Tables → List String → Trial
   -- and how many bytes that is
@@ -260,6 +275,7 @@ abbrev pub Means : Trial → Type 0
 Means (prints sheet list) = conlist sheet ≡ text list
 Means (fills sheet out) = textAfter (length out) sheet ≡ out
 Means (lends ns) = lengths lent ≡ ns
+Means (pads sheet r padded) = (refusalBefore sheet ≡ r) × (paddedSheet sheet ≡ padded)
 Means (lists m list) = listed m ≡ text list
 Means (lengthIs m n) = length (listed m) ≡ n
 Means (name s b) = goodName s ≡ b
@@ -449,6 +465,7 @@ abbrev pub passes : Trial → Bool
 passes (prints sheet list) = sameBytes (conlist sheet) (text list)
 passes (fills sheet out) = sameBytes (textAfter (length out) sheet) out
 passes (lends ns) = sameBytes (lengths lent) ns
+passes (pads sheet r padded) = sameRefusal (refusalBefore sheet) r && sameBytes (paddedSheet sheet) padded
 passes (lists m list) = sameBytes (listed m) (text list)
 passes (lengthIs m n) = eqb (length (listed m)) n
 passes (name s b) = is b (goodName s)
@@ -488,6 +505,7 @@ meant : (t : Trial) → T (passes t) → Means t
 meant (prints sheet list) t = same-bytes (conlist sheet) (text list) t
 meant (fills sheet out) t = same-bytes (textAfter (length out) sheet) out t
 meant (lends ns) t = same-bytes (lengths lent) ns t
+meant (pads sheet r padded) t = (same-refusal _ r (search and-left), same-bytes _ padded (search and-right))
 meant (lists m list) t = same-bytes (listed m) (text list) t
 meant (lengthIs m n) t = eqb→eq (length (listed m)) n t
 meant (name s b) t = is-same (goodName s) b t

@@ -9,9 +9,10 @@ use lib.ListN.{length}
 use Rattle.as5506.specs.Lists.{each, bytesOf, upTo, padded, sortBy}
 use Rattle.as5506.specs.Tables.{Tables, missing, rowsNaming, nameIn}
 use Rattle.as5506.specs.Names.{goodName, folded, key, sameFolded, baseName, isOneToOne}
-use Rattle.as5506.specs.Fields.{unspaced, decimalFrom, isDecimal, fieldOf, fieldsFit, fieldNumbers}
+use Rattle.as5506.specs.Fields.{unspaced, decimalFrom, isDecimal, isNumber, fieldOf, fieldsFit, fieldNumbers}
 use Rattle.as5506.specs.Sheet.{lineWith, linesOf, letterOf, linesWith, keepsRules, hasPlace, isEarlier, lineFaults, faultsFrom, sheetFaults, placed, rowsRead, tablesRead, readSheet, tableAfter, bytesAfter}
 use Rattle.as5506.specs.Refusals.{brokenRows, tooManyRows, badName, faults10, allowsFrom, badRow, faults6, faults7, clashesFrom, clashes, faults16, faults8, faults9, faults, accepted}
+use Rattle.as5506.specs.Before.{hasPlaceBefore, lineFaultsBefore, linesFaultsBefore, tablesReadBefore, readBefore, faults10Before, allowsFromBefore, faults6Before, faults7Before, faults16Before, faultsBefore, paddedSheet}
 use Rattle.as5506.specs.Resolve.{packageNamed, typeNamed, implNamed, groupNamed, renamesNamed, typeHit, inPackageBy, inPackage, inFound, replacedBy, replaced, inNamed, withPackage, fromImports, target, renamesFor, afterRename, afterOwn, withoutPackage, resolveBy, resolve}
 use Rattle.as5506.specs.Groups.{turned, featureBy, featuresWalked, extendedBy, typeBy, foundBy, visitWithin, expandFeatureGroup, expand}
 use Rattle.as5506.specs.Tracing.{isNamed, isElement, orElements, foundChildren, leads, stepsOver, steps, chainsBy, chains, shape, named, oneToOne, pairsBy, pairs, appendNew, rowOf, pairRows, rowsAt, traced, shown, rows, unlimited, diagsBy, diagsAt, tracedDiags}
@@ -22,7 +23,7 @@ use Rattle.as5506.specs.Text.{digitsWithin, digits, column, numberLine, 
 use Rattle.as5506.specs.Program.{textOrRefusal, printedOrRefusal, conlistText, ofReading, whatFits, conlistWithin, textAfter, conlist}
 use Rattle.as5506.proofs.Laws.{All}
 use Rattle.as5506.proofs.TrialForms.{Trial, Means, prints, lists, pattern, children, expands, whole, cut, text, componentRows, offsets, every, all-meant}
-use Rattle.as5506.proofs.TrialsRead.{ofNames, ofSheets, ofLent, of10, of6, of7to9, of16}
+use Rattle.as5506.proofs.TrialsRead.{ofNames, ofSheets, ofIndex, ofLent, of10, of6, of7to9, of16}
 use Rattle.as5506.proofs.TrialsFind.{ofPackages, ofSearches, ofGroups, ofChildren}
 use Rattle.as5506.proofs.TrialsList.{ofChains, ofPlaces, ofShapes, ofMatching, ofEndpoints, ofRooms, ofConlist}
 
@@ -98,8 +99,8 @@ abbrev run : Trial
 run =
     prints
     (text ("N hub" ∷ "N pit" ∷ "N mot" ∷ "N cmd" ∷ "N set" ∷ "N c1" ∷ "N c2" ∷ "N p" ∷ "N t" ∷ "N reg" ∷
-    "C     0     -     -     7     8     -     0" ∷ "C     1     0     -     7     8     -     0" ∷
-    "C     2     0     -     7     8     -     1" ∷ "C     9     1     -     7     8     -     0" ∷
+    "C     0     -                   -     7     8     -     0" ∷ "C     1     0                   -     7     8     -     0" ∷
+    "C     2     0                   -     7     8     -     1" ∷ "C     9     1                   -     7     8     -     0" ∷
     "X     5     0     0     1     3     2     4" ∷ "X     6     1     0     9     4     -     3" ∷ []))
     ("S     0     0     3     2     2     0     1" ∷ "= c1" ∷ "< set" ∷ "> set" ∷ "Z     1     0" ∷ [])
 
@@ -108,9 +109,9 @@ abbrev uneven : Trial
 uneven =
     prints
     (text ("N top" ∷ "N p" ∷ "N t" ∷ "N One_To_One" ∷ "N a[1]" ∷ "N a[2]" ∷ "N a[3]" ∷ "N b[1]" ∷ "N b[2]" ∷ "N c" ∷ "N a" ∷
-    "N f" ∷ "N b" ∷ "N g" ∷ "C     0     -     -     1     2     3     0" ∷ "C     4     0     1     1     2     -     0" ∷
-    "C     5     0     2     1     2     -     1" ∷ "C     6     0     3     1     2     -     2" ∷
-    "C     7     0     1     1     2     -     3" ∷ "C     8     0     2     1     2     -     4" ∷
+    "N f" ∷ "N b" ∷ "N g" ∷ "C     0     -                   -     1     2     3     0" ∷ "C     4     0                   1     1     2     -     0" ∷
+    "C     5     0                   2     1     2     -     1" ∷ "C     6     0                   3     1     2     -     2" ∷
+    "C     7     0                   1     1     2     -     3" ∷ "C     8     0                   2     1     2     -     4" ∷
     "X     9     0     0    10    11    12    13" ∷ []))
     ("S     0     0     1     4     1     0" ∷ "= c" ∷ "< f" ∷ "> g" ∷ "S     0     0     2     5     1     0" ∷
     "= c" ∷ "< f" ∷ "> g" ∷ "D     4     0     3     2" ∷
@@ -122,8 +123,8 @@ abbrev unfolded : Trial
 unfolded =
     prints
     (text ("N top" ∷ "N p" ∷ "N t" ∷ "N a" ∷ "N z" ∷ "N k" ∷ "N c" ∷ "N f" ∷ "N g" ∷ "N d" ∷ "N h" ∷ "N F" ∷
-    "C     0     -     -     1     2     -     0" ∷ "C     3     0     -     1     2     -     0" ∷
-    "C     4     0     -     1     2     -     1" ∷ "C     5     1     -     1     2     -     0" ∷
+    "C     0     -                   -     1     2     -     0" ∷ "C     3     0                   -     1     2     -     0" ∷
+    "C     4     0                   -     1     2     -     1" ∷ "C     5     1                   -     1     2     -     0" ∷
     "X     6     0     0     3     7     4     8" ∷ "X     9     1     0     5    10     -    11" ∷ []))
     ("S     0     0     1     2     1     0" ∷ "= c" ∷ "< f" ∷ "> g" ∷ "Z     1     0" ∷ [])
 
@@ -132,8 +133,8 @@ abbrev inverse : Trial
 inverse =
     prints
     (text ("N top" ∷ "N p" ∷ "N t" ∷ "N a" ∷ "N b" ∷ "N g" ∷ "N c" ∷ "N G" ∷ "N H" ∷ "N own" ∷ "N other" ∷
-    "C     0     -     -     1     2     -     0" ∷ "C     3     0     -     1     2     -     0" ∷
-    "C     4     0     -     1     2     -     1" ∷ "F     5     1     8" ∷ "F     5     2     8" ∷
+    "C     0     -                   -     1     2     -     0" ∷ "C     3     0                   -     1     2     -     0" ∷
+    "C     4     0                   -     1     2     -     1" ∷ "F     5     1     8" ∷ "F     5     2     8" ∷
     "X     6     0     2     3     5     4     5" ∷ "P     1" ∷ "T     0     2     0" ∷
     "U     0     7     0     -     -     -     -     8     -" ∷
     "U     0     8     0     -     -     -     -     -     -" ∷ "E     1     0     9     0     0     -     -     -" ∷
@@ -146,8 +147,8 @@ abbrev imports : Trial
 imports =
     prints
     (text ("N top" ∷ "N p" ∷ "N t" ∷ "N a" ∷ "N b" ∷ "N g" ∷ "N c" ∷ "N q" ∷ "N G" ∷ "N x" ∷ "N nowhere" ∷
-    "C     0     -     -     1     2     -     0" ∷ "C     3     0     -     1     2     -     0" ∷
-    "C     4     0     -     1     2     -     1" ∷ "F     5     1     8" ∷ "F     5     2     8" ∷
+    "C     0     -                   -     1     2     -     0" ∷ "C     3     0                   -     1     2     -     0" ∷
+    "C     4     0                   -     1     2     -     1" ∷ "F     5     1     8" ∷ "F     5     2     8" ∷
     "X     6     0     2     3     5     4     5" ∷ "P     1" ∷ "P     7" ∷ "I     0     7" ∷ "T     0     2     0" ∷
     "U     1     8     0     -     -     -     -     -     -" ∷ "E     1     0     9     0     -     -     -     -" ∷
     "E     0     0     5     8     -     -     8     -" ∷ "R     0     2     8    10     8" ∷ []))
@@ -191,20 +192,20 @@ ofLimit =
 -- A TRIAL FOR EACH RULE; the quick ones first, since a definition that differs is refused at the first trial that fails
 abbrev pub further : List Trial
 further =
-    ofNames ++ ofLent ++ of10 ++ of7to9 ++ of16 ++ ofPackages ++ ofSearches ++ ofGroups ++ ofChildren ++ ofChains ++ ofPlaces ++ ofShapes ++ ofMatching ++ ofEndpoints
+    ofNames ++ ofIndex ++ ofLent ++ of10 ++ of7to9 ++ of16 ++ ofPackages ++ ofSearches ++ ofGroups ++ ofChildren ++ ofChains ++ ofPlaces ++ ofShapes ++ ofMatching ++ ofEndpoints
     ++ ofRooms ++ ofSheets ++ ofLimit ++ of6 ++ ofConlist
 
 abbrev pub trialTable : List Trial
 trialTable = starred ++ traps ++ further
 
 -- how many there are
-trials-counted : length trialTable ≡ 554
+trials-counted : length trialTable ≡ 596
 trials-counted = refl
 
 -- ---- THE PROOF
 
 table-passes : T (every trialTable)
-unfolding padded sortBy rowsNaming nameIn goodName folded key sameFolded baseName isOneToOne unspaced decimalFrom isDecimal fieldOf fieldsFit fieldNumbers lineWith linesOf letterOf linesWith keepsRules hasPlace isEarlier lineFaults faultsFrom sheetFaults placed rowsRead tablesRead readSheet tableAfter bytesAfter brokenRows tooManyRows badName faults10 allowsFrom badRow faults6 faults7 clashesFrom clashes faults16 faults8 faults9 faults accepted packageNamed typeNamed implNamed groupNamed renamesNamed typeHit inPackageBy inPackage inFound replacedBy replaced inNamed withPackage fromImports target renamesFor afterRename afterOwn withoutPackage resolveBy resolve turned featureBy featuresWalked extendedBy typeBy foundBy visitWithin expandFeatureGroup expand expansionWithin expandOn expandAnswer featureBlock expansionNumbers isNamed isElement orElements foundChildren leads stepsOver steps chainsBy chains shape named oneToOne pairsBy pairs appendNew rowOf pairRows rowsAt traced shown rows unlimited diagsBy diagsAt tracedDiags isGroupFeature typeOf declaredGroup classifierBy declaredBy typedBy endpointBy endpoint isGroupConnection endComponentBy endComponent groupConnection groupConnections overrun partner matchesBy matches dotted fullName connectionKind matchRow matchDiag rowsMatched diagsMatched tracedList tracedWithin rowNames groupWithin groupListOf groupOf tracedOn tracedAnswer groupOn groupAnswer withGroup afterTraced bothAnswer tracedBlock groupBlock diagBlock tracedRowNumbers tracedDiagNumbers groupRowNumbers groupDiagNumbers composedNames digitsWithin digits column numberLine textLine rowText message pathNames diagText listText refusalText textWithin printed textOrRefusal printedOrRefusal conlistText ofReading whatFits conlistWithin textAfter conlist
+unfolding padded sortBy rowsNaming nameIn goodName folded key sameFolded baseName isOneToOne unspaced decimalFrom isDecimal isNumber fieldOf fieldsFit fieldNumbers lineWith linesOf letterOf linesWith keepsRules hasPlace isEarlier lineFaults faultsFrom sheetFaults placed rowsRead tablesRead readSheet tableAfter bytesAfter brokenRows tooManyRows badName faults10 allowsFrom badRow faults6 faults7 clashesFrom clashes faults16 faults8 faults9 faults accepted hasPlaceBefore lineFaultsBefore linesFaultsBefore tablesReadBefore readBefore faults10Before allowsFromBefore faults6Before faults7Before faults16Before faultsBefore paddedSheet packageNamed typeNamed implNamed groupNamed renamesNamed typeHit inPackageBy inPackage inFound replacedBy replaced inNamed withPackage fromImports target renamesFor afterRename afterOwn withoutPackage resolveBy resolve turned featureBy featuresWalked extendedBy typeBy foundBy visitWithin expandFeatureGroup expand expansionWithin expandOn expandAnswer featureBlock expansionNumbers isNamed isElement orElements foundChildren leads stepsOver steps chainsBy chains shape named oneToOne pairsBy pairs appendNew rowOf pairRows rowsAt traced shown rows unlimited diagsBy diagsAt tracedDiags isGroupFeature typeOf declaredGroup classifierBy declaredBy typedBy endpointBy endpoint isGroupConnection endComponentBy endComponent groupConnection groupConnections overrun partner matchesBy matches dotted fullName connectionKind matchRow matchDiag rowsMatched diagsMatched tracedList tracedWithin rowNames groupWithin groupListOf groupOf tracedOn tracedAnswer groupOn groupAnswer withGroup afterTraced bothAnswer tracedBlock groupBlock diagBlock tracedRowNumbers tracedDiagNumbers groupRowNumbers groupDiagNumbers composedNames digitsWithin digits column numberLine textLine rowText message pathNames diagText listText refusalText textWithin printed textOrRefusal printedOrRefusal conlistText ofReading whatFits conlistWithin textAfter conlist
 table-passes = tt
 
 -- EVERY TRIAL HOLDS

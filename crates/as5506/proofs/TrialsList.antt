@@ -423,7 +423,7 @@ joinsNowhere bs n = joins (record { rows = 0; diags = 0 }) 0 mixed bs (over n)
 abbrev rootSheet : List ℕ
 rootSheet =
     text
-    ("N a" ∷ "C     0     -     -     0     0     -     0" ∷ "C     0     0     -     0     0     -     0" ∷ "X     0     0     0     0     0     -     0" ∷ [])
+    ("N a" ∷ "C     0     -                   -     0     0     -     0" ∷ "C     0     0                   -     0     0     -     0" ∷ "X     0     0     0     0     0     -     0" ∷ [])
 
 abbrev rootText : List ℕ
 rootText = text ("S     0     0     1     0     1     0" ∷ "= a" ∷ "< a" ∷ "> a" ∷ "Z     1     0" ∷ [])
@@ -510,7 +510,7 @@ unmatched n k =
 abbrev pub ofConlist : List Trial
 ofConlist =
     -- "lends 256 `N` rows, 96 of each other letter, a byte table of 16,384": so many numbers
-    lends (16384 ∷ 512 ∷ 672 ∷ 288 ∷ 672 ∷ 96 ∷ 192 ∷ 288 ∷ 384 ∷ 864 ∷ 768 ∷ 480 ∷ [])
+    lends (16384 ∷ 512 ∷ 864 ∷ 288 ∷ 672 ∷ 96 ∷ 192 ∷ 288 ∷ 384 ∷ 864 ∷ 768 ∷ 480 ∷ [])
     -- "per listing 64 rows", "8,192 for text"
     ∷ lengthIs (full "X nnnnnnnnnnnnnnnnnnnnnn 0 0 s ssssssssssssssssssssss d ddddddddddddddddddddddd") 8192
     ∷ lists (full "X nnnnnnnnnnnnnnnnnnnnnnn 0 0 s ssssssssssssssssssssss d ddddddddddddddddddddddd") ("R    15     0 -" ∷ [])

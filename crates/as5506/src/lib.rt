@@ -21,7 +21,7 @@ pub const LETTERS: [u8; LETTER_COUNT] = *b"NCFXPITQUER";
 // The numbers of a row, by letter.
 pub const N_NUMBERS: usize = 2;
 
-pub const C_NUMBERS: usize = 7;
+pub const C_NUMBERS: usize = 9;
 
 pub const F_NUMBERS: usize = 3;
 

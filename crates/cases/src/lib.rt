@@ -32,7 +32,7 @@ pub fn number() -> u32 {
         field[5],
     ];
     let mut value = [0u32; 1];
-    fields::put_fields(&line, 1, &mut value, 0);
+    fields::put_fields(&line, 1, 0, &mut value, 0);
     value[0]
 }
 

@@ -1,20 +1,32 @@
-// The fields of a sheet's line, of any letter: how many there are and which may be missing are data. For the reader (crate sheet) and its trials.
-// Definitions: as5506, Fields; specs/Fields.antt says how the code holds a field and its columns.
+// The fields of a sheet's line, of any letter: how many there are, which may be missing and which are long are data, a mark for each. For the reader
+// (crate sheet) and its trials. Definitions: as5506, Columns and Fields; specs/Fields.antt says how the code holds a field and its columns.
 ghost use mathlib.Core.Path.{_≡_};
 ghost use mathlib.Core.Bool.{false};
-ghost use Prim.Native.Nat.{_+_, _*_, _≤_};
+ghost use Prim.Native.Nat.{_+_, _≤_, _<_};
 ghost use lib.ListN.{length, drop};
 ghost use lib.Seq.{sets};
-ghost use Rattle.as5506.specs.Lists.{allOf, sameBytes, bytesOf};
-ghost use Rattle.as5506.specs.Fields.{unspaced, digit, decimalFrom, isDecimal, fieldBy, fieldOf, fits, numberOf, fieldsFit, fieldNumbers};
-ghost use Rattle.fields.specs.Fields.{shown, valueIf, column, columnsBy};
+ghost use Rattle.as5506.specs.Lists.{sameBytes, bytesOf};
+ghost use Rattle.as5506.specs.Columns.{fieldBytes, fieldCells, lineBytes, rowCells};
+ghost use Rattle.as5506.specs.Fields.{unspaced, isNumber, fieldBy, fieldOf, fits, numberOf, longNumbers, numbersOf, fieldsFit, fieldNumbers};
+ghost use Rattle.fields.specs.Fields.{shown, Short, spelt, column, columnsBy};
 
-// What six columns say: a number, a lone `-`, or something against the sheet's rules.
+// What the columns of a field say: a number, a lone `-`, or something against the sheet's rules.
 pub enum Field {
-    Value(u32),
+    Value(u64),
     Dash,
     Bad,
 }
+
+// The largest number, of which one more is refused, and a tenth of it: a larger one has no digit more.
+const LARGEST: u64 = 18446744073709551615;
+
+const TENTH: u64 = 1844674407370955161;
+
+// What the high number of a long field counts.
+const TWO_TO_32: u64 = 4294967296;
+
+// The mark of a long field; 0 is a field that must be there, 1 one that may be missing.
+const LONG: usize = 2;
 
 // How many spaces stand in front.
 fn spaces(f: &[u8]) -> usize
@@ -30,12 +42,12 @@ fn spaces(f: &[u8]) -> usize
     i
 }
 
-// The number that the bytes from `from` on spell, where all are digits.
+// The number that the bytes from `from` on spell, where all are digits and it has 64 bits at most.
 fn digits(f: &[u8], from: usize) -> Field
-    requires { ⌜ (from ≤ length (now f)) × (length (now f) ≤ 6) ⌝ }
-    ensures { λ r. ⌜ shown r ≡ valueIf (allOf digit (drop from (now (f .entry)))) (decimalFrom 0 (drop from (now (f .entry)))) ⌝ }
+    requires { ⌜ from ≤ length (now f) ⌝ }
+    ensures { λ r. ⌜ shown r ≡ spelt 0 (drop from (now (f .entry))) ⌝ }
 {
-    let mut v: u32 = 0;
+    let mut v: u64 = 0;
     let mut i = from;
     while i < f.len() {
         let b = f[i];
@@ -45,7 +57,14 @@ fn digits(f: &[u8], from: usize) -> Field
         if b'9' < b {
             return Field::Bad;
         }
-        v = v * 10 + ((b - b'0') as u32);
+        if TENTH < v {
+            return Field::Bad;
+        }
+        let d = (b - b'0') as u64;
+        if LARGEST - v * 10 < d {
+            return Field::Bad;
+        }
+        v = v * 10 + d;
         i += 1;
     }
     Field::Value(v)
@@ -53,8 +72,8 @@ fn digits(f: &[u8], from: usize) -> Field
 
 // The same where there is a digit at all, and a 0 in front stands alone.
 fn decimal(f: &[u8], from: usize) -> Field
-    requires { ⌜ (from ≤ length (now f)) × (length (now f) ≤ 6) ⌝ }
-    ensures { λ r. ⌜ shown r ≡ fieldBy false (isDecimal (drop from (now (f .entry)))) (drop from (now (f .entry))) ⌝ }
+    requires { ⌜ from ≤ length (now f) ⌝ }
+    ensures { λ r. ⌜ shown r ≡ fieldBy false (isNumber (drop from (now (f .entry)))) (drop from (now (f .entry))) ⌝ }
 {
     if from == f.len() {
         return Field::Bad;
@@ -80,9 +99,8 @@ fn is_dash(f: &[u8], from: usize) -> bool
     }
 }
 
-// A field of six columns (or fewer).
+// A field, of however many columns.
 fn field_of(f: &[u8]) -> Field
-    requires { ⌜ length (now f) ≤ 6 ⌝ }
     ensures { λ r. ⌜ shown r ≡ fieldOf (now (f .entry)) ⌝ }
 {
     let from = spaces(f);
@@ -92,42 +110,76 @@ fn field_of(f: &[u8]) -> Field
     decimal(f, from)
 }
 
-// "missing, allowed only in fields marked ?": whether a field keeps the rules of its column.
-fn field_fits(f: Field, optional: bool) -> bool
-    ensures { λ r. ⌜ r ≡ fits (column optional) (shown f) ⌝ }
+// The columns of a line that a field takes, by its mark.
+fn columns_of(mark: usize) -> usize
+    ensures { λ r. ⌜ r ≡ fieldBytes (column mark) ⌝ }
+{
+    if mark < LONG { 6 } else { 20 }
+}
+
+// "missing, allowed only in fields marked ?": whether a field keeps the rules, by its mark.
+fn field_fits(f: Field, mark: usize) -> bool
+    ensures { λ r. ⌜ r ≡ fits (column mark) (shown f) ⌝ }
 {
     match f {
         Field::Value(_) => true,
-        Field::Dash => optional,
+        Field::Dash => mark != 0,
         Field::Bad => false,
     }
 }
 
-// The number that a table holds for a field.
+// The number that a table holds for a field that is not long.
 fn field_number(f: Field) -> u32
+    requires { ⌜ Short (shown f) ⌝ }
     ensures { λ r. ⌜ r ≡ numberOf (shown f) ⌝ }
 {
     match f {
-        Field::Value(v) => v,
+        Field::Value(v) => v as u32,
         Field::Dash => as5506::MISSING,
         Field::Bad => 0,
     }
 }
 
-// Whether the `count` fields behind a line's letter keep the rules. Bit j of `marks` says that field j may be missing.
+// The numbers that it holds for a long one: present, high, low.
+fn long_numbers(f: Field) -> [u32; 3]
+    ensures { λ r. ⌜ r ≡ longNumbers (shown f) ⌝ }
+{
+    match f {
+        Field::Value(v) => [1, (v / TWO_TO_32) as u32, (v % TWO_TO_32) as u32],
+        Field::Dash => [0, 0, 0],
+        Field::Bad => [0, 0, 0],
+    }
+}
+
+// Writes the numbers of a field to `table` from index `at` on, and gives the index behind them.
+fn put_field(f: Field, mark: usize, table: &mut [u32], at: usize) -> usize
+    requires { ⌜ (mark < 2 → Short (shown f)) × (at + fieldCells (column mark) ≤ length (now table)) ⌝ }
+    ensures { λ r. ⌜ (r ≡ at + fieldCells (column mark)) × (now (table .exit) ≡ sets (now (table .entry)) at (numbersOf (column mark) (shown f))) ⌝ }
+{
+    if mark < LONG {
+        table[at] = field_number(f);
+        return at + 1;
+    }
+    let numbers = long_numbers(f);
+    lent::put_numbers(table, at, &numbers);
+    at + 3
+}
+
+// Whether the `count` fields behind a line's letter keep the rules. A hexadecimal digit of `marks` is the mark of a field, that of the first one lowest.
 pub fn fields_fit(line: &[u8], count: usize, marks: usize) -> bool
-    requires { ⌜ length (now line) ≡ 1 + 6 * count ⌝ }
+    requires { ⌜ length (now line) ≡ 1 + lineBytes (columnsBy count marks) ⌝ }
     ensures { λ r. ⌜ r ≡ fieldsFit (columnsBy count marks) (drop 1 (now (line .entry))) ⌝ }
 {
     let mut left = count;
-    let mut bits = marks;
+    let mut rest = marks;
     let mut at = 1;
     while 0 < left {
-        let end = at + 6;
+        let mark = rest % 16;
+        let end = at + columns_of(mark);
         let f = field_of(&line[at..end]);
-        if field_fits(f, bits % 2 == 1) {
+        if field_fits(f, mark) {
             left -= 1;
-            bits = bits / 2;
+            rest = rest / 16;
             at = end;
         } else {
             return false;
@@ -137,19 +189,21 @@ pub fn fields_fit(line: &[u8], count: usize, marks: usize) -> bool
 }
 
 // Writes the numbers of the `count` fields behind a line's letter to `table`, from index `at` on.
-pub fn put_fields(line: &[u8], count: usize, table: &mut [u32], at: usize)
-    requires { ⌜ (length (now line) ≡ 1 + 6 * count) × (at + count ≤ length (now table)) ⌝ }
-    ensures { λ _. ⌜ now (table .exit) ≡ sets (now (table .entry)) at (fieldNumbers (columnsBy count 0) (drop 1 (now (line .entry)))) ⌝ }
+pub fn put_fields(line: &[u8], count: usize, marks: usize, table: &mut [u32], at: usize)
+    requires { ⌜ (length (now line) ≡ 1 + lineBytes (columnsBy count marks)) × (at + rowCells (columnsBy count marks) ≤ length (now table)) ⌝ }
+    ensures { λ _. ⌜ now (table .exit) ≡ sets (now (table .entry)) at (fieldNumbers (columnsBy count marks) (drop 1 (now (line .entry)))) ⌝ }
 {
     let mut left = count;
+    let mut rest = marks;
     let mut from = 1;
     let mut i = at;
     while 0 < left {
-        let end = from + 6;
+        let mark = rest % 16;
+        let end = from + columns_of(mark);
         let f = field_of(&line[from..end]);
-        table[i] = field_number(f);
+        i = put_field(f, mark, table, i);
         left -= 1;
+        rest = rest / 16;
         from = end;
-        i += 1;
     }
 }

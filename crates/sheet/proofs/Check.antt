@@ -12,13 +12,13 @@ use lib.Dec.{eqb, leb, ltb, leb·suc-zero}
 use lib.ListN.{length, getD, set, drop, length-drop}
 use lib.Seq.{getD-set-same, getD-set-other}
 use Rattle.as5506.specs.Answers.{refusal, line, told, unlessFaults}
-use Rattle.as5506.specs.Columns.{rank, columns, letterCount}
+use Rattle.as5506.specs.Columns.{rank, columns, letterCount, lineBytes}
 use Rattle.as5506.specs.Fields.{space, fieldsFit}
 use Rattle.as5506.specs.Lists.{when, allOf}
 use Rattle.as5506.specs.Names.{nameByte, goodName}
 use Rattle.as5506.specs.Sheet.{Line, ended, unended, textOf, letterOf, linesOf, linesWith, lineName, keepsRules, Lent, nameBytes, hasPlace, earlierThan, isEarlier, knownFaults, lineFaults, faultsFrom, sheetFaults, tablesRead, readSheet}
 use Rattle.as5506.specs.Tables.{Letter, letterN, letterC, letterF, letterX, letterP, letterI, letterT, letterQ, letterU, letterE, letterR, width, count}
-use Rattle.sheet.proofs.Letters.{rank-below, same-letter, letter-byte, other-byte}
+use Rattle.sheet.proofs.Letters.{rank-below, same-letter, width-bytes, letter-byte, other-byte}
 use Rattle.sheet.proofs.Rows.{own-line, other-line, names-length, whole-rows, lines-turned, names-split, names-turned}
 use Rattle.sheet.specs.Read.{countsOf, sheetRead}
 use Rattle.sheet.specs.Steps.{rankOf, lentBy, Counted, firstFault, answerFrom}
@@ -54,19 +54,19 @@ module _ (s : List ℕ) where
   name-unspaced z = rw (ne-eqb (getD s 1 0) space z)
 
   module _ (l : Letter) (z : rank l ≡ 0 → ⊥) where
-    pub row-rules : keepsRules l s ≡ (eqb (length s) (1 + 6 * width l) && fieldsFit (columns l) (drop 1 s))
+    pub row-rules : keepsRules l s ≡ (eqb (length s) (1 + lineBytes (columns l)) && fieldsFit (columns l) (drop 1 s))
     unfolding keepsRules
     row-rules = rw (ne-eqb (rank l) 0 z)
 
-    pub row-fields : length s ≡ 1 + 6 * width l → fieldsFit (columns l) (drop 1 s) ≡ keepsRules l s
-    row-fields e = sym (row-rules ∙ rw (eq-eqb (length s) (1 + 6 * width l) e))
+    pub row-fields : length s ≡ 1 + lineBytes (columns l) → fieldsFit (columns l) (drop 1 s) ≡ keepsRules l s
+    row-fields e = sym (row-rules ∙ rw (eq-eqb (length s) (1 + lineBytes (columns l)) e))
 
-    pub row-length : (length s ≡ 1 + 6 * width l → ⊥) → false ≡ keepsRules l s
-    row-length n = sym (row-rules ∙ rw (ne-eqb (length s) (1 + 6 * width l) n))
+    pub row-length : (length s ≡ 1 + lineBytes (columns l) → ⊥) → false ≡ keepsRules l s
+    row-length n = sym (row-rules ∙ rw (ne-eqb (length s) (1 + lineBytes (columns l)) n))
 
     -- a row that keeps the rules is as long as they say
-    pub row-size : keepsRules l s ≡ true → length s ≡ 1 + 6 * width l
-    row-size e = eqb-true (length s) (1 + 6 * width l) (both (eqb (length s) (1 + 6 * width l)) (fieldsFit (columns l) (drop 1 s)) (sym row-rules ∙ e) .0)
+    pub row-size : keepsRules l s ≡ true → length s ≡ 1 + lineBytes (columns l)
+    row-size e = eqb-true (length s) (1 + lineBytes (columns l)) (both (eqb (length s) (1 + lineBytes (columns l))) (fieldsFit (columns l) (drop 1 s)) (sym row-rules ∙ e) .0)
 
   -- a name that keeps the rules has 1 to 63 bytes
   pub name-size : keepsRules letterN s ≡ true → (3 ≤ length s) × (length s ≤ 65)
@@ -84,7 +84,7 @@ row-shorter s l e =
     elim (ℕ-discrete (rank l) 0) [
       | yes z ↦ subst (λ (m : Letter). width m < length s) (sym (same-letter l letterN z))
           (let n = name-size s (subst (λ (m : Letter). keepsRules m s ≡ true) (same-letter l letterN z) e) in omega arith)
-      | no z ↦ (let n = row-size s l z e in omega arith)
+      | no z ↦ omega (arith, row-size s l z e, width-bytes l z)
     ]
 
 -- ---- no. 5

@@ -2,34 +2,23 @@
 use mathlib.Core.Bool.{Bool, true, false, cond}
 use mathlib.Core.List.{List, [], _∷_, map}
 use mathlib.Core.Option.{Option, none, some}
-use mathlib.Core.Path.{_≡_, refl, sym, ap, _∙_}
-use Prim.Native.Nat.{ℕ, zero, suc, _+_, _<_}
+use mathlib.Core.Path.{_≡_, refl, sym, ap, ap₂, _∙_}
+use Prim.Native.Nat.{ℕ, zero, suc, _+_, _≤_, _<_}
 use native.Mathlib.Decide.{decLe}
 use native.Mathlib.Nat.{not-suc-le-zero, le-of-suc-le-suc}
 use native.Mathlib.Omega.{arith}
 use borrow.Author.Tests.{eqb-true, eq-eqb}
-use lib.Dec.{eqb}
+use lib.Dec.{T, eqb}
 use lib.ListN.{length, getD, drop, List·getD-eq-default}
-use Rattle.as5506.specs.Columns.{order, rank, letterByte, columns, letterCount}
-use Rattle.as5506.specs.Lists.{span, putIf, keep, firstOf}
+use Rattle.as5506.specs.Columns.{order, rank, letterByte, Column, columns, letterCount, lineBytes, rowCells}
+use Rattle.as5506.specs.Fields.{fieldsFit, fieldNumbers}
+use Rattle.as5506.specs.Lists.{span, putIf, keep, firstOf, allOf}
 use Rattle.as5506.specs.Sheet.{letterOf}
 use Rattle.as5506.specs.Tables.{Letter, letterN, letterC, letterF, letterX, letterP, letterI, letterT, letterQ, letterU, letterE, letterR, width}
-use Rattle.fields.specs.Fields.{marksOf}
+use Rattle.as5506.proofs.Letters.{each-letter, row-cells as width-cells}
+use Rattle.fields.specs.Fields.{columnsBy, marksOf, isSized}
+use Rattle.fields.proofs.Laws.{columns-fit, columns-numbers, columns-bytes, columns-cells}
 use Rattle.sheet.specs.Steps.{letterAt, rankOf, indexOf}
-
--- what holds of each letter
-pub each-letter : (P : Letter → Type 0) → P letterN → P letterC → P letterF → P letterX → P letterP → P letterI → P letterT → P letterQ → P letterU → P letterE → P letterR → (l : Letter) → P l
-each-letter P n c f x p i t q u e r letterN = n
-each-letter P n c f x p i t q u e r letterC = c
-each-letter P n c f x p i t q u e r letterF = f
-each-letter P n c f x p i t q u e r letterX = x
-each-letter P n c f x p i t q u e r letterP = p
-each-letter P n c f x p i t q u e r letterI = i
-each-letter P n c f x p i t q u e r letterT = t
-each-letter P n c f x p i t q u e r letterQ = q
-each-letter P n c f x p i t q u e r letterU = u
-each-letter P n c f x p i t q u e r letterE = e
-each-letter P n c f x p i t q u e r letterR = r
 
 -- ---- by rank
 
@@ -50,19 +39,29 @@ mapped-at f (l ∷ ls) (suc k) h = mapped-at f ls k (le-of-suc-le-suc h)
 entry : (f : Letter → ℕ) (k : ℕ) → k < letterCount → getD (map f order) k 0 ≡ f (letterAt k)
 entry f = mapped-at f order
 
--- tables with an entry for each letter: as5506::WIDTHS and LETTERS are the first two, the code's OPTIONAL is the third
+-- tables with an entry for each letter: as5506::WIDTHS and LETTERS are the first two, the code's FIELDS, MARKS and COLUMNS the others
 abbrev pub widths : List ℕ
 widths = map width order
 
 abbrev pub letters : List ℕ
 letters = map letterByte order
 
-abbrev pub optionals : List ℕ
-optionals = 0 ∷ 38 ∷ 0 ∷ 120 ∷ 0 ∷ 0 ∷ 0 ∷ 0 ∷ 504 ∷ 240 ∷ 16 ∷ []
+abbrev pub counts : List ℕ
+counts = map (λ l. length (columns l)) order
 
-optionals-right : optionals ≡ map (λ l. marksOf (columns l)) order
+abbrev pub marks : List ℕ
+marks = 0 ∷ 0x100210 ∷ 0 ∷ 0x1111000 ∷ 0 ∷ 0 ∷ 0 ∷ 0 ∷ 0x111111000 ∷ 0x11110000 ∷ 0x10000 ∷ []
+
+marks-right : marks ≡ map (λ l. marksOf (columns l)) order
 unfolding marksOf
-optionals-right = refl
+marks-right = refl
+
+abbrev pub bytes : List ℕ
+bytes = map (λ l. lineBytes (columns l)) order
+
+-- each field takes the columns that its mark says
+sized : (l : Letter) → T (allOf isSized (columns l))
+sized = each-letter (λ l. T (allOf isSized (columns l))) tt tt tt tt tt tt tt tt tt tt tt
 
 module _ (k : ℕ) (h : k < letterCount) where
   pub width-at : getD widths k 0 ≡ width (letterAt k)
@@ -71,8 +70,30 @@ module _ (k : ℕ) (h : k < letterCount) where
   pub byte-at : getD letters k 0 ≡ letterByte (letterAt k)
   byte-at = entry letterByte k h
 
-  pub optional-at : getD optionals k 0 ≡ marksOf (columns (letterAt k))
-  optional-at = ap (λ (xs : List ℕ). getD xs k 0) optionals-right ∙ entry (λ l. marksOf (columns l)) k h
+  count-at : getD counts k 0 ≡ length (columns (letterAt k))
+  count-at = entry (λ l. length (columns l)) k h
+
+  mark-at : getD marks k 0 ≡ marksOf (columns (letterAt k))
+  mark-at = ap (λ (xs : List ℕ). getD xs k 0) marks-right ∙ entry (λ l. marksOf (columns l)) k h
+
+  pub bytes-at : getD bytes k 0 ≡ lineBytes (columns (letterAt k))
+  bytes-at = entry (λ l. lineBytes (columns l)) k h
+
+  -- the fields that the code goes by: those of the letter, but for what they mean
+  columns-are : columnsBy (getD counts k 0) (getD marks k 0) ≡ columnsBy (length (columns (letterAt k))) (marksOf (columns (letterAt k)))
+  columns-are = ap₂ columnsBy count-at mark-at
+
+  pub fit-at : (s : List ℕ) → fieldsFit (columnsBy (getD counts k 0) (getD marks k 0)) s ≡ fieldsFit (columns (letterAt k)) s
+  fit-at s = ap (λ (cs : List Column). fieldsFit cs s) columns-are ∙ columns-fit (columns (letterAt k)) (sized (letterAt k)) s
+
+  pub numbers-at : (s : List ℕ) → fieldNumbers (columnsBy (getD counts k 0) (getD marks k 0)) s ≡ fieldNumbers (columns (letterAt k)) s
+  numbers-at s = ap (λ (cs : List Column). fieldNumbers cs s) columns-are ∙ columns-numbers (columns (letterAt k)) (sized (letterAt k)) s
+
+  pub line-at : lineBytes (columnsBy (getD counts k 0) (getD marks k 0)) ≡ getD bytes k 0
+  line-at = ap lineBytes columns-are ∙ columns-bytes (columns (letterAt k)) (sized (letterAt k)) ∙ sym bytes-at
+
+  cells-at : rowCells (columnsBy (getD counts k 0) (getD marks k 0)) ≡ rowCells (columns (letterAt k))
+  cells-at = ap rowCells columns-are ∙ columns-cells (columns (letterAt k))
 
 span-at : (i n k : ℕ) → k < n → getD (span i n) k 0 ≡ i + k
 span-at i zero k h = absurd (not-suc-le-zero h)
@@ -85,13 +106,22 @@ rank-at k h = sym (entry rank k h) ∙ span-at 0 letterCount k h ∙ omega arith
 pub width-small : (l : Letter) → width l < 10
 width-small = each-letter (λ l. width l < 10) (omega arith) (omega arith) (omega arith) (omega arith) (omega arith) (omega arith) (omega arith) (omega arith) (omega arith) (omega arith) (omega arith)
 
--- of every letter but N the row has a number for each column
-pub column-count : (k : ℕ) → 0 < k → k < letterCount → width (letterAt k) ≡ length (columns (letterAt k))
-column-count k p h = sym (entry width k h) ∙ above k p ∙ entry (λ l. length (columns l)) k h
-  where
-    above : (k : ℕ) → 0 < k → getD (map width order) k 0 ≡ getD (map (λ l. length (columns l)) order) k 0
-    above zero p = absurd (not-suc-le-zero p)
-    above (suc k) p = refl
+-- a line of a letter other than N has more bytes than its row has numbers
+pub width-bytes : (l : Letter) → (rank l ≡ 0 → ⊥) → width l ≤ lineBytes (columns l)
+width-bytes =
+    each-letter (λ l. (rank l ≡ 0 → ⊥) → width l ≤ lineBytes (columns l))
+    (λ z. absurd (z refl)) (λ z. omega arith) (λ z. omega arith) (λ z. omega arith) (λ z. omega arith) (λ z. omega arith) (λ z. omega arith) (λ z. omega arith) (λ z. omega arith) (λ z. omega arith) (λ z. omega arith)
+
+pub bytes-few : (l : Letter) → lineBytes (columns l) < 100
+bytes-few = each-letter (λ l. lineBytes (columns l) < 100) (omega arith) (omega arith) (omega arith) (omega arith) (omega arith) (omega arith) (omega arith) (omega arith) (omega arith) (omega arith) (omega arith)
+
+-- of every letter but N the row has the numbers of its fields
+pub cell-count : (k : ℕ) → 0 < k → k < letterCount → width (letterAt k) ≡ rowCells (columns (letterAt k))
+cell-count k p h = width-cells (letterAt k) (λ z. omega (arith, z, rank-at k h))
+
+-- and so have the fields that the code goes by
+pub row-cells : (k : ℕ) → 0 < k → k < letterCount → rowCells (columnsBy (getD counts k 0) (getD marks k 0)) ≡ getD widths k 0
+row-cells k p h = cells-at k h ∙ sym (width-at k h ∙ cell-count k p h)
 
 -- ---- a line's letter
 

@@ -8,6 +8,7 @@
 --     Put       the pass that writes a letter's table
 --     Whole     a sheet that is read, and the end of a call
 --     Model     for callers: what a success hands over
+--     Kept      02 (ii): a padded sheet hands back the index of before
 pub mod Letters
 pub mod Lines
 pub mod Rows
@@ -16,3 +17,4 @@ pub mod Order
 pub mod Put
 pub mod Whole
 pub mod Model
+pub mod Kept

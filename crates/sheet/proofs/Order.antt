@@ -3,16 +3,16 @@ use mathlib.Core.Bool.{true, _&&_}
 use mathlib.Core.List.{List, [], _∷_, map}
 use mathlib.Core.Option.{Option, none, some}
 use mathlib.Core.Path.{_≡_, refl, sym, ap, subst, _∙_}
-use Prim.Native.Nat.{ℕ, _+_, _-_, _*_, _≤_, _<_}
+use Prim.Native.Nat.{ℕ, _+_, _-_, _≤_, _<_}
 use native.Mathlib.Decide.{decLe, ℕ-discrete}
 use native.Mathlib.Omega.{arith}
 use borrow.Author.Tests.{eqb-true, leb-true, le-leb}
 use lib.Dec.{leb}
 use lib.ListN.{length, take, drop, getD, length-drop}
 use lib.Seq.{getD-take, getD-drop}
-use Rattle.as5506.specs.Columns.{rank, letterByte}
+use Rattle.as5506.specs.Columns.{rank, letterByte, columns, lineBytes}
 use Rattle.as5506.specs.Sheet.{Line, ended, unended, textOf, letterOf, linesOf, linesWith, keepsRules, lineFeed}
-use Rattle.as5506.specs.Tables.{Letter, width}
+use Rattle.as5506.specs.Tables.{Letter}
 use Rattle.as5506.proofs.Laws.{false-true}
 use Rattle.sheet.proofs.Check.{both, row-size}
 use Rattle.sheet.proofs.Letters.{same-letter, letter-byte, byte-within, same-byte, other-byte}
@@ -115,13 +115,13 @@ module _ (l : Letter) (s : List ℕ) (from : ℕ) where
   stop-within : from ≤ length s → from + indexOf lineFeed (drop from s) ≤ length s
   stop-within h = omega (arith, index-within (drop from s) lineFeed, length-drop from s)
 
-  -- of a letter other than N such a line has a field of six bytes for each number: that is where its LF stands
-  pub row-turn : (rank l ≡ 0 → ⊥) → getD s from 0 ≡ letterByte l → inOrder (rank l) (linesOf (drop from s)) ≡ true → Turn l s from (from + (1 + 6 * width l))
+  -- of a letter other than N such a line takes the columns of its fields: behind them stands its LF
+  pub row-turn : (rank l ≡ 0 → ⊥) → getD s from 0 ≡ letterByte l → inOrder (rank l) (linesOf (drop from s)) ≡ true → Turn l s from (from + (1 + lineBytes (columns l)))
   row-turn z b w =
       let stop = from + indexOf lineFeed (drop from s) in
       let h = byte-within s from l b in
       let t = turn stop b refl (stop-within (omega arith)) w in
-      let e : stop ≡ from + (1 + 6 * width l) = omega (arith, t .size, row-size (lineFrom s from stop) l z (t .rules)) in
+      let e : stop ≡ from + (1 + lineBytes (columns l)) = omega (arith, t .size, row-size (lineFrom s from stop) l z (t .rules)) in
       subst (λ (j : ℕ). Turn l s from j) e t
 
   -- where no line of the letter l begins, the lines of later letters do

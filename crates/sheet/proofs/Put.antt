@@ -13,13 +13,13 @@ use Rattle.as5506.specs.Fields.{fieldNumbers}
 use Rattle.as5506.specs.Lists.{total, each}
 use Rattle.as5506.specs.Sheet.{textOf, linesOf, linesWith, lineName, lineRow, nameBytes, placed, rowsRead}
 use Rattle.as5506.specs.Tables.{Letter, letterN}
+use Rattle.as5506.proofs.Fields.{numbers-length}
 use Rattle.lent.proofs.Sets.{sets-append}
-use Rattle.fields.proofs.Laws.{columns-numbers}
 use Rattle.fields.specs.Fields.{columnsBy}
 use Rattle.sheet.proofs.Check.{name-size}
-use Rattle.sheet.proofs.Letters.{widths, width-at, column-count, letter-byte, other-byte}
+use Rattle.sheet.proofs.Letters.{widths, counts, marks, width-at, numbers-at, cell-count, letter-byte, other-byte}
 use Rattle.sheet.proofs.Order.{lineFrom, Turn, none-later, passed}
-use Rattle.sheet.proofs.Rows.{own-line, other-line, numbers-length}
+use Rattle.sheet.proofs.Rows.{own-line, other-line}
 use Rattle.sheet.specs.Steps.{letterAt, texts, inOrder, LeftFrom}
 
 -- ---- the bytes of a line's name
@@ -50,11 +50,11 @@ module _ (s : List ℕ) where
 -- ---- what the code writes for a line of the letter k
 
 module _ (s : List ℕ) (k : ℕ) (p : 0 < k) (h : k < letterCount) where
-  pub row-written : fieldNumbers (columnsBy (getD widths k 0) 0) (drop 1 s) ≡ lineRow (letterAt k) s
-  row-written = ap (λ (w : ℕ). fieldNumbers (columnsBy w 0) (drop 1 s)) (width-at k h ∙ column-count k p h) ∙ columns-numbers (columns (letterAt k)) 0 (drop 1 s)
+  pub row-written : fieldNumbers (columnsBy (getD counts k 0) (getD marks k 0)) (drop 1 s) ≡ lineRow (letterAt k) s
+  row-written = numbers-at k h (drop 1 s)
 
   pub row-count : length (lineRow (letterAt k) s) ≡ getD widths k 0
-  row-count = numbers-length (columns (letterAt k)) (drop 1 s) ∙ sym (width-at k h ∙ column-count k p h)
+  row-count = numbers-length (columns (letterAt k)) (drop 1 s) ∙ sym (width-at k h ∙ cell-count k p h)
 
 -- ---- writing: the pass of the letter l stands at byte `from`. Of `all` the part W is left, which goes to t from index `at` on; t₀ is the table at the
 -- start. Of later letters all lines are left.

@@ -2,17 +2,17 @@
 use mathlib.Core.Bool.{Bool, true, false}
 use mathlib.Core.List.{List, [], _∷_, map, reverse, reverseAux}
 use mathlib.Core.Path.{_≡_, refl, sym, ap, ap₂, _∙_}
-use Prim.Native.Nat.{ℕ, suc, _+_, _*_, _/_, _<_}
+use Prim.Native.Nat.{ℕ, _+_, _*_, _/_}
 use native.Mathlib.Nat.{add-mul, zero-mul, zero-add, add-zero, mul-div-cancel}
 use native.Mathlib.Omega.{arith}
 use lib.Dec.{eqb}
 use lib.ListN.{length, getD, drop, length-append}
-use Rattle.as5506.specs.Columns.{Column, letterByte, columns}
-use Rattle.as5506.specs.Fields.{fieldNumbers}
+use Rattle.as5506.specs.Columns.{letterByte, columns, rowCells}
 use Rattle.as5506.specs.Lists.{putIf, total, each}
 use Rattle.as5506.specs.Sheet.{linesWith, lineName, lineRow, nameBytes, placed, rowsRead, tablesRead}
 use Rattle.as5506.specs.Tables.{Letter, letterN, letterC, letterF, letterX, letterP, letterI, letterT, letterQ, letterU, letterE, letterR, table, width, count}
-use Rattle.sheet.proofs.Letters.{each-letter}
+use Rattle.as5506.proofs.Fields.{numbers-length}
+use Rattle.as5506.proofs.Letters.{each-letter, width-some}
 
 -- ---- one line more
 
@@ -34,17 +34,12 @@ other-line l s ls e = rw e
 
 -- ---- how many numbers
 
-pub numbers-length : (cs : List Column) (s : List ℕ) → length (fieldNumbers cs s) ≡ length cs
-unfolding fieldNumbers
-numbers-length [] s = refl
-numbers-length (c ∷ cs) s = ap suc (numbers-length cs (drop 6 s))
-
-rows-length : (l : Letter) (ls : List (List ℕ)) → length (each (lineRow l) ls) ≡ length ls * length (columns l)
-rows-length l [] = sym (zero-mul (length (columns l)))
+rows-length : (l : Letter) (ls : List (List ℕ)) → length (each (lineRow l) ls) ≡ length ls * rowCells (columns l)
+rows-length l [] = sym (zero-mul (rowCells (columns l)))
 rows-length l (s ∷ ls) =
     length-append (lineRow l s) (each (lineRow l) ls)
     ∙ ap₂ _+_ (numbers-length (columns l) (drop 1 s)) (rows-length l ls)
-    ∙ omega (arith, add-mul 1 (length ls) (length (columns l)))
+    ∙ omega (arith, add-mul 1 (length ls) (rowCells (columns l)))
 
 placed-length : (from : ℕ) (ls : List (List ℕ)) → length (placed from (map lineName ls)) ≡ length ls * 2
 unfolding placed
@@ -71,9 +66,6 @@ whole-rows ls =
     (rows-length letterU (linesWith letterU ls))
     (rows-length letterE (linesWith letterE ls))
     (rows-length letterR (linesWith letterR ls))
-
-width-some : (l : Letter) → 0 < width l
-width-some = each-letter (λ l. 0 < width l) (omega arith) (omega arith) (omega arith) (omega arith) (omega arith) (omega arith) (omega arith) (omega arith) (omega arith) (omega arith) (omega arith)
 
 -- THE ROWS OF A TABLE THAT IS READ ARE THE LINES OF ITS LETTER
 pub rows-counted : (ls : List (List ℕ)) (l : Letter) → count (tablesRead ls) l ≡ length (linesWith l ls)

@@ -16,7 +16,8 @@ use Rattle.as5506.specs.Tables.{Tables, Letter, letterN, table, width}
 use Rattle.as5506.specs.declared.Refusal.{Refusal as Told}
 use Rattle.lent.proofs.Padded.{padded-is}
 use Rattle.sheet.proofs.Check.{both, Good, good, earlier-none, earlier-than}
-use Rattle.sheet.proofs.Letters.{each-letter, byte-letter}
+use Rattle.as5506.proofs.Letters.{each-letter}
+use Rattle.sheet.proofs.Letters.{byte-letter}
 use Rattle.sheet.proofs.Order.{first-in}
 use Rattle.sheet.proofs.Rows.{none-with, own-line, other-line, names-length, whole-rows, lines-split, names-split}
 use Rattle.sheet.specs.Read.{sheetRead, ReadInto}

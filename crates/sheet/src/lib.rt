@@ -43,20 +43,24 @@ pub enum SheetRead {
     Refused(as5506::Refusal),
 }
 
-// For each letter a bit for each field that may be missing, the first field lowest.
-const OPTIONAL: [usize; LETTER_COUNT] = [
+// The fields of a line, by letter. How many there are:
+const FIELDS: [usize; LETTER_COUNT] = [0, 7, 3, 7, 1, 2, 3, 4, 9, 8, 5];
+// A hexadecimal digit for each, the first field lowest: 0 where it must be there, 1 where it may be missing, 2 where it is long and may be missing.
+const MARKS: [usize; LETTER_COUNT] = [
     0,
-    0b100110,
+    0x100210,
     0,
-    0b1111000,
-    0,
-    0,
+    0x1111000,
     0,
     0,
-    0b111111000,
-    0b11110000,
-    0b10000,
+    0,
+    0,
+    0x111111000,
+    0x11110000,
+    0x10000,
 ];
+// The columns that they take together: six each, a long one twenty.
+const COLUMNS: [usize; LETTER_COUNT] = [0, 56, 18, 42, 6, 12, 18, 24, 54, 48, 30];
 
 // What the caller lends: the bytes of the byte table and the numbers of each letter's table.
 pub struct Room {
@@ -129,9 +133,8 @@ fn row_ok(line: &[u8], k: usize) -> bool
     requires { ⌜ (0 < k) × (k < letterCount) ⌝ }
     ensures { λ r. ⌜ r ≡ keepsRules (letterAt k) (now (line .entry)) ⌝ }
 {
-    let w = as5506::WIDTHS[k];
-    if line.len() == 1 + 6 * w {
-        fields::fields_fit(line, w, OPTIONAL[k])
+    if line.len() == 1 + COLUMNS[k] {
+        fields::fields_fit(line, FIELDS[k], MARKS[k])
     } else {
         false
     }
@@ -324,20 +327,23 @@ fn put_name_rows(sheet: &[u8], n: &mut [u32]) -> usize
 }
 
 // Writes the rows of a letter k other than N, whose lines begin at byte `start`, to its table, and gives where the first line behind them begins.
-// A line of the letter has a field of six bytes for each number, so its LF need not be looked for.
+// Every line of the letter takes the same columns, so its LF need not be looked for.
 fn put_rows(sheet: &[u8], start: usize, k: usize, table: &mut [u32]) -> usize
     requires { ⌜ (0 < k) × (k < letterCount) × LeftFrom (now sheet) k start × (length (rowsRead (letterAt k) (texts (now sheet))) ≤ length (now table)) ⌝ }
     ensures { λ r. ⌜ LeftFrom (now (sheet .entry)) (k + 1) r
         × (now (table .exit) ≡ sets (now (table .entry)) 0 (rowsRead (letterAt k) (texts (now (sheet .entry))))) ⌝ }
 {
-    let w = as5506::WIDTHS[k];
+    let width = as5506::WIDTHS[k];
+    let count = FIELDS[k];
+    let marks = MARKS[k];
+    let columns = COLUMNS[k];
     let mut from = start;
     let mut at = 0;
     while lent::byte_at(sheet, from) == as5506::LETTERS[k] {
-        let end = from + (1 + 6 * w);
-        fields::put_fields(&sheet[from..end], w, table, at);
-        at += w;
-        from += 2 + 6 * w;
+        let end = from + (1 + columns);
+        fields::put_fields(&sheet[from..end], count, marks, table, at);
+        at += width;
+        from += 2 + columns;
     }
     from
 }

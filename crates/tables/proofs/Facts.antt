@@ -4,7 +4,7 @@ use mathlib.Core.Bool.{Bool, true, false, not, _&&_, _||_, cond}
 use mathlib.Core.Logic.{_⊎_, inl, inr}
 use mathlib.Core.Path.{_≡_, refl, sym, subst}
 use mathlib.Core.List.{List, [], _∷_, _++_}
-use Prim.Native.Nat.{ℕ, zero, suc, _+_, _%_, _≤_, _<_}
+use Prim.Native.Nat.{ℕ, _+_, _%_, _≤_, _<_}
 use native.Mathlib.Omega.{arith}
 use native.Mathlib.Decide.{decLe}
 use lib.ListN.{length}
@@ -12,10 +12,10 @@ use lib.Dec.{T, eqb, ltb, eqb→eq, ltb→lt, nltb→le}
 use borrow.Author.Tests.{eq-eqb, ne-eqb}
 use Rattle.as5506.specs.Lists.{upTo, isNil, each, sameBytes}
 use Rattle.as5506.specs.Tables.{Tables, missing, present, Letter, letterN, letterC, letterF, letterX, letterP, letterI, letterT, letterQ, letterU, letterE, letterR, table, width, count, at, nStart, nLength, nameOf, cCount, cName, cParent, cPackage, cType, cPattern, cPlace, fName, fOwner, fKind, Side, source, destination, xCount, xName, xOwner, xKind, xSub, xFeat, Ref, pName, iPackage, iName, tPackage, tName, tPrivate, qPackage, qType, qImpl, qPrivate, uPackage, uName, uPrivate, uExtends, uInverseOf, eHolderKind, eHolder, eName, eKind, eDirection, eClassifier, rPackage, rWhat, rAlias, rOriginalPackage, rOriginalName}
-use Rattle.as5506.specs.Columns.{order, Meaning, name, rowIn, holder, below, anything, Column, needed, optional, columns}
+use Rattle.as5506.specs.Columns.{order, Meaning, name, rowIn, holder, below, anything, Column, needed, optional, long, fieldCells, columns}
 use Rattle.as5506.specs.Names.{goodName}
 use Rattle.as5506.specs.Answers.{Refusal, refusal, row}
-use Rattle.as5506.specs.Refusals.{rowFaults, brokenRows, tooManyRows, badName, faults10, holderLetter, inRange, allows, allowsFrom, badRow, faults6, faults7, badEnd, badRef, badRename, faults8, Key, sameKey, clashes, placeKey, faults16, faults9, faults, accepted}
+use Rattle.as5506.specs.Refusals.{rowFaults, brokenRows, tooManyRows, badName, faults10, holderLetter, inRange, goodLong, allows, allowsFrom, badRow, faults6, faults7, badEnd, badRef, badRename, faults8, clashes, placeKey, faults16, faults9, faults, accepted}
 use Rattle.as5506.proofs.Laws.{All, upTo-at, and-left, and-right, and-both, not-not, nil-left, nil-right, nil-when, nil-each, nil-keep}
 use Rattle.as5506.proofs.Whole.{Sound}
 use Rattle.as5506.proofs.Accepted.{some-component, sound}
@@ -45,6 +45,7 @@ pub record Facts (m : Tables) : Type 0 where
   -- 6: C
   pub c-name : (i : ℕ) → i < cCount m → cName m i < count m letterN
   pub c-parent : (i : ℕ) → i < cCount m → MissingOr (cParent m i) (cCount m)
+  pub c-index : (i : ℕ) → i < cCount m → T (goodLong (at m letterC i 2) (at m letterC i 3) (at m letterC i 4))
   pub c-package : (i : ℕ) → i < cCount m → cPackage m i < count m letterN
   pub c-type : (i : ℕ) → i < cCount m → cType m i < count m letterN
   pub c-pattern : (i : ℕ) → i < cCount m → MissingOr (cPattern m i) (count m letterN)
@@ -151,27 +152,31 @@ module _ (m : Tables) (i : ℕ) where
   within (below b) v t = ltb→lt v b t
   within anything v t = t
 
-  abbrev Says : Column → ℕ → Type 0
-  Says (needed w) v = Within w v
-  Says (optional w) v = (v ≡ missing) ⊎ Within w v
+  -- the column whose first number is number j
+  abbrev Says : Letter → ℕ → Column → Type 0
+  Says l j (needed b w) = Within w (at m l i j)
+  Says l j (optional b w) = (at m l i j ≡ missing) ⊎ Within w (at m l i j)
+  Says l j (long b) = T (goodLong (at m l i j) (at m l i (j + 1)) (at m l i (j + 2)))
 
-  says : (c : Column) (v : ℕ) → T (allows m i c v) → Says c v
-  says (needed w) v t = within w v t
-  says (optional w) v t = go (present v) refl t
+  says : (l : Letter) (j : ℕ) (c : Column) → T (allows m l i j c) → Says l j c
+  says l j (needed b w) t = within w (at m l i j) t
+  says l j (optional b w) t = go (present (at m l i j)) refl t
     where
-      go : (b : Bool) → present v ≡ b → T (not b || inRange m i w v) → (v ≡ missing) ⊎ Within w v
-      go true e u = inr (within w v u)
-      go false e u = inl (absent v (subst (λ (b : Bool). T (not b)) (sym e) tt))
+      go : (there : Bool) → present (at m l i j) ≡ there → T (not there || inRange m i w (at m l i j)) → (at m l i j ≡ missing) ⊎ Within w (at m l i j)
+      go true e u = inr (within w (at m l i j) u)
+      go false e u = inl (absent (at m l i j) (subst (λ (there : Bool). T (not there)) (sym e) tt))
+  says l j (long b) t = t
 
   abbrev SaysAll : Letter → ℕ → List Column → Type 0
   SaysAll l j [] = Unit {0}
-  SaysAll l j (c ∷ cs) = Says c (at m l i j) × SaysAll l (suc j) cs
+  SaysAll l j (c ∷ cs) = Says l j c × SaysAll l (j + fieldCells c) cs
 
   says-all : (l : Letter) (j : ℕ) (cs : List Column) → T (allowsFrom m l i j cs) → SaysAll l j cs
   unfolding allowsFrom
   says-all l j [] t = tt
   says-all l j (c ∷ cs) t =
-      (says c (at m l i j) (and-left (allows m i c (at m l i j)) (allowsFrom m l i (suc j) cs) t), says-all l (suc j) cs (and-right (allows m i c (at m l i j)) (allowsFrom m l i (suc j) cs) t))
+      let rest = allowsFrom m l i (j + fieldCells c) cs in
+      (says l j c (and-left (allows m l i j c) rest t), says-all l (j + fieldCells c) cs (and-right (allows m l i j c) rest t))
 
 -- ---- 8
 typed-or-bare : (r : Ref) → T (not (badRef r)) → r .type ≡ missing → (r .pkg ≡ missing) × (r .impl ≡ missing)
@@ -271,6 +276,7 @@ module _ (m : Tables) (ok : T (accepted m)) where
         name-good = λ k h. name-facts k h .1;
         c-name = λ i h. row-facts letterC i h .0;
         c-parent = λ i h. row-facts letterC i h .1 .0;
+        c-index = λ i h. row-facts letterC i h .1 .1 .0;
         c-package = λ i h. row-facts letterC i h .1 .1 .1 .0;
         c-type = λ i h. row-facts letterC i h .1 .1 .1 .1 .0;
         c-pattern = λ i h. row-facts letterC i h .1 .1 .1 .1 .1 .0;

@@ -14,7 +14,7 @@ use Rattle.as5506.specs.Names.{goodName, sameFolded}
 use Rattle.as5506.proofs.Laws.{and-left, and-right}
 use Rattle.tables.specs.declared.Rule.{Rule}
 use Rattle.tables.specs.declared.Part.{Part}
-use Rattle.tables.specs.Tests.{widths, fields, keys, farthest, rowsOf, nameBad, limitOf, mayMiss, fitsAs, fieldFits, parentBad, endBad, referenceBad, renameBad, endsBad, sameBy, samePart}
+use Rattle.tables.specs.Tests.{widths, farthest, rowsOf, nameBad, limitOf, mayMiss, fitsAs, whatOf, markOf, fieldFits, parentBad, endBad, referenceBad, renameBad, endsBad, sameBy, samePart}
 use Rattle.tables.specs.Order.{asked, spanOf, spanBy, capped}
 
 -- ---- the widths, by one computed test
@@ -96,23 +96,26 @@ unfolding mayMiss
 missing-by mark v h = rw h
 
 module _ (lens t : List ℕ) (k at j v : ℕ) (e : v ≡ getD t (at + j) 0) where
-  abbrev what : ℕ
-  what = getD fields (k * 20 + j * 2 + 2) 0
-
-  abbrev mark : ℕ
-  mark = getD fields (k * 20 + j * 2 + 2 + 1) 0
-
-  pub field-missing : mayMiss mark v ≡ true → true ≡ fieldFits lens t k at j
+  pub field-missing : mayMiss (markOf k j) v ≡ true → true ≡ fieldFits lens t k at j
   unfolding fieldFits fitsAs
   field-missing h = rw (← e, h)
 
-  pub field-any : mayMiss mark v ≡ false → what ≡ 42 → not (eqb v missing) ≡ fieldFits lens t k at j
-  unfolding fieldFits fitsAs
-  field-any h w = rw (← e, h, eq-eqb what 42 w)
+  module _ (h : mayMiss (markOf k j) v ≡ false) where
+    pub field-any : whatOf k j ≡ 42 → not (eqb v missing) ≡ fieldFits lens t k at j
+    unfolding fieldFits fitsAs
+    field-any w = rw (← e, h, eq-eqb (whatOf k j) 42 w)
 
-  pub field-below : (kind limit : ℕ) → mayMiss mark v ≡ false → (what ≡ 42 → ⊥) → kind ≡ getD t at 0 → limit ≡ limitOf lens kind what → ltb v limit ≡ fieldFits lens t k at j
-  unfolding fieldFits fitsAs
-  field-below kind limit h w ek q = rw (← e, h, ne-eqb what 42 w, q, ek)
+    pub field-zero : whatOf k j ≡ 94 → v ≡ 0 → true ≡ fieldFits lens t k at j
+    unfolding fieldFits fitsAs
+    field-zero w z = rw (← e, h, w, eq-eqb v 0 z)
+
+    pub field-flag : (place flag : ℕ) → whatOf k j ≡ 94 → (v ≡ 0 → ⊥) → place ≡ markOf k j - 48 → flag ≡ getD t (at + place) 0 → not (eqb flag 0) ≡ fieldFits lens t k at j
+    unfolding fieldFits fitsAs
+    field-flag place flag w z ep ef = rw (← e, h, w, ne-eqb v 0 z, ← ep, ← ef)
+
+    pub field-below : (kind limit : ℕ) → (whatOf k j ≡ 42 → ⊥) → (whatOf k j ≡ 94 → ⊥) → kind ≡ getD t at 0 → limit ≡ limitOf lens kind (whatOf k j) → ltb v limit ≡ fieldFits lens t k at j
+    unfolding fieldFits fitsAs
+    field-below kind limit w u ek q = rw (← e, h, ne-eqb (whatOf k j) 42 w, ne-eqb (whatOf k j) 94 u, q, ek)
 
 -- ---- 7
 module _ (i parent : ℕ) where

@@ -23,7 +23,7 @@ widths = map width order
 abbrev pub fields : List ℕ
 fields =
     bytesOf "N                   "
-    ++ bytesOf "C n c?*?n n n?*     "
+    ++ bytesOf "C n c?1 ^2^2n n n?* "
     ++ bytesOf "F n c 9             "
     ++ bytesOf "X n c 4 n?n?n?n?    "
     ++ bytesOf "P n                 "
@@ -38,7 +38,7 @@ fields =
 abbrev pub keys : List ℕ
 keys =
     bytesOf "N       "
-    ++ bytesOf "C 6=1=  "
+    ++ bytesOf "C 8=1=  "
     ++ bytesOf "F       "
     ++ bytesOf "X       "
     ++ bytesOf "P 0n    "
@@ -49,7 +49,7 @@ keys =
     ++ bytesOf "E       "
     ++ bytesOf "R 0=1=2n"
 
--- where row 4,096 of a table of nine fields starts; no row that is looked at starts after it
+-- where row 4,096 of a table of nine numbers starts; no row that is looked at starts after it
 abbrev pub farthest : ℕ
 farthest = 36864
 
@@ -63,9 +63,9 @@ broken lens k = not (eqb (getD lens k 0 % getD widths k 0) 0)
 unfoldable pub nameBad : List ℕ → List ℕ → ℕ → Bool
 nameBad bytes n i = ltb (length bytes) (nStart n i + nLength n i) || not (goodName (nameIn bytes n i))
 
--- ---- 6: the characters are n 110, c 99, p 112, h 104, * 42 and ? 63
+-- ---- 6: the characters are n 110, c 99, p 112, h 104, * 42, ^ 94 and ? 63
 
--- the number that a field is below, by its character: of n, c, p and h the rows of a table, of a digit one more than it
+-- what a number is below, by its character: of n, c, p and h the rows of a table, of a digit one more than it
 unfoldable pub limitOf : List ℕ → ℕ → ℕ → ℕ
 limitOf lens kind what =
     cond (eqb what 110) (rowsOf lens 0)
@@ -77,13 +77,22 @@ limitOf lens kind what =
 unfoldable pub mayMiss : ℕ → ℕ → Bool
 mayMiss mark v = not (present v) && eqb mark 63
 
--- a number v by its two characters; * is any number but missing
-unfoldable pub fitsAs : List ℕ → ℕ → ℕ → ℕ → ℕ → Bool
-fitsAs lens kind what mark v = mayMiss mark v || cond (eqb what 42) (present v) (ltb v (limitOf lens kind what))
+-- a number v by its two characters; * is any number but missing, ^ any number, but 0 where `flag` is 0
+unfoldable pub fitsAs : List ℕ → ℕ → ℕ → ℕ → ℕ → ℕ → Bool
+fitsAs lens kind flag what mark v =
+    mayMiss mark v
+    || cond (eqb what 42) (present v) (cond (eqb what 94) (eqb v 0 || not (eqb flag 0)) (ltb v (limitOf lens kind what)))
 
--- field j of a row, whose first field is the holder kind where it has one
+-- the two characters of number j of a row
+abbrev pub whatOf : ℕ → ℕ → ℕ
+whatOf k j = getD fields (k * 20 + j * 2 + 2) 0
+
+abbrev pub markOf : ℕ → ℕ → ℕ
+markOf k j = getD fields (k * 20 + j * 2 + 2 + 1) 0
+
+-- number j of a row, whose first number is the holder kind where it has one; a mark that is a digit (0 is 48) names the flag
 unfoldable pub fieldFits : List ℕ → List ℕ → ℕ → ℕ → ℕ → Bool
-fieldFits lens t k at j = fitsAs lens (getD t at 0) (getD fields (k * 20 + j * 2 + 2) 0) (getD fields (k * 20 + j * 2 + 2 + 1) 0) (getD t (at + j) 0)
+fieldFits lens t k at j = fitsAs lens (getD t at 0) (getD t (at + (markOf k j - 48)) 0) (whatOf k j) (markOf k j) (getD t (at + j) 0)
 
 unfoldable pub fieldsFit : List ℕ → List ℕ → ℕ → ℕ → Bool
 fieldsFit lens t k at = allOf (fieldFits lens t k at) (upTo (getD widths k 0))

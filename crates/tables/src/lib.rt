@@ -26,10 +26,11 @@ const U: usize = 8;
 
 const E: usize = 9;
 
-// What each field of a row is: a letter and a space, then two characters a field. The first says what the field's number is: n a name number,
-// c a row of C, p a row of P, h a row of the holder's table, a digit a number up to it, * any number but missing; the second is ? where it may be missing.
+// What each number of a row is: a letter and a space, then two characters a number. The first says what it is: n a name number, c a row of C, p a row of P,
+// h a row of the holder's table, a digit a number up to it, * any number but missing, and the second is ? where it may be missing. ^ is any number, but 0
+// where the number of the row that the second character names, from 0, is 0.
 const FIELDS: [u8; 220] = *b"N                   \
-                             C n c?*?n n n?*     \
+                             C n c?1 ^2^2n n n?* \
                              F n c 9             \
                              X n c 4 n?n?n?n?    \
                              P n                 \
@@ -40,10 +41,10 @@ const FIELDS: [u8; 220] = *b"N                   \
                              E 1 h n 9 2?n?n?n?  \
                              R p 2 n n n?        ";
 
-// What two rows of a letter may not have in common, its key: a letter and a space, then two characters a part. The first is the field, from 0; the second
-// is = where its numbers are compared, n where they are names that are compared folded. Of C the place comes first: it is seldom the same.
+// What two rows of a letter may not have in common, its key: a letter and a space, then two characters a part. The first says which number of a row it is,
+// from 0; the second is = where these are compared, n where they are names that are compared folded. Of C the place comes first: it is seldom the same.
 const KEYS: [u8; 88] = *b"N       \
-                          C 6=1=  \
+                          C 8=1=  \
                           F       \
                           X       \
                           P 0n    \
@@ -147,24 +148,31 @@ fn may_miss(mark: u8, v: u32) -> bool
     mark == b'?'
 }
 
-// 6: whether field j of the row at `at` is in its range.
+// 6: whether number j of the row at `at` is in its range.
 fn field_fits(lens: [usize; LETTER_COUNT], t: &[u32], k: usize, at: usize, j: usize) -> bool
     requires { ⌜ (k < letterCount) × (j < 9) × (at ≤ farthest) ⌝ }
     ensures { λ r. ⌜ r ≡ fieldFits lens (now (t .entry)) k at j ⌝ }
 {
     let v = lent::number_at(t, at + j);
     let place = k * 20 + j * 2 + 2;
-    if may_miss(FIELDS[place + 1], v) {
+    let mark = FIELDS[place + 1];
+    if may_miss(mark, v) {
         return true;
     }
     let what = FIELDS[place];
     if what == b'*' {
         return v != as5506::MISSING;
     }
+    if what == b'^' {
+        if v == 0 {
+            return true;
+        }
+        return lent::number_at(t, at + digit_of(mark)) != 0;
+    }
     (v as usize) < limit_of(lens, lent::number_at(t, at), what)
 }
 
-// 6: whether all fields of the row at `at` are in their ranges.
+// 6: whether all numbers of the row at `at` are in their ranges.
 fn fields_fit(lens: [usize; LETTER_COUNT], t: &[u32], k: usize, at: usize) -> bool
     requires { ⌜ (k < letterCount) × (at ≤ farthest) ⌝ }
     ensures { λ r. ⌜ r ≡ fieldsFit lens (now (t .entry)) k at ⌝ }

@@ -24,6 +24,8 @@ pub struct Met {
     pub refused: [usize; 4],
     /// Models that the original is too long at.
     pub slow: usize,
+    /// Models that were listed with other array indices as well.
+    pub other_indices: usize,
 }
 
 /// The lengths of the three outputs.
@@ -101,6 +103,10 @@ pub fn compare(sheet: &Sheet, renames: Renames, met: &mut Met) -> Result<(), Str
     listed(&tables, huge, &listing, met)?;
     listed(&tables.with_more_names(), exact, &listing, met)?;
     listed(&tables.with_large_places(), exact, &listing, met)?;
+    if let Some(other) = tables.with_other_indices() {
+        met.other_indices += 1;
+        listed(&other, exact, &listing, met)?;
+    }
     too_short(&tables, exact, met)
 }
 

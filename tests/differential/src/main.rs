@@ -166,6 +166,10 @@ impl Met {
             self.records.calls, self.records.records, self.records.refused_12,
         );
         println!(
+            "array indices: {} models in the traced and {} in the group listing with other bits as well; {} tables refused for their numbers",
+            traced.other_indices, group.other_indices, self.unaccepted.indices,
+        );
+        println!(
             "conlist: {} sheets, {} of them refused, {} bytes of text; {} calls",
             text.sheets, text.refused, text.bytes, text.calls,
         );
@@ -187,6 +191,9 @@ impl Met {
             && expansion.refused_13 > 0
             && self.group.rows > 0
             && self.group.refused.iter().all(|&calls| calls > 0)
+            && traced.other_indices > 0
+            && self.group.other_indices > 0
+            && self.unaccepted.indices > 0
             && self.records.records > 0
             && self.records.refused_12 > 0
             && self.text.refused > 0

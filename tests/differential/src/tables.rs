@@ -3,8 +3,25 @@
 use oracle::letters::{LETTERS, ROW_LETTERS, Sheet, component, name, rank};
 use oracle::sheet::NAME_ROWS;
 
-/// A missing field.
+/// A missing field. An array index that is missing has zeros.
 pub const MISSING: u32 = u32::MAX;
+
+/// The three numbers of an array index in a C row.
+pub const PRESENT: usize = component::ARRAY_INDEX;
+pub const HIGH: usize = PRESENT + 1;
+pub const LOW: usize = PRESENT + 2;
+
+/// High and low bits of array indices: none, all of one or of both, and the outermost ones alone.
+const INDEX_BITS: &[[u32; 2]] = &[
+    [0, 0],
+    [0, u32::MAX],
+    [u32::MAX, u32::MAX],
+    [u32::MAX, 0],
+    [1, 0],
+    [0, 1],
+    [1 << 31, 0],
+    [0, 1 << 31],
+];
 
 /// The byte table, and a table for each letter in the order of the letters.
 #[derive(Clone, Debug, PartialEq, Eq)]
@@ -50,6 +67,20 @@ impl Tables {
             row[component::PLACE] += over;
         }
         tables
+    }
+
+    /// The same model with other bits in its array indices, if it has any. The same children are elements then, and nothing else goes by
+    /// an index.
+    pub fn with_other_indices(&self) -> Option<Tables> {
+        let mut tables = self.clone();
+        let bits = INDEX_BITS.iter().cycle();
+        for (row, &[high, low]) in tables.components().into_iter().zip(bits) {
+            if row[PRESENT] == 1 {
+                row[HIGH] = high;
+                row[LOW] = low;
+            }
+        }
+        (tables != *self).then_some(tables)
     }
 
     /// The same model with more names than the program conlist reads: its first name again and again, which nothing refers to.

@@ -20,6 +20,8 @@ pub struct Met {
     pub refused_11: usize,
     pub refused_12: usize,
     pub endless: usize,
+    /// Models that were listed with other array indices as well.
+    pub other_indices: usize,
 }
 
 /// Compares the two on a sheet, with outputs of every telling size.
@@ -38,6 +40,10 @@ pub fn compare(sheet: &Sheet, met: &mut Met) -> Result<(), String> {
     listed(sheet, &tables, rows, diagnostics, &listing, met)?;
     let large = tables.with_large_places();
     listed(sheet, &large, rows, diagnostics, &listing, met)?;
+    if let Some(other) = tables.with_other_indices() {
+        met.other_indices += 1;
+        listed(sheet, &other, rows, diagnostics, &listing, met)?;
+    }
     let (more_rows, more_diagnostics) =
         (rows + ROW_NUMBERS - 1, diagnostics + DIAGNOSTIC_NUMBERS - 1);
     listed(sheet, &tables, more_rows, more_diagnostics, &listing, met)?;

@@ -8,7 +8,7 @@ use oracle::sheet::{NAME_BYTES, Sheet};
 use crate::lent::Lent;
 use crate::library::{self, Outputs};
 use crate::records;
-use crate::tables::{MISSING, Tables};
+use crate::tables::{LOW, MISSING, PRESENT, Tables};
 use crate::{DIAGNOSTIC_NUMBERS, ROW_NUMBERS};
 
 const ROWS: usize = 4096;
@@ -20,13 +20,15 @@ pub struct Met {
     pub calls: usize,
     /// Tables by their refusal.
     pub refused: [usize; REFUSALS_OF_TABLES.len()],
+    /// Tables in which the numbers of an array index are wrong.
+    pub indices: usize,
 }
 
 /// A refusal's number, place and letter.
 pub type Refusal = [u64; 3];
 
 /// Tables of a model that are spoilt at one place or two, by `seed`, with the refusal that they earn: 10 in its three ways, a missing
-/// place and equal places.
+/// place and equal places, and an array index of numbers that none has.
 pub fn compare(sheet: &Sheet, seed: usize, met: &mut Met) -> Result<(), String> {
     let tables = Tables::of(sheet);
     let rank = seed % LETTERS.len();
@@ -74,7 +76,8 @@ pub fn compare(sheet: &Sheet, seed: usize, met: &mut Met) -> Result<(), String> 
         }
         refused(&named, [10, row as u64, b'N'.into()], met)?;
     }
-    places(sheet, &tables, seed, met)
+    places(sheet, &tables, seed, met)?;
+    indices(&tables, seed, met)
 }
 
 /// A component without a place, which no sheet has; two children of one component with the same place, and both without one.
@@ -108,6 +111,32 @@ fn places(sheet: &Sheet, tables: &Tables, seed: usize, met: &mut Met) -> Result<
     refused(&equal, [16, pair[1].into(), b'C'.into()], met)?;
     let neither = spoilt(&pair, MISSING);
     refused(&neither, [6, pair[0].into(), b'C'.into()], met)
+}
+
+/// Numbers of an array index that no sheet has: present above 1, whatever the bits are, and bits of a missing index. Also of two
+/// components, of which the first counts.
+fn indices(tables: &Tables, seed: usize, met: &mut Met) -> Result<(), String> {
+    let some = [1, 2, 1 << 31, MISSING - 1, MISSING][seed % 5];
+    let [high, low] = [[0, 0], [0, some], [some, 0], [some, some]][seed % 4];
+    let wrong = [
+        [2, high, low],
+        [MISSING, high, low],
+        [0, some, low],
+        [0, high, some],
+    ];
+    let components = tables.clone().components().len();
+    // the root every other time
+    let row = [0, seed / 2 % components][seed % 2];
+    let later = row + seed % (components - row);
+    for (next, numbers) in wrong.iter().enumerate() {
+        let mut spoilt = tables.clone();
+        let mut rows = spoilt.components();
+        rows[later][PRESENT..=LOW].copy_from_slice(&wrong[(next + seed) % wrong.len()]);
+        rows[row][PRESENT..=LOW].copy_from_slice(numbers);
+        met.indices += 1;
+        refused(&spoilt, [6, row as u64, b'C'.into()], met)?;
+    }
+    Ok(())
 }
 
 fn spoil(table: &mut Vec<u32>, width: usize) {

@@ -1,6 +1,6 @@
 //! Accepted sheets: a model of some profile, its rows in another order, its
-//! children in yet another by their places, sometimes filled up to the sizes
-//! that `conlist` lends.
+//! children in yet another by their places, its array elements with indices of
+//! every length, sometimes filled up to the sizes that `conlist` lends.
 
 use oracle::letters::{Field, Meaning, ROW_LETTERS, Sheet, columns};
 use oracle::model::Renames;
@@ -75,6 +75,7 @@ fn attempted(seed: u64, attempt: u64, wild: bool, (_, _, make): Profile) -> Vec<
     draft.classify_components();
     reorder(&mut draft);
     draft.place_components();
+    draft.index_components();
     fill_up(&mut draft);
     draft.sheet.bytes()
 }

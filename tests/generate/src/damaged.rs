@@ -4,10 +4,13 @@
 //! Refusal 10 cannot be reached: the reader only makes whole rows, at most 96 or
 //! 256 of them, and good names inside the byte table. Nor can the byte table of
 //! refusal 5 be full: it is as long as the longest sheet. Nor is a place missing
-//! in the tables, which is 6: in a sheet that is 4.
+//! in the tables, which is 6: in a sheet that is 4. Nor is anything wrong there
+//! with the numbers of an array index, which is 6 as well: the reader makes them.
 
 // Every damage of lines has the same signature, also one that adds no line.
 #![allow(clippy::ptr_arg)]
+
+use std::ops::Range;
 
 use oracle::letters::{
     Column, Field, LETTERS, Meaning, ROW_LETTERS, blank, column_at, columns, component, connection,
@@ -48,6 +51,25 @@ const DAMAGES: &[(&str, Damage)] = &[
     (
         "4 no field for the place",
         Damage::Lines(no_field_for_the_place),
+    ),
+    (
+        "4 index too large by one",
+        Damage::Lines(index_too_large_by_one),
+    ),
+    ("4 index too large", Damage::Lines(index_too_large)),
+    (
+        "4 index with leading zeros",
+        Damage::Lines(index_with_leading_zeros),
+    ),
+    (
+        "4 index missing elsewhere",
+        Damage::Lines(index_missing_elsewhere),
+    ),
+    ("4 index is no number", Damage::Lines(index_is_no_number)),
+    ("4 index lost a digit", Damage::Lines(index_lost_a_digit)),
+    (
+        "4 index of six columns",
+        Damage::Lines(index_of_six_columns),
     ),
     ("4 N without its space", Damage::Lines(name_without_space)),
     ("4 name length", Damage::Lines(name_length)),
@@ -266,6 +288,7 @@ fn every_letter(draft: &mut Draft) {
         reorder_components(draft);
     }
     draft.place_components();
+    draft.index_components();
     for &letter in ROW_LETTERS {
         if draft.sheet.rows(letter).is_empty() {
             draft.sheet.push(letter, &blank(letter));
@@ -467,25 +490,152 @@ fn component_lines(lines: &[Line]) -> Vec<usize> {
     all.filter(|&line| whole(&lines[line])).collect()
 }
 
-fn place_missing(random: &mut Random, lines: &mut Vec<Line>) {
+/// All of these lines, or one of them.
+fn all_component_lines_or_one(random: &mut Random, lines: &[Line]) -> Vec<usize> {
     let components = component_lines(lines);
-    if !components.is_empty() {
-        let column = column_at(component::COLUMNS, component::PLACE);
-        let field = format!("{:>1$}", "-", column.width);
-        let line = random.pick(&components);
-        lines[line][column.characters()].copy_from_slice(field.as_bytes());
+    match !components.is_empty() && random.chance(50) {
+        true => vec![random.pick(&components)],
+        false => components,
     }
+}
+
+/// Puts this into a column of some component, right-justified. Gives the place of its line.
+fn put_into_component(
+    random: &mut Random,
+    lines: &mut [Line],
+    column: usize,
+    field: &[u8],
+) -> Option<usize> {
+    let components = component_lines(lines);
+    if components.is_empty() {
+        return None;
+    }
+    let characters = column_at(component::COLUMNS, column).characters();
+    let mut wide = vec![b' '; characters.len() - field.len()];
+    wide.extend(field);
+    let line = random.pick(&components);
+    lines[line][characters].copy_from_slice(&wide);
+    Some(line)
+}
+
+fn place_missing(random: &mut Random, lines: &mut Vec<Line>) {
+    put_into_component(random, lines, component::PLACE, b"-");
 }
 
 /// Cuts off the field of the place, of every component or of one.
 fn no_field_for_the_place(random: &mut Random, lines: &mut Vec<Line>) {
-    let mut components = component_lines(lines);
-    if !components.is_empty() && random.chance(50) {
-        components = vec![random.pick(&components)];
-    }
     let column = column_at(component::COLUMNS, component::PLACE);
-    for line in components {
+    for line in all_component_lines_or_one(random, lines) {
         lines[line].truncate(column.characters().start);
+    }
+}
+
+/// The columns of an array index.
+fn index_characters() -> Range<usize> {
+    column_at(component::COLUMNS, component::ARRAY_INDEX).characters()
+}
+
+fn put_index(random: &mut Random, lines: &mut [Line], field: &[u8]) -> Option<usize> {
+    put_into_component(random, lines, component::ARRAY_INDEX, field)
+}
+
+/// The smallest number that an array index has no bits for, and the largest of twenty digits.
+const TOO_LARGE: u128 = 1 << 64;
+const TWENTY_NINES: u128 = 10_u128.pow(20) - 1;
+
+fn index_too_large_by_one(random: &mut Random, lines: &mut Vec<Line>) {
+    put_index(random, lines, TOO_LARGE.to_string().as_bytes());
+}
+
+fn index_too_large(random: &mut Random, lines: &mut Vec<Line>) {
+    let some = u128::from(random.bits());
+    let index = match random.below(5) {
+        0 => TOO_LARGE + some % 1000,
+        // Nothing of it, or little, is left in 64 bits.
+        1 => TOO_LARGE * (1 + some % 5) + random.below(9) as u128,
+        // The digits of the largest index, but one that is larger, and any behind it.
+        2 => {
+            let unit = 10_u128.pow(random.below(20) as u32);
+            (TOO_LARGE / unit + 1) * unit + some % unit
+        }
+        3 => TWENTY_NINES - random.pick(&[0, 0, some]),
+        _ => TOO_LARGE + some,
+    };
+    put_index(random, lines, index.to_string().as_bytes());
+}
+
+fn index_with_leading_zeros(random: &mut Random, lines: &mut Vec<Line>) {
+    let index = random.bits() >> random.range(1, 63);
+    let digits = index.to_string().len();
+    let width = random.range(digits + 1, index_characters().len());
+    put_index(random, lines, format!("{index:0width$}").as_bytes());
+}
+
+/// `-` with blanks behind it.
+fn index_missing_elsewhere(random: &mut Random, lines: &mut Vec<Line>) {
+    let width = random.range(2, index_characters().len());
+    put_index(random, lines, format!("{:width$}", "-").as_bytes());
+}
+
+fn index_is_no_number(random: &mut Random, lines: &mut Vec<Line>) {
+    let field: &[u8] = random.pick(&[
+        &b""[..],
+        b"1 ",
+        b"1                   ",
+        b"4294967296          ",
+        b"1844674407370955161 ",
+        b"1 2",
+        b"4 294967296",
+        b"1 844674407370955161",
+        b"+1",
+        b"-1",
+        b"--",
+        b"1-",
+        b"- 1",
+        b"-4294967296",
+        b"+9223372036854775807",
+        b"-9223372036854775808",
+        b"4,294,967,296",
+        b"4_294_967_296",
+        b"4294967296.",
+        b"1e19",
+        b"0x1",
+        b"0xFFFFFFFFFFFFFFFF",
+        b"4294967296a",
+        b"1844674407370955161O",
+        b"1844674407370955161/",
+        b"1844674407370955161:",
+        b"\t4294967296",
+        b"4294967296\t",
+        b"4294967296\r",
+        b"\x004294967296",
+        b"4294967296\xff",
+    ]);
+    put_index(random, lines, field);
+}
+
+/// Drops a digit of an index: a blank stands for it, or the line is shorter.
+fn index_lost_a_digit(random: &mut Random, lines: &mut Vec<Line>) {
+    let index = 100 + (random.bits() >> random.range(1, 63));
+    let mut digits = index.to_string().into_bytes();
+    let dropped = random.range(1, digits.len() - 2);
+    let blank = random.chance(50);
+    if blank {
+        digits[dropped] = b' ';
+    }
+    let line = put_index(random, lines, &digits);
+    if let Some(line) = line
+        && !blank
+    {
+        lines[line].remove(index_characters().end - dropped);
+    }
+}
+
+/// Cuts an index off to six columns, of every component or of one.
+fn index_of_six_columns(random: &mut Random, lines: &mut Vec<Line>) {
+    let Range { start, end } = index_characters();
+    for line in all_component_lines_or_one(random, lines) {
+        lines[line].drain(start..end - 6);
     }
 }
 

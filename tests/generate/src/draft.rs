@@ -83,7 +83,8 @@ impl Draft {
         one.eq_ignore_ascii_case(other)
     }
 
-    /// Adds a component. Its package, type and place are chosen at the end.
+    /// Adds a component. Its package, type and place are chosen at the end, and
+    /// where it has an array index, mostly another one.
     pub fn component(&mut self, name: Field, parent: Field, array_index: Field) -> u32 {
         let row = self.sheet.components.len();
         if row == TABLE_ROWS {
@@ -99,7 +100,8 @@ impl Draft {
         row as u32
     }
 
-    /// Adds a sibling of a component that is alike but for its place: a connection that finds the one finds both.
+    /// Adds a sibling of a component that is alike but for its place and the number of its array index: a connection that finds the one
+    /// finds both.
     pub fn namesake(&mut self, component: u32) -> u32 {
         let row = self.sheet.components.len();
         if row == TABLE_ROWS {

@@ -8,6 +8,7 @@ mod accepted;
 mod damaged;
 mod draft;
 mod groups;
+mod indices;
 mod places;
 mod random;
 mod resolving;

@@ -4,6 +4,7 @@
 use std::fs;
 
 use generate::{Sort, case};
+use oracle::letters::array_index;
 use oracle::model::Renames;
 use oracle::places;
 use oracle::sheet::Sheet;
@@ -54,6 +55,43 @@ fn places_decide_on_a_fifth_of_the_accepted_sheets() {
         decided += usize::from(places::decide(&sheet, Renames::Text));
     }
     assert!(5 * decided >= seeds().count(), "{decided}");
+}
+
+/// Whether an array index is of some kind.
+type Kind = fn(u64) -> bool;
+
+/// One in fifty of the accepted sheets has an index of each of these kinds.
+#[test]
+fn array_indices_are_of_every_length() {
+    const KINDS: &[(&str, Kind)] = &[
+        ("zero", |index| index == 0),
+        ("one digit", |index| (1..10).contains(&index)),
+        ("six digits", |index| (100_000..1_000_000).contains(&index)),
+        ("seven digits", |index| {
+            (1_000_000..10_000_000).contains(&index)
+        }),
+        ("4,294,967,294", |index| index == 4_294_967_294),
+        ("4,294,967,295", |index| index == 4_294_967_295),
+        ("4,294,967,296", |index| index == 4_294_967_296),
+        ("high bits alone", |index| index > 0 && index as u32 == 0),
+        ("all low bits", |index| {
+            index >> 32 > 0 && index as u32 == u32::MAX
+        }),
+        ("twenty digits", |index| index.to_string().len() == 20),
+        ("all bits", |index| index == u64::MAX),
+    ];
+    let mut met = vec![0; KINDS.len()];
+    for seed in seeds() {
+        let sheet = Sheet::accepted(&case(Sort::Accepted, seed).sheet).expect("accepted");
+        let indices = sheet.components.iter().filter_map(|row| array_index(row));
+        let indices: Vec<u64> = indices.collect();
+        for ((_, holds), met) in KINDS.iter().zip(&mut met) {
+            *met += usize::from(indices.iter().any(|&index| holds(index)));
+        }
+    }
+    for ((kind, _), met) in KINDS.iter().zip(met) {
+        assert!(50 * met >= seeds().count(), "{kind}: {met}");
+    }
 }
 
 #[test]

@@ -9,8 +9,8 @@ use std::ops::Range;
 
 use Meaning::{Any, Below, Holder, Name, Row};
 
-/// A field of a row; `None` is the sheet's `-`. Of a field that takes several
-/// numbers of the row, one of these numbers.
+/// A field of a row; `None` is the sheet's `-`. Of a field that takes three
+/// numbers of the row, one of these numbers, none of which is missing.
 pub type Field = Option<u32>;
 
 /// What the number in a column means.
@@ -36,7 +36,9 @@ pub struct Column {
     pub may_miss: bool,
     /// How many characters of the line it takes.
     pub width: usize,
-    /// How many numbers of the row it takes, the low one first.
+    /// How many numbers of the row it takes: one; or three, which are 1 where it
+    /// holds a number and 0 where it is missing, then the number's high and its
+    /// low 32 bits, 0 where it is missing.
     pub numbers: usize,
     /// Where it begins in the line.
     start: usize,
@@ -59,6 +61,15 @@ const fn optional(meaning: Meaning) -> Column {
     Column {
         may_miss: true,
         ..needed(meaning)
+    }
+}
+
+/// The same column for numbers of 64 bits.
+const fn long(column: Column) -> Column {
+    Column {
+        width: 20,
+        numbers: 3,
+        ..column
     }
 }
 
@@ -151,7 +162,7 @@ letters! {
     b'C' component in components {
         NAME: needed(Name),
         PARENT: optional(Row(b'C')),
-        ARRAY_INDEX: optional(Any),
+        ARRAY_INDEX: long(optional(Any)),
         PACKAGE: needed(Name),
         TYPE: needed(Name),
         PATTERN: optional(Name),
@@ -286,21 +297,32 @@ impl Column {
 
     /// The number that a row has in it.
     pub fn number(&self, row: &[Field]) -> Option<u64> {
-        let mut number = 0;
-        for part in row[self.place..self.place + self.numbers].iter().rev() {
-            number = (number << 32) | u64::from((*part)?);
+        match row[self.place..self.place + self.numbers] {
+            [number] => number.map(u64::from),
+            [Some(0), Some(0), Some(0)] => None,
+            [Some(1), Some(high), Some(low)] => Some(u64::from(high) << 32 | u64::from(low)),
+            ref others => panic!("{others:?} are no numbers of a column"),
         }
-        Some(number)
     }
 
     /// Puts a number into it.
     pub fn put(&self, row: &mut [Field], number: Option<u64>) {
-        let most = u64::MAX >> (64 - 32 * self.numbers);
-        assert!(number.is_none_or(|number| number <= most));
-        for part in 0..self.numbers {
-            row[self.place + part] = number.map(|number| (number >> (32 * part)) as u32);
+        let parts = &mut row[self.place..self.place + self.numbers];
+        match parts {
+            [one] => *one = number.map(|number| u32::try_from(number).expect("32 bits")),
+            _ => parts.copy_from_slice(&present_high_low(number)),
         }
     }
+}
+
+/// Whether there is a number, its high and its low 32 bits.
+fn present_high_low(number: Option<u64>) -> [Field; 3] {
+    let bits = number.unwrap_or(0);
+    [
+        Some(number.is_some().into()),
+        Some((bits >> 32) as u32),
+        Some(bits as u32),
+    ]
 }
 
 /// The column that begins at this place of the row.
@@ -327,6 +349,16 @@ pub fn blank(letter: u8) -> Vec<Field> {
     row
 }
 
+/// The array index of a C row.
+pub fn array_index(row: &[Field]) -> Option<u64> {
+    column_at(component::COLUMNS, component::ARRAY_INDEX).number(row)
+}
+
+/// Gives a C row this array index.
+pub fn put_array_index(row: &mut [Field], index: Option<u64>) {
+    column_at(component::COLUMNS, component::ARRAY_INDEX).put(row, index);
+}
+
 /// The reference whose package stands at this place of the row: package, type, implementation.
 pub fn reference(row: &[Field], package: usize) -> Reference {
     std::array::from_fn(|next| row[package + next])
@@ -348,18 +380,20 @@ mod tests {
 
     #[test]
     fn a_column_takes_its_characters_and_its_numbers() {
-        let wide = Column {
-            width: 20,
-            numbers: 2,
-            ..optional(Any)
-        };
-        let columns = side_by_side([needed(Name), wide, needed(Name)]);
+        let columns = side_by_side([needed(Name), long(optional(Any)), needed(Name)]);
         let characters = columns.map(|column| column.characters());
         assert_eq!(characters, [1..7, 7..27, 27..33]);
-        let mut row = [Some(5), None, None, Some(6)];
+        let mut row = [Some(5), None, None, None, Some(6)];
         assert_eq!(row_end(&columns), row.len());
-        for number in [None, Some(0), Some((7 << 32) + 9), Some(u64::MAX)] {
+        for (number, parts) in [
+            (None, [0, 0, 0]),
+            (Some(0), [1, 0, 0]),
+            (Some(u32::MAX.into()), [1, 0, u32::MAX]),
+            (Some((7 << 32) + 9), [1, 7, 9]),
+            (Some(u64::MAX), [1, u32::MAX, u32::MAX]),
+        ] {
             columns[1].put(&mut row, number);
+            assert_eq!(row[1..4], parts.map(Some));
             let numbers = columns.map(|column| column.number(&row));
             assert_eq!(numbers, [Some(5), number, Some(6)]);
         }

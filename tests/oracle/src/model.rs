@@ -20,7 +20,7 @@ use spar_hir_def::properties::PropertyMap;
 use spar_hir_def::resolver::{CiName, GlobalScope};
 
 use crate::letters::{
-    Field, Reference, Sheet, column_at, component, component_type, connection, declared_feature,
+    Field, Reference, Sheet, array_index, component, component_type, connection, declared_feature,
     ends, feature, group_type, implementation, import, package, reference, rename,
 };
 
@@ -392,7 +392,7 @@ fn add_component(
         flows: vec![],
         modes: vec![],
         mode_transitions: vec![],
-        array_index: column_at(component::COLUMNS, component::ARRAY_INDEX).number(fields),
+        array_index: array_index(fields),
         in_modes: vec![],
     });
     let pattern = fields[component::PATTERN];

@@ -4,7 +4,7 @@ use std::collections::HashMap;
 
 use spar_hir_def::instance::{InstanceDiagnostic, SemanticConnection, SystemInstance};
 
-use crate::letters::{Field, Sheet, component, connection, ends};
+use crate::letters::{Field, Sheet, array_index, component, connection, ends};
 use crate::listing::{Diagnostic, Listing, Row};
 use crate::model;
 
@@ -212,7 +212,7 @@ pub fn children_by_name(sheet: &Sheet, owner: u32, wanted: &str) -> Vec<u32> {
     let mut elements = children;
     elements.retain(|&child| {
         let base = name(child).split('[').next().unwrap_or(name(child));
-        fields(child)[component::ARRAY_INDEX].is_some() && base.eq_ignore_ascii_case(wanted)
+        array_index(fields(child)).is_some() && base.eq_ignore_ascii_case(wanted)
     });
     elements
 }

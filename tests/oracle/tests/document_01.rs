@@ -40,7 +40,14 @@ fn places_of_the_run() -> Vec<u32> {
     places.collect()
 }
 
-/// The sheet and the list of the run in document 01, which has the sheet's names in words and no places.
+/// A C line of document 01 with its third field, the array index, padded from six columns to twenty.
+fn with_long_index(line: &str) -> String {
+    let (front, index) = line.split_at("C".len() + 2 * 6);
+    let padding = " ".repeat(20 - 6);
+    format!("{front}{padding}{index}")
+}
+
+/// The sheet and the list of the run in document 01, which has the sheet's names in words, array indices of six columns and no places.
 fn run_of_the_document() -> (String, String) {
     let page = file("docs/01-scope.md");
     let (_, run) = page.split_once("Input, after `N` lines ").unwrap();
@@ -53,11 +60,10 @@ fn run_of_the_document() -> (String, String) {
         .collect();
     let mut places = places_of_the_run().into_iter();
     for row in rows.lines() {
-        sheet += row;
-        if row.starts_with('C') {
-            sheet += &format!("{:>6}", places.next().unwrap());
-        }
-        sheet += "\n";
+        sheet += &match row.starts_with('C') {
+            true => format!("{}{:>6}\n", with_long_index(row), places.next().unwrap()),
+            false => format!("{row}\n"),
+        };
     }
     assert_eq!(places.next(), None);
     (sheet, list.to_string())

@@ -11,7 +11,8 @@ use Rattle.as5506.specs.Columns.{rank}
 use Rattle.as5506.specs.Sheet.{linesOf, linesWith, nameBytes, placed}
 use Rattle.as5506.specs.Tables.{Letter, width}
 use Rattle.sheet.proofs.Check.{Good, good, numbers-small, counted-none, answer-end, answer-unended, answer-bad, answer-good}
-use Rattle.sheet.proofs.Letters.{each-letter, rank-below}
+use Rattle.as5506.proofs.Letters.{each-letter}
+use Rattle.sheet.proofs.Letters.{rank-below}
 use Rattle.sheet.proofs.Lines.{no-lines, line-length, last-line, next-line}
 use Rattle.sheet.proofs.Put.{bytes-small}
 use Rattle.sheet.proofs.Rows.{none-with, names-none, names-split}

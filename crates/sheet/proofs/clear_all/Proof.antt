@@ -1,6 +1,6 @@
 -- `sheet::clear_all`: each slice by its own call. Assumes nothing.
 use borrow.Author.Needs.{needs}
-use Rattle.sheet.proofs.Letters.{each-letter}
+use Rattle.as5506.proofs.Letters.{each-letter}
 use Rattle.sheet.proofs.clear_all.Statement.{statement}
 use Rattle.sheet.proofs.clear_all.Tie as tie
 

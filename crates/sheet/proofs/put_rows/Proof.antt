@@ -8,7 +8,7 @@ use lib.Seq.{sets}
 use Rattle.as5506.specs.Columns.{letterByte}
 use Rattle.as5506.specs.Lists.{each}
 use Rattle.as5506.specs.Sheet.{rowsRead, lineRow}
-use Rattle.sheet.proofs.Letters.{widths, width-at, byte-at, rank-at, width-small}
+use Rattle.sheet.proofs.Letters.{widths, bytes, byte-at, bytes-at, line-at, rank-at, bytes-few, row-cells}
 use Rattle.sheet.proofs.Order.{lineFrom, Turn, row-turn}
 use Rattle.sheet.proofs.Put.{row-written, row-count, Writing, writing-start, rows-room, rows-turn, left-from, writing-end, rows-of}
 use Rattle.sheet.proofs.put_rows.Statement.{statement}
@@ -16,17 +16,35 @@ use Rattle.sheet.specs.Steps.{letterAt, texts, LeftFrom}
 use Rattle.sheet.proofs.put_rows.Tie as tie
 
 abbrev Inv-loop : tie.InvT-loop
-Inv-loop sheet start k table₀ w₀ from₀ at₀ table from at =
+Inv-loop sheet start k table₀ width count marks columns from₀ at₀ table from at =
     Writing (letterAt k) sheet from table₀ table (rowsRead (letterAt k) (texts (drop from sheet))) (rowsRead (letterAt k) (texts sheet)) at
 
 abbrev μ-loop : tie.MeasureT-loop
-μ-loop sheet start k table₀ w₀ from₀ at₀ table from at = length sheet - from
+μ-loop sheet start k table₀ width count marks columns from₀ at₀ table from at = length sheet - from
 
-mul-w : tie.Need-mul-w Inv-loop μ-loop
-mul-w c = search needs
+mul-width : tie.Need-mul-width Inv-loop μ-loop
+mul-width c = search needs
 
-array-read-w : tie.Need-array-read-w Inv-loop μ-loop
-array-read-w c = search needs
+array-read-width : tie.Need-array-read-width Inv-loop μ-loop
+array-read-width c = search needs
+
+mul-count : tie.Need-mul-count Inv-loop μ-loop
+mul-count c = search needs
+
+array-read-count : tie.Need-array-read-count Inv-loop μ-loop
+array-read-count c = search needs
+
+mul-marks : tie.Need-mul-marks Inv-loop μ-loop
+mul-marks c = search needs
+
+array-read-marks : tie.Need-array-read-marks Inv-loop μ-loop
+array-read-marks c = search needs
+
+mul-columns : tie.Need-mul-columns Inv-loop μ-loop
+mul-columns c = search needs
+
+array-read-columns : tie.Need-array-read-columns Inv-loop μ-loop
+array-read-columns c = search needs
 
 loop-holds : tie.Need-loop-holds Inv-loop μ-loop
 loop-holds c =
@@ -42,24 +60,21 @@ byte-at-requires c κs = tt
 array-read-if1 : tie.Need-array-read-if1 Inv-loop μ-loop
 array-read-if1 c = search needs
 
--- a row has few numbers
-small : (c : tie.Then1 Inv-loop μ-loop) → getD widths (c .before .before .before .before .before .args .k) 0 < 10
-small c = let k = c .before .before .before .before .before .args .k in omega (arith, width-at k (c .before .before .before .before .before .pre .1), width-small (letterAt k))
+-- a line has few columns
+small : (c : tie.Then1 Inv-loop μ-loop) → getD bytes (c .before .before .before .before .before .args .k) 0 < 100
+small c = let k = c .before .before .before .before .before .args .k in omega (arith, bytes-at k (c .before .before .before .before .before .pre .1), bytes-few (letterAt k))
 
 -- the line of this turn
 here : (c : tie.Then1 Inv-loop μ-loop) →
     let a = c .before .before .before .before .before .args in
     let from = c .before .before .loop .from in
-    Turn (letterAt (a .k)) (a .sheet .now) from (from + (1 + 6 * getD widths (a .k) 0))
+    Turn (letterAt (a .k)) (a .sheet .now) from (from + (1 + getD bytes (a .k) 0))
 here c =
     let a = c .before .before .before .before .before .args in
     let p = c .before .before .before .before .before .pre in
     let l = c .before .before .loop in
-    rw (width-at (a .k) (p .1))
+    rw (bytes-at (a .k) (p .1))
     (row-turn (letterAt (a .k)) (a .sheet .now) (l .from) (λ z. omega (arith, z, rank-at (a .k) (p .1), p .0)) (sym (c .before .byte-at .ensures) ∙ c .if1 .taken ∙ byte-at (a .k) (p .1)) (l .inv .order))
-
-mul-end : tie.Need-mul-end Inv-loop μ-loop
-mul-end c = omega (arith, small c)
 
 add-end : tie.Need-add-end Inv-loop μ-loop
 add-end c = omega (arith, small c)
@@ -82,11 +97,15 @@ room c =
     let a = c .before .before .before .before .before .args in
     let p = c .before .before .before .before .before .pre in
     let l = c .before .before .loop in
-    let stop = l .from + (1 + 6 * getD widths (a .k) 0) in
+    let stop = l .from + (1 + getD bytes (a .k) 0) in
     omega (arith, row-count (lineFrom (a .sheet .now) (l .from) stop) (a .k) (p .0) (p .1), rows-room (letterAt (a .k)) (a .sheet .now) (l .from) stop (here c) (a .table .now) (l .table) (rowsRead (letterAt (a .k)) (texts (a .sheet .now))) (l .at) (l .inv))
 
 put-fields-requires : tie.Need-put-fields-requires Inv-loop μ-loop
-put-fields-requires c κs = (omega (arith, here (c .before .before) .size), room (c .before .before))
+put-fields-requires c κs =
+    let s = c .before .before .before .before .before .before .before in (
+      omega (arith, here (c .before .before) .size, line-at (s .args .k) (s .pre .1)),
+      omega (arith, room (c .before .before), row-cells (s .args .k) (s .pre .0) (s .pre .1)),
+    )
 
 -- places: the way back from where an answer stands to what it uses
 abbrev Then1·loop-again : tie.After-slice-known2 Inv-loop μ-loop → tie.Then1 Inv-loop μ-loop
@@ -96,9 +115,6 @@ Then1·loop-again c = c .before .before .before .before .before
 
 add-at : tie.Need-add-at Inv-loop μ-loop
 add-at c = omega (arith, room (Then1·loop-again c), c .before .before .before .before .before .before .before .loop .inv .size)
-
-mul-from : tie.Need-mul-from Inv-loop μ-loop
-mul-from c = omega (arith, small (Then1·loop-again c))
 
 add-from : tie.Need-add-from Inv-loop μ-loop
 add-from c = omega (arith, small (Then1·loop-again c))
@@ -114,7 +130,7 @@ loop-again c =
     let a = c .before .before .before .before .before .before .before .before .before .before .args in
     let p = c .before .before .before .before .before .before .before .before .before .before .pre in
     let l = c .before .before .before .before .before .before .before .loop in
-    let stop = l .from + (1 + 6 * getD widths (a .k) 0) in
+    let stop = l .from + (1 + getD bytes (a .k) 0) in
     let line = lineFrom (a .sheet .now) (l .from) stop in
     rows-turn (letterAt (a .k)) (a .sheet .now) (l .from) stop (here (Then1·loop-again c)) _ (l .table) _ (l .at) (l .inv) _ _ _
     (c .before .before .put-fields .ensures ∙ ap (sets (l .table) (l .at)) (row-written line (a .k) (p .0) (p .1)))
@@ -140,12 +156,17 @@ put-rows-spec =
     (tie.spec
     Inv-loop
     μ-loop
-    mul-w
-    array-read-w
+    mul-width
+    array-read-width
+    mul-count
+    array-read-count
+    mul-marks
+    array-read-marks
+    mul-columns
+    array-read-columns
     loop-holds
     byte-at-requires
     array-read-if1
-    mul-end
     add-end
     add-end-2
     sub-put-fields
@@ -153,7 +174,6 @@ put-rows-spec =
     part-put-fields-end
     put-fields-requires
     add-at
-    mul-from
     add-from
     add-from-2
     loop-less

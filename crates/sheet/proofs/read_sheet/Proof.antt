@@ -10,7 +10,7 @@ use lib.ListN.{length}
 use lib.Seq.{sets}
 use Rattle.as5506.specs.Sheet.{linesOf, Lent, lentOf, sheetFaults, tablesRead, readSheet}
 use Rattle.as5506.specs.Tables.{Tables, tablesOf, Letter, letterN, letterC, letterF, letterX, letterP, letterI, letterT, letterQ, letterU, letterE, letterR, table}
-use Rattle.sheet.proofs.Letters.{each-letter}
+use Rattle.as5506.proofs.Letters.{each-letter}
 use Rattle.sheet.proofs.Whole.{sheet-short, sheet-in-order, lent-is, no-fault, refused-into, cleared-fits, cleared-bytes, read-into}
 use Rattle.sheet.proofs.read_sheet.Statement.{statement}
 use Rattle.sheet.specs.Read.{sheetRead}

@@ -2,7 +2,7 @@
 use mathlib.Core.Path.{ap}
 use Prim.Native.Nat.{ℕ}
 use borrow.Author.Needs.{needs}
-use Rattle.as5506.specs.Tables.{present}
+use lib.Dec.{eqb}
 use Rattle.columns.proofs.component.has_index.Statement.{statement}
 use Rattle.columns.proofs.component.has_index.Tie as tie
 
@@ -10,7 +10,7 @@ field-at-requires : tie.Need-field-at-requires
 field-at-requires c κs = search needs
 
 returns : tie.Need-returns
-returns c = ap (λ (v : ℕ). present v) (c .field-at .ensures)
+returns c = ap (λ (v : ℕ). eqb v 1) (c .field-at .ensures)
 
 pub has-index-spec : {M : Type 1} → statement M
 has-index-spec = tie.close (tie.spec field-at-requires returns)
