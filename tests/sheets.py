@@ -70,6 +70,9 @@ class Sheet:
     def rename(self, package, what, alias, original_package, original_name=None):
         return self.add("R", package=package, what=what, alias=alias, original_package=original_package, original_name=original_name)
 
+    def mode(self, name, owner, initial=0):
+        return self.add("M", name=name, owner=owner, initial=initial)
+
     def bytes(self):
         lines = [b"N %s\n" % name.encode("latin-1") for name in self.names]
         lines += [line(letter, values) for letter, rows in self.rows.items() for values in rows]

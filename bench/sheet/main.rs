@@ -18,6 +18,7 @@ unsafe extern "C" {
         u: *mut u32, u_len: usize,
         e: *mut u32, e_len: usize,
         r: *mut u32, r_len: usize,
+        m: *mut u32, m_len: usize,
         told: *mut u64,
     );
 }
@@ -29,9 +30,9 @@ struct Tables {
 
 /// The refusal's number, or 0.
 fn read(sheet: &[u8], tables: &mut Tables) -> u64 {
-    let mut told = [0u64; 13];
+    let mut told = [0u64; 14];
     let bytes = &mut tables.bytes;
-    let [n, c, f, x, p, i, t, q, u, e, r] = &mut tables.numbers[..] else { unreachable!() };
+    let [n, c, f, x, p, i, t, q, u, e, r, m] = &mut tables.numbers[..] else { unreachable!() };
     // SAFETY: every pointer comes with the length of its own slice, and no two overlap.
     unsafe {
         conlist_read_sheet(
@@ -48,6 +49,7 @@ fn read(sheet: &[u8], tables: &mut Tables) -> u64 {
             u.as_mut_ptr(), u.len(),
             e.as_mut_ptr(), e.len(),
             r.as_mut_ptr(), r.len(),
+            m.as_mut_ptr(), m.len(),
             told.as_mut_ptr(),
         )
     }
@@ -74,7 +76,7 @@ fn filled(text: &str) -> Vec<u8> {
 }
 
 fn main() {
-    let widths = [("C", 7), ("F", 3), ("X", 7), ("P", 1), ("I", 2), ("T", 3), ("Q", 4), ("U", 9), ("E", 8), ("R", 5)];
+    let widths = [("C", 7), ("F", 3), ("X", 7), ("P", 1), ("I", 2), ("T", 3), ("Q", 4), ("U", 9), ("E", 8), ("R", 5), ("M", 3)];
     let every: String = widths.iter().map(|(l, w)| row(l.chars().next().unwrap(), *w, 34)).collect();
     let sheets = [
         ("names alone, the shortest", "N x\n".repeat(4096).into_bytes()),
@@ -83,7 +85,7 @@ fn main() {
         ("every letter", filled(&every)),
         ("line feeds (refused at once)", "\n".repeat(16384).into_bytes()),
     ];
-    let mut tables = Tables { bytes: vec![0; 16384], numbers: vec![vec![0; 8192]; 11] };
+    let mut tables = Tables { bytes: vec![0; 16384], numbers: vec![vec![0; 8192]; 12] };
     for (name, sheet) in &sheets {
         assert_eq!(sheet.len(), 16384);
         let mut times: Vec<u128> = (0..1000)

@@ -1,10 +1,11 @@
 /* The library for C. Each slice crosses as two arguments, a pointer and a count; an answer is told in numbers.
 
    No pointer is null, and no slice that is written overlaps another. A slice of `uint32_t` holds whole rows, one behind the other: of the tables
-   N C F X P I T Q U E R a row has 2 9 3 7 1 2 3 4 9 8 5 numbers, of a listing 49, of diagnostics 4, of an expansion 14. The numbers of a C row are name,
-   parent, present, high, low, package, type, pattern and place. Present, high and low are the array index, of 64 bits: 1, its high 32 bits and its low 32
-   bits, or three zeros where it is missing; with present above 1, or 0 and other bits set, a call refuses with 6. Any other number that is missing is
-   4294967295. `bytes` holds the bytes of the tables' names, and `names` takes the three names of each group row, unseparated.
+   N C F X P I T Q U E R M a row has 2 9 3 7 1 2 3 4 9 8 5 3 numbers, of a listing 49, of diagnostics 4, of an expansion 14, of a selection of modes 1.
+   The numbers of a C row are name, parent, present, high, low, package, type, pattern and place. Present, high and low are the array index, of 64 bits:
+   1, its high 32 bits and its low 32 bits, or three zeros where it is missing; with present above 1, or 0 and other bits set, a call refuses with 6. Any
+   other number that is missing is 4294967295. The numbers of an M row are name, owner component and initial, 0 or 1, none of which may be missing.
+   `bytes` holds the bytes of the tables' names, and `names` takes the three names of each group row, unseparated.
 
    Afterwards an output holds its rows from the front and zeros behind, or zeros alone where the call refuses; that of text holds the list, or the
    line of a refusal, and zeros behind. */
@@ -27,12 +28,13 @@ struct conlist_diagnostic {
     uint32_t second;
 };
 
-/* The twelve tables, which most calls take first. */
+/* The thirteen tables, which most calls take first. */
 #define CONLIST_TABLES                                                                                                 \
     const uint8_t *bytes, size_t bytes_length, const uint32_t *n, size_t n_length, const uint32_t *c, size_t c_length, \
         const uint32_t *f, size_t f_length, const uint32_t *x, size_t x_length, const uint32_t *p, size_t p_length,    \
         const uint32_t *i, size_t i_length, const uint32_t *t, size_t t_length, const uint32_t *q, size_t q_length,    \
-        const uint32_t *u, size_t u_length, const uint32_t *e, size_t e_length, const uint32_t *r, size_t r_length
+        const uint32_t *u, size_t u_length, const uint32_t *e, size_t e_length, const uint32_t *r, size_t r_length,    \
+        const uint32_t *m, size_t m_length
 
 /* Prints as `list_sheet` does: how many bytes of text there are. */
 size_t conlist_list_sheet(const uint8_t *sheet, size_t sheet_length, uint8_t *text, size_t text_length);
@@ -43,7 +45,8 @@ void conlist_read_sheet(const uint8_t *sheet, size_t sheet_length, uint8_t *byte
                         size_t n_length, uint32_t *c, size_t c_length, uint32_t *f, size_t f_length, uint32_t *x,
                         size_t x_length, uint32_t *p, size_t p_length, uint32_t *i, size_t i_length, uint32_t *t,
                         size_t t_length, uint32_t *q, size_t q_length, uint32_t *u, size_t u_length, uint32_t *e,
-                        size_t e_length, uint32_t *r, size_t r_length, uint64_t told[13]);
+                        size_t e_length, uint32_t *r, size_t r_length, uint32_t *m, size_t m_length,
+                        uint64_t told[14]);
 
 /* Checks as `check_tables` does. `told` then holds zeros, or a refusal's number, place and letter. */
 void conlist_check_tables(CONLIST_TABLES, uint64_t told[3]);
@@ -89,6 +92,16 @@ void conlist_list_connections_with_records(CONLIST_TABLES, uint32_t *rows, size_
                                            size_t names_length, uint32_t *group_numbers, size_t group_numbers_length,
                                            struct conlist_diagnostic *group_out, size_t group_out_length,
                                            uint64_t told[5]);
+
+/* Counts the selections of modes as `count_selections` does. `told` then holds 0, the number of selections and 1 where the list of them was cut, at
+   10,000, so that a combination of all components with modes is lacking, else 0; or a refusal's number, place and letter. */
+void conlist_count_selections(CONLIST_TABLES, uint64_t told[3]);
+
+/* Gives the selection at a number, from 0, as `select_modes` does: the M rows of the selection in `rows`, one number each, the joined name in `name`. `told` then
+   holds 0, the rows and the bytes of the name that were written, or a refusal's number, place and letter: behind the refusals of tables 20 where no
+   selection has the number, 11 where it has more rows than there is room for, 14 where its name has more bytes. */
+void conlist_select_modes(CONLIST_TABLES, uint32_t *rows, size_t rows_length, uint8_t *name, size_t name_length,
+                          uint64_t number, uint64_t told[3]);
 
 #undef CONLIST_TABLES
 

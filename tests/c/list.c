@@ -1,6 +1,6 @@
 /* Prints the connection list of a sheet on standard input, as conlist does; then reads the sheet into tables, and sees that the calls over tables
-   agree with one another: the listings each by itself and both in one call, and diagnostics as numbers and as records. Last it changes the array
-   indices: any bits list the same, and numbers that no index has are refused. */
+   agree with one another: the listings each by itself and both in one call, and diagnostics as numbers and as records. Then it gives two components
+   modes, and asks for their selections. Last it changes the array indices: any bits list the same, and numbers that no index has are refused. */
 #include "conlist.h"
 #include <stdio.h>
 #include <stdlib.h>
@@ -21,7 +21,8 @@
     EACH(q, 4, 96)                                                                                                     \
     EACH(u, 9, 96)                                                                                                     \
     EACH(e, 8, 96)                                                                                                     \
-    EACH(r, 5, 96)
+    EACH(r, 5, 96)                                                                                                     \
+    EACH(m, 3, 96)
 
 static uint8_t sheet[16385], text[8192], bytes[16384];
 #define SLICE(letter, numbers, rows) static uint32_t letter[(numbers) * (rows)];
@@ -80,6 +81,70 @@ static void expect_group(void) {
     expect(memcmp(both_group_diagnostics, group_diagnostics, sizeof group_diagnostics) == 0,
            "other numbers of group diagnostics");
     expect(memcmp(group_records, group_diagnostics, sizeof group_diagnostics) == 0, "another group record");
+}
+
+/* The bytes of a joined name: those of these two names, with an underscore between them. */
+static size_t joined(uint32_t first, uint32_t second, uint8_t *name) {
+    const uint32_t parts[] = {first, second};
+    size_t length = 0;
+    for (size_t part = 0; part < COUNT(parts); part++) {
+        const uint32_t *row = &n[parts[part] * numbers_of_n];
+        if (part > 0) name[length++] = '_';
+        memcpy(name + length, bytes + row[0], row[1]);
+        length += row[1];
+    }
+    return length;
+}
+
+/* The selection with this number is refused so in outputs of so many rows and bytes, which are left zero. */
+static void expect_no_selection(uint64_t number, size_t rows_length, size_t name_length, uint64_t refusal) {
+    uint32_t selected[2] = {7, 7};
+    uint8_t name[2 * 63 + 1];
+    uint64_t told[3];
+    memset(name, 0xA5, sizeof name);
+    conlist_select_modes(TABLES, selected, rows_length, name, name_length, number, told);
+    expect(told[0] == refusal && told[1] == 0 && told[2] == '-', "another refusal of a selection");
+    for (size_t row = 0; row < rows_length; row++) expect(selected[row] == 0, "unused output of modes is not zero");
+    for (size_t at = 0; at < name_length; at++) expect(name[at] == 0, "unused output of a joined name is not zero");
+}
+
+/* The root with two modes and the last component with three, in mixed order: six selections, the last one's mode changing fastest. */
+static void expect_modes(void) {
+    uint64_t told[3];
+    uint32_t last = (uint32_t)read[rows_of_c] - 1;
+    const uint32_t modes[][numbers_of_m] = {{0, last, 0}, {1, 0, 1}, {2, last, 1}, {0, 0, 0}, {1, last, 0}};
+    const uint32_t selections[][2] = {{1, 0}, {1, 2}, {1, 4}, {3, 0}, {3, 2}, {3, 4}};
+    expect(last > 0 && read[rows_of_n] > 2, "the sheet has too few components or names for modes");
+    read[rows_of_m] = 0;
+    conlist_count_selections(TABLES, told);
+    expect(told[0] == 0 && told[1] == 0 && told[2] == 0, "selections without modes");
+    expect_no_selection(0, 2, 127, 20);
+
+    memcpy(m, modes, sizeof modes);
+    read[rows_of_m] = COUNT(modes);
+    conlist_count_selections(TABLES, told);
+    expect(told[0] == 0 && told[1] == COUNT(selections) && told[2] == 0, "another number of selections");
+    for (size_t number = 0; number < COUNT(selections); number++) {
+        const uint32_t *due = selections[number];
+        uint32_t selected[3] = {7, 7, 7};
+        uint8_t name[2 * 63 + 2], expected[sizeof name] = {0};
+        size_t length = joined(modes[due[0]][0], modes[due[1]][0], expected);
+        memset(name, 0xA5, sizeof name);
+        conlist_select_modes(TABLES, WHOLE(selected), WHOLE(name), number, told);
+        expect(told[0] == 0 && told[1] == 2 && told[2] == length, "another length of a selection");
+        expect(selected[0] == due[0] && selected[1] == due[1] && selected[2] == 0, "another selection");
+        expect(memcmp(name, expected, sizeof name) == 0, "another joined name");
+        expect_no_selection(number, 1, length, 11);
+        expect_no_selection(number, 1, length - 1, 11);
+        expect_no_selection(number, 2, length - 1, 14);
+    }
+    expect_no_selection(COUNT(selections), 2, 127, 20);
+    expect_no_selection(UINT64_MAX, 0, 0, 20);
+
+    m[1] = last + 1;
+    conlist_count_selections(TABLES, told);
+    expect(told[0] == 6 && told[1] == 0 && told[2] == 'M', "a mode of no component is not refused");
+    read[rows_of_m] = 0;
 }
 
 /* Array indices of all bits list the same. */
@@ -154,6 +219,7 @@ int main(void) {
             expect(features[place] == 0, "unused output of features is not zero");
     }
 
+    expect_modes();
     expect_any_index();
     expect_no_index(2, 0, 0);
     expect_no_index(UINT32_MAX, 0, 0);

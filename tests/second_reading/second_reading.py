@@ -1,19 +1,24 @@
 """A second reading of the paper "The connection listing and its rules" (01)
 and of those requests for changes of it (02) that have landed.
 
-It answers, for any bytes, what `conlist` prints. It is written from the
-papers' own sentences, each quoted over the function that follows it, so
+It answers, for any bytes, what the programs print: `conlist` the connections,
+`modes` the number of selections of modes, `mode` one of these. It is written
+from the papers' own sentences, each quoted over the function that follows it, so
 that another definition of the same papers can be compared with it. Behind
 a sentence of 02 stands its request, as (02, i). Names are bytes, numbers
 do not wrap, rows count from 0.
 
-    second_reading.py < sheet            prints the answer
+    second_reading.py < sheet                prints the answer of `conlist`
+    second_reading.py modes < sheet          that of `modes`
+    second_reading.py mode NUMBER < sheet    that of `mode NUMBER`
 
 It marks every rule that it applies. `stream` beside it compares a stream of
 cases, and counts these marks.
 """
 
 import collections
+import itertools
+import math
 import re
 import sys
 
@@ -29,6 +34,19 @@ _LONG = "The third field of `C` becomes twenty columns for 64 bits, as in the Ru
 _BITS = ("In the tables three columns hold it, present 0 or 1, high 32 bits, low 32 bits, so no number "
          "stands for missing; present above 1, or 0 with other bits set, is the existing 6.")
 _LARGEST = "18,446,744,073,709,551,615 is taken; one more is refused by the existing 4."
+_MODE = "Add a letter `M` after `R`: name, owner component, initial 0 or 1."
+_BY_OWNER = ("Components with modes and their modes come in row order; the last one's mode changes "
+             "fastest, and the mode names are joined by an underscore.")
+_CUT = ("If the growing list passes 10,000 at a component, its first 10,000 selections count and later "
+        "components are missing from each, as in the Rust; that goes into DIFFERENCES.")
+_SELECTION = ("One call gives the number of selections and whether it was cut, another the selection at "
+              "a number the caller names, as `M` rows with the joined name.")
+_TWICE = "None is given twice."
+_LACKING = ("With no modes at all the number is 0 and nothing is cut; else cut is said exactly if some "
+            "combination of all components with modes is lacking.")
+_20 = ("A selection number not below the number of selections is refused as 20, after the tables' "
+       "checks; a selection longer than its output is then the existing 11, and a joined name longer "
+       "than its output the existing 14.")
 _STEP = ("a connection of that component with a source subcomponent, no destination subcomponent, "
          "its destination feature byte-equal, and one found child.")
 _CHILD = ("byte-equal names; if none and the wanted name has no `[`, children with an array index "
@@ -270,6 +288,40 @@ RULES = {
     "name without a prefix": _CARRY,
     "group spelled as in the X row": _CARRY,
     "diagnostic 5": "No match: diagnostic 5.",
+    # modes
+    "modes: none at all": _LACKING,
+    "modes: some": _LACKING,
+    "modes: initial 0": _MODE,
+    "modes: initial 1": _MODE,
+    "modes: not one initial of a component": _MODE,
+    "modes: owner below the root": _MODE,
+    "modes: several of a component": _BY_OWNER,
+    "modes: of several components": _BY_OWNER,
+    "modes: one of a component beside several of another": _BY_OWNER,
+    "modes: component without any between": _BY_OWNER,
+    "modes: rows interleaved": _BY_OWNER,
+    "modes: rows not in the order of components": _BY_OWNER,
+    "modes: components by row, not by place": _BY_OWNER,
+    "modes: components by row, not as the tree goes": _BY_OWNER,
+    "modes: two of one name in a component": _TWICE,
+    "modes: equal joined names of other names": _TWICE,
+    "modes: exactly 10,000": _CUT,
+    "modes: cut": _CUT,
+    "modes: cut at the last component": _LACKING,
+    "modes: cut before the last component": _LACKING,
+    "modes: cut behind exactly 10,000": _CUT,
+    "mode: first selection": _SELECTION,
+    "mode: last selection": _SELECTION,
+    "mode: last one's mode changes fastest": _BY_OWNER,
+    "mode: names joined": _BY_OWNER,
+    "mode: selection 9,999 of a cut list": _CUT,
+    "mode: later components are missing": _CUT,
+    # refusals of a selection
+    "20": _20,
+    "20: no modes at all": _LACKING,
+    "20: the number of selections itself": _20,
+    "20: in a cut list": _CUT,
+    "mode 14": _20,
     # refusals of the lists
     "traced 11": "more rows than the output holds",
     "traced 12": "more diagnostics than the output holds",
@@ -289,7 +341,7 @@ RULES = {
     "text: refusal without a place": "A refusal prints only `R`, number, place, a space and the table letter or `-`.",
 }
 
-# Causes that no sheet reaches at conlist's sizes; tables of a caller do.
+# Causes that no sheet reaches at conlist's sizes; tables and outputs of a caller do.
 RULES_BEYOND_SHEETS = {
     "5: byte table": _5,
     "6: missing place": "In the tables a missing place is the existing 6.",
@@ -301,6 +353,7 @@ RULES_BEYOND_SHEETS = {
     "10: name past the byte table": _10,
     "10: name length": _10,
     "10: name byte": _10,
+    "mode 11": _20,
 }
 
 marks = collections.Counter()
@@ -344,7 +397,8 @@ def reference(word):
 
 # "Letters stand in this order"; "The `C` line gains a field after pattern, the place
 # among siblings." (02, i) "The third field of `C` becomes twenty columns for 64 bits";
-# "In the tables three columns hold it" (02, ii)
+# "In the tables three columns hold it" (02, ii) "Add a letter `M` after `R`: name, owner
+# component, initial 0 or 1." (02, xi)
 FIELDS = {
     "C": [field("name", NAME), field("parent?", "C"),
           field("array_index?", LONG, columns=20, numbers=3), field("package", NAME),
@@ -364,6 +418,7 @@ FIELDS = {
           field("kind", KIND), field("direction?", ("direction", 2))] + reference("classifier"),
     "R": [field("package", "P"), field("what", ("what", 2)), field("alias", NAME),
           field("original_package", NAME), field("original_name?", NAME)],
+    "M": [field("name", NAME), field("owner", "C"), field("initial", FLAG)],
 }
 LETTERS = "N" + "".join(FIELDS)
 
@@ -441,9 +496,10 @@ def ends_of(row):
             row.destination_subcomponent, row.destination_feature)
 
 
-# "The table is the order of checks."; "refused as 16, checked after 7." (02, i): the
-# numbers of each place.
-REFUSALS = {"sheet": [1], "line": [2, 3, 4, 5], "tables": [10, 6, 7, 16, 8, 9],
+# "The table is the order of checks."; "refused as 16, checked after 7." (02, i) "refused as
+# 20, after the tables' checks" (02, xi): the numbers of each place. A selection of modes has
+# 11 and 14 too, after 20.
+REFUSALS = {"sheet": [1], "line": [2, 3, 4, 5], "tables": [10, 6, 7, 16, 8, 9], "modes": [20],
             "lists": [13, 11, 14, 12], "text": [15]}
 BEFORE_LISTINGS = REFUSALS["sheet"] + REFUSALS["line"] + REFUSALS["tables"]
 
@@ -842,6 +898,9 @@ class Model:
         self.connections = collections.defaultdict(list)
         for row, values in enumerate(rows["X"]):
             self.connections[values.owner].append(row)
+        self.modes = collections.defaultdict(list)
+        for row, values in enumerate(rows["M"]):
+            self.modes[values.owner].append(row)
         self.declared = collections.defaultdict(list)
         for row, values in enumerate(rows["E"]):
             self.declared[values.holder_kind, values.holder].append(row)
@@ -1604,6 +1663,169 @@ def listings_of_model(model, traced_rows, traced_diagnostics,
 
 
 # ---------------------------------------------------------------------------
+# The selections of modes.
+
+MOST_SELECTIONS = 10000
+
+# How many there are and whether the list was cut; the components that each of them has a
+# mode of, as the M rows of each.
+Selections = collections.namedtuple("Selections", "count cut components")
+
+# The M rows of one selection, and their names joined.
+Selection = collections.namedtuple("Selection", "rows name")
+
+
+# "Components with modes and their modes come in row order"
+def modes_by_component(model):
+    """The M rows of each component that has some."""
+    return [model.modes[component] for component in sorted(model.modes)]
+
+
+# "If the growing list passes 10,000 at a component, its first 10,000 selections count and
+# later components are missing from each" "With no modes at all the number is 0 and nothing
+# is cut; else cut is said exactly if some combination of all components with modes is
+# lacking." (02, xi)
+def selections(model):
+    """A list grows at each component by as many times as that has modes, from one selection
+    of nothing."""
+    modal = modes_by_component(model)
+    if not modal:
+        return Selections(0, False, [])
+    count, components = 1, []
+    for modes in modal:
+        count *= len(modes)
+        components.append(modes)
+        if count > MOST_SELECTIONS:
+            count = MOST_SELECTIONS
+            break
+    # No selection is given twice, and one that lacks a component is no such combination.
+    combinations = math.prod(map(len, modal))
+    complete = count if len(components) == len(modal) else 0
+    return Selections(count, complete < combinations, components)
+
+
+# "the last one's mode changes fastest, and the mode names are joined by an underscore."
+# (02, xi)
+def selection_at(model, number):
+    """The selection of this number, which is below their count."""
+    components = selections(model).components
+    rows, left = [], number
+    for modes in reversed(components):
+        left, at = divmod(left, len(modes))
+        rows.insert(0, modes[at])
+    return Selection(rows, b"_".join(model.name(model.rows["M"][row].name) for row in rows))
+
+
+# "One call gives the number of selections and whether it was cut" (02, xi)
+def selection_count(model):
+    """(how many selections there are, whether the list was cut) of an accepted model."""
+    found = selections(model)
+    mark_modes(model, found)
+    return found.count, found.cut
+
+
+# "another the selection at a number the caller names, as `M` rows with the joined name."
+# "A selection number not below the number of selections is refused as 20, after the tables'
+# checks; a selection longer than its output is then the existing 11, and a joined name
+# longer than its output the existing 14." (02, xi)
+def selection(model, number, rows_room, name_room):
+    """The Selection of this number of an accepted model, with outputs for so many rows and
+    bytes, or the number of the refusal."""
+    found = selections(model)
+    if number >= found.count:
+        mark("20")
+        mark("20: no modes at all", found.count == 0)
+        mark("20: the number of selections itself", number == found.count)
+        mark("20: in a cut list", found.cut)
+        return 20
+    chosen = selection_at(model, number)
+    if len(chosen.rows) > rows_room:
+        mark("mode 11")
+        return 11
+    if len(chosen.name) > name_room:
+        mark("mode 14")
+        return 14
+    mark_selection(model, number, found, chosen)
+    return chosen
+
+
+def mark_modes(model, found):
+    """For the marks only: what the components with modes are like, and where the list ends."""
+    modal = modes_by_component(model)
+    mark("modes: some" if modal else "modes: none at all")
+    rows, components = model.rows["M"], model.rows["C"]
+    owners = [values.owner for values in rows]
+    first_rows = list(dict.fromkeys(owners))  # the components as their first M rows come
+    in_order = sorted(first_rows)
+    mark("modes: initial 0", any(values.initial == 0 for values in rows))
+    mark("modes: initial 1", any(values.initial == 1 for values in rows))
+    mark("modes: not one initial of a component",
+         any(sum(rows[row].initial for row in modes) != 1 for modes in modal))
+    mark("modes: owner below the root", any(owners))
+    several = [len(modes) > 1 for modes in modal]
+    mark("modes: several of a component", any(several))
+    mark("modes: of several components", len(modal) > 1)
+    mark("modes: one of a component beside several of another", any(several) and not all(several))
+    mark("modes: component without any between",
+         bool(modal) and in_order[-1] - in_order[0] >= len(in_order))
+    mark("modes: rows interleaved",
+         sum(one != other for one, other in zip(owners, owners[1:])) >= max(len(modal), 1))
+    mark("modes: rows not in the order of components", first_rows != in_order)
+    mark("modes: components by row, not by place",
+         any(components[one].parent == components[other].parent
+             and components[one].place > components[other].place
+             for one, other in zip(in_order, in_order[1:])))
+    mark("modes: components by row, not as the tree goes",
+         [row for row in down_the_tree(model) if row in model.modes] != in_order)
+    names = [[model.name(rows[row].name) for row in modes] for modes in modal]
+    mark("modes: two of one name in a component", any(len(set(own)) < len(own) for own in names))
+    mark("modes: equal joined names of other names",
+         not found.cut and found.count <= FEW_SELECTIONS and joined_alike(names))
+    before_last = math.prod(map(len, found.components[:-1]))
+    mark("modes: exactly 10,000", found.count == MOST_SELECTIONS and not found.cut)
+    mark("modes: cut", found.cut)
+    last = len(found.components) == len(modal)
+    mark("modes: cut at the last component", found.cut and last)
+    mark("modes: cut before the last component", found.cut and not last)
+    mark("modes: cut behind exactly 10,000", found.cut and before_last == MOST_SELECTIONS)
+
+
+def down_the_tree(model):
+    """For the marks only: all components, behind each its children, by row, with what is in
+    them."""
+    found, left = [], [0]
+    while left:
+        found.append(left.pop())
+        left.extend(sorted(model.children[found[-1]], reverse=True))
+    return found
+
+
+# Of so many selections at most are the names compared, for their mark.
+FEW_SELECTIONS = 1000
+
+
+def joined_alike(names):
+    """For the marks only: do two choices of other names, one of each of these lists, give the
+    same when they are joined?"""
+    choices = set(itertools.product(*names))
+    return len({b"_".join(choice) for choice in choices}) < len(choices)
+
+
+def mark_selection(model, number, found, chosen):
+    """For the marks only: what a selection is like."""
+    mark("mode: first selection", number == 0)
+    mark("mode: last selection", number == found.count - 1)
+    left, other = number, []  # where the first one's mode would change fastest
+    for modes in found.components:
+        left, at = divmod(left, len(modes))
+        other.append(modes[at])
+    mark("mode: last one's mode changes fastest", other != chosen.rows)
+    mark("mode: names joined", len(chosen.rows) > 1)
+    mark("mode: selection 9,999 of a cut list", found.cut and number == MOST_SELECTIONS - 1)
+    mark("mode: later components are missing", len(chosen.rows) < len(modes_by_component(model)))
+
+
+# ---------------------------------------------------------------------------
 # The text.
 
 # "Numbers take six columns as in the sheet, longer ones stand in full."
@@ -1659,6 +1881,16 @@ def list_text(model, lists):
     return b"".join(parts)
 
 
+# "One call gives the number of selections and whether it was cut" (02, xi)
+def count_text(count, cut):
+    return b"Z" + columns([count, cut]) + b"\n"
+
+
+# "the selection at a number the caller names, as `M` rows with the joined name." (02, xi)
+def selection_text(chosen):
+    return b"M" + columns(chosen.rows) + b"\n= " + chosen.name + b"\n"
+
+
 # "A refusal prints only `R`, number, place, a space and the table letter or `-`." "The
 # place is the line from 1, or letter and lowest bad row (where two rows clash, the
 # later), else 0."
@@ -1694,25 +1926,33 @@ CONLIST_COMPOSED = 4096
 CONLIST_TEXT = 8192
 
 
+# "Like every later program, it reads, lends and prints refusals as conlist does" (02, iii):
+# what `mode` lends for a selection, as many rows as there are lines of `M`.
+MODE_ROWS = 96
+MODE_NAME = 4096
+
+
 def read(sheet):
-    """What the reader makes of these bytes, with tables as `conlist` lends them."""
+    """What the reader makes of these bytes, with tables as the programs lend them."""
     return read_sheet(sheet, CONLIST_BYTES, CONLIST_ROOMS)
 
 
-def answer(sheet):
-    """What `conlist` prints for these bytes."""
+def accepted(sheet):
+    """The Model of these bytes, or their Refusal by sheet, line or tables."""
     tables = read(sheet)
     if isinstance(tables, Refusal):
-        return refusal_text(*tables)
-    refused = check_tables(*tables)
-    if refused:
-        return refusal_text(*refused)
-    model = Model(*tables)
-    lists = listings_of_model(model, CONLIST_ROWS, CONLIST_DIAGNOSTICS,
-                              CONLIST_ROWS, CONLIST_DIAGNOSTICS, CONLIST_COMPOSED)
-    if isinstance(lists, int):
-        return refusal_text(lists)
-    text = list_text(model, lists)
+        return tables
+    return check_tables(*tables) or Model(*tables)
+
+
+def printed(model, text_of):
+    """What a program prints for a model that was accepted, or for the Refusal in its place;
+    text_of gives the text of a model, or the number of a refusal."""
+    if isinstance(model, Refusal):
+        return refusal_text(*model)
+    text = text_of(model)
+    if isinstance(text, int):
+        return refusal_text(text)
     # 15: "printed list longer than its output"
     if len(text) > CONLIST_TEXT:
         mark("15")
@@ -1720,10 +1960,83 @@ def answer(sheet):
     return text
 
 
+def text_of_lists(model):
+    """The text of both lists, or the number of the refusal, with outputs as `conlist` lends
+    them."""
+    lists = listings_of_model(model, CONLIST_ROWS, CONLIST_DIAGNOSTICS,
+                              CONLIST_ROWS, CONLIST_DIAGNOSTICS, CONLIST_COMPOSED)
+    return lists if isinstance(lists, int) else list_text(model, lists)
+
+
+def text_of_count(model):
+    """The text of how many selections there are."""
+    return count_text(*selection_count(model))
+
+
+def text_of_selection(number):
+    """Of a model: the text of its selection of this number, or the number of the refusal, with
+    outputs as `mode` lends them."""
+    def text_of(model):
+        chosen = selection(model, number, MODE_ROWS, MODE_NAME)
+        return chosen if isinstance(chosen, int) else selection_text(chosen)
+    return text_of
+
+
+def answer(sheet):
+    """What `conlist` prints for these bytes."""
+    return printed(accepted(sheet), text_of_lists)
+
+
+def modes_answer(sheet):
+    """What `modes` prints for these bytes."""
+    return printed(accepted(sheet), text_of_count)
+
+
+def mode_answer(sheet, number):
+    """What `mode NUMBER` prints for these bytes."""
+    return printed(accepted(sheet), text_of_selection(number))
+
+
+# The argument of `mode`: a decimal number of 64 bits, written as a number is in the sheet.
+def number_of(text):
+    """The number that this text is, or None."""
+    if not re.fullmatch("0|[1-9][0-9]{0,19}", text) or int(text) > LARGEST_LONG:
+        return None
+    return int(text)
+
+
+def numbers_to_ask(count):
+    """Numbers of selections, of so many, that tell one reading from another: the first, the
+    last, some between, and, of those that are refused, the next ones and far ones."""
+    some = {0, 1, count // 3, count // 2, max(count, 1) - 1, count, count + 1, MOST_SELECTIONS,
+            LOW_BITS, LOW_BITS + 1, LOW_BITS + 1 + count // 2, LARGEST_LONG}
+    return sorted(some)
+
+
+def answers(sheet):
+    """What all programs print for these bytes: the words of the command, and the text. `mode` is
+    asked with several numbers."""
+    model = accepted(sheet)
+    found = {("conlist",): printed(model, text_of_lists), ("modes",): printed(model, text_of_count)}
+    count = 0 if isinstance(model, Refusal) else selections(model).count
+    for number in numbers_to_ask(count):
+        found["mode", str(number)] = printed(model, text_of_selection(number))
+    return found
+
+
 # ---------------------------------------------------------------------------
 # The command line.
 
+def main(words):
+    sheet = sys.stdin.buffer.read
+    if words == []:
+        return answer(sheet())
+    if words == ["modes"]:
+        return modes_answer(sheet())
+    if len(words) == 2 and words[0] == "mode" and number_of(words[1]) is not None:
+        return mode_answer(sheet(), number_of(words[1]))
+    sys.exit("usage: second_reading.py [modes | mode NUMBER] < sheet")
+
+
 if __name__ == "__main__":
-    if sys.argv[1:]:
-        sys.exit("usage: second_reading.py < sheet")
-    sys.stdout.buffer.write(answer(sys.stdin.buffer.read()))
+    sys.stdout.buffer.write(main(sys.argv[1:]))

@@ -1,7 +1,7 @@
 """The sheets written by hand: the trial rows of document 01, single points of its rules and of the changes of them (document 02),
 and where the Rust goes another way than AS5506 or document 01. Each is as small as it can be."""
 
-from second_reading import CONLIST_LINES, FIELDS, LARGEST_LONG, LETTERS, Refusal
+from second_reading import CONLIST_LINES, FIELDS, LARGEST_LONG, LETTERS, Refusal, Selection
 from sheets import NOTHING, Sheet
 
 
@@ -365,6 +365,11 @@ def padded(stem, length):
     return stem + "y" * (length - len(stem))
 
 
+def spread(total, parts):
+    """So many lengths that are this together, and differ by one at most."""
+    return [total // parts + (1 if part < total % parts else 0) for part in range(parts)]
+
+
 def group_features(lengths, connection="c"):
     """A group with a feature of each of these lengths, at both ends of a connection."""
     sheet = one_group((None, "u", None))
@@ -408,8 +413,7 @@ def rows_and_diagnostics(matched, unmatched):
 
 def composed_bytes(rows, feature_bytes):
     """So many rows: connection "ccc" and group "g" take 8 bytes of each, the feature's name three times the rest."""
-    lengths = [feature_bytes // rows + (1 if row < feature_bytes % rows else 0) for row in range(rows)]
-    return group_features(lengths, "ccc")
+    return group_features(spread(feature_bytes, rows), "ccc")
 
 
 def text_bytes(connection_bytes):
@@ -417,8 +421,7 @@ def text_bytes(connection_bytes):
     sheet = Sheet()
     sheet.component("root")
     sheet.component("b", 0)
-    for row in range(64):
-        length = connection_bytes // 64 + (1 if row < connection_bytes % 64 else 0)
+    for row, length in enumerate(spread(connection_bytes, 64)):
         sheet.connection(padded("c%d" % row, length), 0, 0, "b", padded("f", 30), "b", padded("f", 30))
     return sheet
 
@@ -430,6 +433,83 @@ def full_of_children(places):
     for row, place in zip(range(1, CONLIST_LINES["C"]), places):
         sheet.component("a" if row % 10 == 0 else "y", 0, place=place)
     sheet.connection("c", 0, 0, "a", "f", None, "f")
+    return sheet
+
+
+def modes_of(owners, components=(), names=(), initials=()):
+    """A mode of each of these owners, one row behind the other, with these names and initial flags, or else m0, m1 and so on and no initial one. Behind the
+    root stand components with these parents and places, or else as many children of the root as the owners need."""
+    sheet = Sheet()
+    sheet.component("root")
+    for parent, place in components or [(0, None)] * max(owners, default=0):
+        sheet.component("c", parent, place=place)
+    for number, owner in enumerate(owners):
+        sheet.mode(names[number] if names else "m%d" % number, owner, initials[number] if initials else 0)
+    return sheet
+
+
+def modal(*counts):
+    """So many modes of the root and of each of its children, those of one component in rows behind one another."""
+    return modes_of([owner for owner, count in enumerate(counts) for _ in range(count)], [(0, None)] * (len(counts) - 1))
+
+
+def joined_bytes(components, length):
+    """One mode of each of so many components, whose names have this length when they are joined."""
+    lengths = spread(length - (components - 1), components)
+    return modes_of(range(components), names=[padded("m%d" % number, one) for number, one in enumerate(lengths)])
+
+
+def longer_from_the_second():
+    """The last of 65 components has two modes; with the first one the joined names have 4,096 bytes, with the other 4,097."""
+    sheet = joined_bytes(65, 4096)
+    sheet.mode(padded("z", len(sheet.names[-1]) + 1), 64)
+    return sheet
+
+
+def longer_and_cut():
+    """One mode of each of 68 components and two of each of 14 more, all with names of 63 bytes."""
+    owners = [*range(68), *(owner for owner in range(68, 82) for _ in range(2))]
+    return modes_of(owners, names=[padded("m%d" % number, 63) for number in range(96)])
+
+
+def modes_of_one_name_in_two_rows():
+    """Two modes of one component, whose names are two N rows of the same bytes."""
+    sheet = modes_of([0, 0], names=["on", "off"])
+    sheet.names[-1] = "on"
+    return sheet
+
+
+def with_modes(sheet):
+    """The sheet with two modes of its root, and three of the component behind it."""
+    for name, owner in (("low", 0), ("high", 0), ("idle", 1), ("feather", 1), ("stop", 1)):
+        sheet.mode(name, owner, 1 if name in ("low", "stop") else 0)
+    return sheet
+
+
+def modes_beside_visits():
+    """The groups of a connection have too many visits, so that only its modes are listed."""
+    sheet = nested_in_itself(3)
+    sheet.component("c", 0)
+    return with_modes(sheet)
+
+
+def with_mode(sheet, **fields):
+    """The sheet with one mode more, of the root but for these fields."""
+    sheet.add("M", **fields)
+    return sheet
+
+
+def with_rename(sheet):
+    """The sheet with a fault of 6 more, the original name of a rename."""
+    sheet.package("p")
+    sheet.add("R", what=1, original_name=99)
+    return sheet
+
+
+def mode_alone():
+    """A mode, and no component that could have it."""
+    sheet = Sheet()
+    sheet.mode("m", 0)
     return sheet
 
 
@@ -448,6 +528,7 @@ def full_table(letter, more=0):
         "U": lambda number: sheet.group_type(0, "y%d" % number),
         "E": lambda number: sheet.declared(0, 0, "y"),
         "R": lambda number: sheet.rename(0, 0, "y%d" % number, "p"),
+        "M": lambda number: sheet.mode("y%d" % number, 0, number % 2),
     }.get(letter, lambda number: sheet.add(letter))
     rows = sheet.names if letter == "N" else sheet.rows[letter]
     while len(rows) < CONLIST_LINES[letter] + more:
@@ -533,6 +614,140 @@ ACCEPTED = {
     "missing array indices alone": indexed(None, None),
 }
 
+# Label -> (sheet, the number of its selections, whether that was cut). All are accepted.
+MODES = {
+    "modes of the only component, none": (modal(0), 0, False),
+    "modes of three components, none": (modal(0, 0, 0), 0, False),
+    "mode of the root": (modal(1), 1, False),
+    "mode of a component below the root": (modal(0, 1), 1, False),
+    "mode of each of two components": (modal(1, 1), 1, False),
+    "two modes of the root": (modal(2), 2, False),
+    "two modes and three": (modal(2, 3), 6, False),
+    "three modes and two": (modal(3, 2), 6, False),
+    "two modes, one and three": (modal(2, 1, 3), 6, False),
+    "one mode, two and one": (modal(1, 2, 1), 2, False),
+    "two modes each of four components": (modal(2, 2, 2, 2), 16, False),
+    "two modes, none and two": (modal(2, 0, 2), 4, False),
+    "components without modes on all sides": (modal(0, 2, 0, 0, 3, 0), 6, False),
+    "rows of modes in turns": (modes_of([0, 1, 0, 1, 1, 0]), 9, False),
+    "rows of modes around those of another": (modes_of([0, 1, 1, 0]), 4, False),
+    "rows of modes from the last component to the first": (modes_of([2, 2, 1, 0, 0]), 4, False),
+    "rows of modes, the root's behind all others": (modes_of([1, 2, 2, 0, 0]), 4, False),
+    "modes of siblings by falling places": (modes_of([1, 1, 2, 2, 2, 3, 3], [(0, 9), (0, 4), (0, 0)]), 12, False),
+    "modes of components one in the other": (modes_of([0, 0, 1, 1, 2, 2, 3, 3], [(0, 0), (1, 0), (2, 0)]), 16, False),
+    "modes of a component inside an earlier one": (modes_of([0, 1, 1, 2, 2, 2, 3, 3], [(0, 0), (0, 1), (1, 0)]), 12, False),
+    "modes with equal joined names": (modes_of([0, 0, 1, 1], names=["a", "a_b", "b_c", "c"]), 4, False),
+    "modes with equal joined names of one spelling": (modes_of([0, 0, 1, 1], names=["a", "a_a", "a", "a_a"]), 4, False),
+    "modes with equal joined names in three components": (modes_of([0, 0, 1, 1, 2, 2], names=["a", "a_b", "b_c", "c", "d", "c_d"]), 8, False),
+    "modes of underscores": (modes_of([0, 0, 1, 1], names=["_", "__", "_", "__"]), 4, False),
+    "modes of one name": (modes_of([0, 0], names=["on", "on"]), 2, False),
+    "modes of one name in two N rows": (modes_of_one_name_in_two_rows(), 2, False),
+    "modes of one name in two components": (modes_of([0, 0, 1, 1], names=["on", "on", "on", "on"]), 4, False),
+    "modes that differ in case": (modes_of([0, 0, 1], names=["On", "on", "ON"]), 2, False),
+    "modes with blanks and brackets": (modes_of([0, 0, 1, 1], names=[" ", "a b ", "\t", "x[1]"]), 4, False),
+    "modes with the names of components": (modes_of([0, 0, 1], names=["c", "root", "c"]), 2, False),
+    "modes, all of them initial": (modes_of([0, 0, 1, 1], initials=[1, 1, 1, 1]), 4, False),
+    "modes, the second of each initial": (modes_of([0, 0, 1, 1], initials=[0, 1, 0, 1]), 4, False),
+    "modes, none of one component initial": (modes_of([0, 0, 1, 1], initials=[1, 0, 0, 0]), 4, False),
+    "modes of the run of document 01": (with_modes(run()), 6, False),
+    "modes beside 65 traced rows": (with_modes(arrays(None, 13, 5)), 6, False),
+    "modes beside a group over the visits": (modes_beside_visits(), 6, False),
+    "modes of the root, 96": (modal(96), 96, False),
+    "modes that are 95 and one": (modal(95, 1), 95, False),
+    "modes that are 48 and 48": (modal(48, 48), 2304, False),
+    "modes, one each of 96 components": (modal(*[1] * 96), 1, False),
+    "modes, two each of 13 components": (modal(*[2] * 13), 8192, False),
+    "modes of 9,996 selections": (modal(12, 7, 7, 17), 9996, False),
+    "modes of 10,000 selections": (modal(10, 10, 10, 10), 10000, False),
+    "modes of 10,000 selections by twos and fives": (modal(2, 2, 2, 2, 5, 5, 5, 5), 10000, False),
+    "modes of 10,000 selections, then one each": (modal(10, 10, 10, 10, 1, 0, 1), 10000, False),
+    "modes of 10,000 selections, one each before": (modal(1, 1, 10, 10, 10, 10), 10000, False),
+    "modes of 10,005 combinations": (modal(15, 23, 29), 10000, True),
+    "modes of 10,005 combinations, the most first": (modal(29, 23, 15), 10000, True),
+    "modes of 11,000 combinations": (modal(10, 10, 10, 11), 10000, True),
+    "modes of 32,768 combinations of three components": (modal(32, 32, 32), 10000, True),
+    "modes, two each of 14 components": (modal(*[2] * 14), 10000, True),
+    "modes, two each of 14 components, rows in turns": (modes_of([row % 14 for row in range(28)]), 10000, True),
+    "modes, two each of 14 components, rows backwards": (modes_of([13 - row // 2 for row in range(28)]), 10000, True),
+    "modes, two each of 15 components, rows backwards": (modes_of([14 - row // 2 for row in range(30)]), 10000, True),
+    "modes, two each of 48 components": (modal(*[2] * 48), 10000, True),
+    "modes, three each of nine components": (modal(*[3] * 9), 10000, True),
+    "modes, three each of 32 components": (modal(*[3] * 32), 10000, True),
+    "modes of 10,000 selections, then two": (modal(10, 10, 10, 10, 2), 10000, True),
+    "modes of 10,000 selections, then one, then two": (modal(10, 10, 10, 10, 1, 2), 10000, True),
+    "modes of 10,000 selections, then two, then one": (modal(10, 10, 10, 10, 2, 1), 10000, True),
+    "modes cut before a component with one": (modal(10, 10, 10, 11, 1), 10000, True),
+    "modes cut before a component with three": (modal(10, 10, 10, 11, 3), 10000, True),
+    "modes cut before several components": (modal(10, 10, 10, 11, 0, 2, 0, 1, 3), 10000, True),
+    "modes cut before a component whose rows come first": (modes_of([3, 3] + [row % 3 for row in range(66)]), 10000, True),
+    "joined names of 4,096 bytes": (joined_bytes(65, 4096), 1, False),
+    "joined names of 4,097 bytes": (joined_bytes(65, 4097), 1, False),
+    "joined names of 6,143 bytes": (joined_bytes(96, 6143), 1, False),
+    "joined names of 4,096 bytes, then of 4,097": (longer_from_the_second(), 2, False),
+    "joined names over 4,096 bytes of a cut list": (longer_and_cut(), 10000, True),
+}
+
+# Label of MODES, the number of a selection, and what it is with outputs as `mode` lends them, or the number of its refusal.
+SELECTIONS = [
+    ("modes of three components, none", 0, 20),
+    ("modes of three components, none", LARGEST_LONG, 20),
+    ("mode of the root", 0, Selection([0], b"m0")),
+    ("mode of the root", 1, 20),
+    ("two modes of the root", 1, Selection([1], b"m1")),
+    ("two modes and three", 0, Selection([0, 2], b"m0_m2")),
+    ("two modes and three", 1, Selection([0, 3], b"m0_m3")),
+    ("two modes and three", 2, Selection([0, 4], b"m0_m4")),
+    ("two modes and three", 3, Selection([1, 2], b"m1_m2")),
+    ("two modes and three", 4, Selection([1, 3], b"m1_m3")),
+    ("two modes and three", 5, Selection([1, 4], b"m1_m4")),
+    ("two modes and three", 6, 20),
+    ("two modes and three", 4294967296, 20),
+    ("two modes, one and three", 4, Selection([1, 2, 4], b"m1_m2_m4")),
+    ("components without modes on all sides", 3, Selection([1, 2], b"m1_m2")),
+    ("rows of modes in turns", 5, Selection([2, 4], b"m2_m4")),
+    ("rows of modes around those of another", 1, Selection([0, 2], b"m0_m2")),
+    ("rows of modes around those of another", 2, Selection([3, 1], b"m3_m1")),
+    ("rows of modes from the last component to the first", 0, Selection([3, 2, 0], b"m3_m2_m0")),
+    ("rows of modes from the last component to the first", 1, Selection([3, 2, 1], b"m3_m2_m1")),
+    ("rows of modes from the last component to the first", 2, Selection([4, 2, 0], b"m4_m2_m0")),
+    ("rows of modes, the root's behind all others", 2, Selection([4, 0, 1], b"m4_m0_m1")),
+    ("modes of siblings by falling places", 1, Selection([0, 2, 6], b"m0_m2_m6")),
+    ("modes of a component inside an earlier one", 1, Selection([0, 1, 3, 7], b"m0_m1_m3_m7")),
+    ("modes of a component inside an earlier one", 2, Selection([0, 1, 4, 6], b"m0_m1_m4_m6")),
+    ("modes with equal joined names", 0, Selection([0, 2], b"a_b_c")),
+    ("modes with equal joined names", 3, Selection([1, 3], b"a_b_c")),
+    ("modes of one name", 0, Selection([0], b"on")),
+    ("modes of one name", 1, Selection([1], b"on")),
+    ("modes that differ in case", 1, Selection([1, 2], b"on_ON")),
+    ("modes with blanks and brackets", 2, Selection([1, 2], b"a b _\t")),
+    ("modes, none of one component initial", 0, Selection([0, 2], b"m0_m2")),
+    ("modes of the run of document 01", 5, Selection([1, 4], b"high_stop")),
+    ("modes beside 65 traced rows", 5, Selection([1, 4], b"high_stop")),
+    ("modes beside a group over the visits", 5, Selection([1, 4], b"high_stop")),
+    ("modes that are 48 and 48", 2303, Selection([47, 95], b"m47_m95")),
+    ("modes, one each of 96 components", 0, Selection(list(range(96)), b"_".join(b"m%d" % row for row in range(96)))),
+    ("modes of 10,000 selections", 1234, Selection([1, 12, 23, 34], b"m1_m12_m23_m34")),
+    ("modes of 10,000 selections", 9999, Selection([9, 19, 29, 39], b"m9_m19_m29_m39")),
+    ("modes of 10,000 selections", 10000, 20),
+    ("modes of 10,000 selections, then one each", 9999, Selection([9, 19, 29, 39, 40, 41], b"m9_m19_m29_m39_m40_m41")),
+    ("modes of 10,005 combinations", 9999, Selection([14, 37, 61], b"m14_m37_m61")),
+    ("modes of 10,005 combinations", 10000, 20),
+    ("modes of 11,000 combinations", 9999, Selection([9, 10, 29, 30], b"m9_m10_m29_m30")),
+    ("modes of 32,768 combinations of three components", 9999, Selection([9, 56, 79], b"m9_m56_m79")),
+    ("modes of 10,000 selections, then two", 9999, Selection([4, 19, 29, 39, 41], b"m4_m19_m29_m39_m41")),
+    ("modes of 10,000 selections, then two, then one", 9999, Selection([4, 19, 29, 39, 41], b"m4_m19_m29_m39_m41")),
+    ("modes cut before a component with one", 0, Selection([0, 10, 20, 30], b"m0_m10_m20_m30")),
+    ("modes cut before several components", 11, Selection([0, 10, 21, 30], b"m0_m10_m21_m30")),
+    ("modes cut before a component whose rows come first", 0, Selection([2, 3, 4], b"m2_m3_m4")),
+    ("modes, two each of 48 components", 10000, 20),
+    ("joined names of 4,097 bytes", 0, 14),
+    ("joined names of 4,097 bytes", 1, 20),
+    ("joined names of 6,143 bytes", 0, 14),
+    ("joined names of 4,096 bytes, then of 4,097", 1, 14),
+    ("joined names over 4,096 bytes of a cut list", 9999, 14),
+    ("joined names over 4,096 bytes of a cut list", 10000, 20),
+]
+
 # Label -> (sheet, its refusal). A label has no number in second place: that is where the seed of a generated sheet stands.
 REFUSED = {
     "clash of places": (tree((0, 4), (0, 4)).bytes(), Refusal(16, "C", 2)),
@@ -570,6 +785,22 @@ REFUSED = {
     "index with a sign": (indexed(7, "+7").bytes(), Refusal(4, "-", 13)),
     "index below zero": (indexed(7, "-7").bytes(), Refusal(4, "-", 13)),
     "index with a space inside": (indexed(7, "1 000").bytes(), Refusal(4, "-", 13)),
+    "mode of a component past its table": (with_mode(with_modes(run()), owner=4).bytes(), Refusal(6, "M", 5)),
+    "mode with a name past its table": (with_mode(with_modes(run()), name=15).bytes(), Refusal(6, "M", 5)),
+    "mode with the initial flag 2": (with_mode(with_modes(run()), initial=2).bytes(), Refusal(6, "M", 5)),
+    "mode with the initial flag 2 in the first row": (with_mode(run(), initial=2).bytes(), Refusal(6, "M", 0)),
+    "mode with the initial flag 2, and a rename with a bad name": (with_mode(with_rename(run()), initial=2).bytes(), Refusal(6, "R", 0)),
+    "mode with the initial flag 2, then a clash of places": (with_mode(tree((0, 4), (0, 4)), initial=2).bytes(), Refusal(6, "M", 0)),
+    "mode of no component": (mode_alone().bytes(), Refusal(6, "M", 0)),
+    "mode without its initial flag": (with_mode(run(), initial=None).bytes(), Refusal(4, "-", 17)),
+    "mode without its owner": (with_mode(run(), owner=None).bytes(), Refusal(4, "-", 17)),
+    "mode without its name": (with_mode(run(), name=None).bytes(), Refusal(4, "-", 17)),
+    "mode with a zero in front": (with_mode(run(), initial="01").bytes(), Refusal(4, "-", 17)),
+    "mode whose line ends behind its owner": (with_mode(run()).bytes()[:-7] + b"\n", Refusal(4, "-", 17)),
+    "mode whose line has a field more": (with_mode(run()).bytes()[:-1] + b"     0\n", Refusal(4, "-", 17)),
+    "mode, and a package behind it": (with_mode(run()).bytes() + b"P     0\n", Refusal(3, "-", 18)),
+    "mode, and a rename behind it": (with_mode(run()).bytes() + with_rename(run()).bytes().splitlines(keepends=True)[-1], Refusal(3, "-", 18)),
+    "mode, the last line without LF": (with_mode(run()).bytes()[:-1], Refusal(2, "-", 17)),
     "clash of places in the last row of many": (full_of_children([*range(94), 0]).bytes(), Refusal(16, "C", 95)),
 }
 

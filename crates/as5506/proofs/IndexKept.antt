@@ -9,7 +9,7 @@ use borrow.Author.Tests.{le-ltb}
 use lib.Dec.{T, eqb, ltb, eqb→eq}
 use lib.ListN.{length, getD, take, drop, replicate, take-append-drop}
 use Rattle.as5506.specs.Lists.{upTo, isNil, each}
-use Rattle.as5506.specs.Tables.{Tables, Letter, letterN, letterC, letterF, letterX, letterP, letterI, letterT, letterQ, letterU, letterE, letterR}
+use Rattle.as5506.specs.Tables.{Tables, Letter, letterN, letterC, letterF, letterX, letterP, letterI, letterT, letterQ, letterU, letterE, letterR, letterM}
 use Rattle.as5506.specs.Columns.{letterByte}
 use Rattle.as5506.specs.Answers.{Refusal, given, fault}
 use Rattle.as5506.specs.Fields.{space}
@@ -124,6 +124,7 @@ module _ (ts : List (List ℕ)) where
         lines-other letterU refl ts,
         lines-other letterE refl ts,
         lines-other letterR refl ts,
+        lines-other letterM refl ts,
       )
 
   rows-alike : All Fine ts → All (λ t. lineRow letterC (paddedLine t) ≡ inNine (rowBefore t)) cs

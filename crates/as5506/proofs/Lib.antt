@@ -3,6 +3,7 @@
 --     Laws          lists, tests and numbers that may be missing
 --     Scans         what is left of a scan of rows, and what it keeps
 --     Sorted        lists in an order, and rows sorted by keys
+--     Members       the entries of mapped, joined and cut lists; lists of different entries
 --     Next          the next of sorted rows, by a scan that keeps the best so far
 --     Letters       the orders of letters agree with each other
 --     Fields        what a field of few columns can say, and the fields of a line one by one
@@ -19,11 +20,13 @@
 --     Widened       tables with the index in three numbers in place of one: refused as before
 --     PaddedLines   lines with the index in six columns, padded: their rows, refused as before
 --     IndexKept     02 (ii): a sheet written before keeps its index once padded
+--     Modes         02 (xi): the selections are combinations, none twice; cut exactly if one is lacking; the selection at a number
 --     TrialForms    how a trial is written
 --     Trials        the trials, of reading (TrialsRead), resolving and expanding (TrialsFind), listing and printing (TrialsList), as one table
 pub mod Laws
 pub mod Scans
 pub mod Sorted
+pub mod Members
 pub mod Next
 pub mod Letters
 pub mod Fields
@@ -40,6 +43,7 @@ pub mod Output
 pub mod Widened
 pub mod PaddedLines
 pub mod IndexKept
+pub mod Modes
 pub mod TrialForms
 pub mod TrialsRead
 pub mod TrialsFind

@@ -156,7 +156,7 @@ width-before-some : (l : Letter) → 0 < widthBefore l
 width-before-some = c-or-other (λ l. 0 < widthBefore l) (omega arith) (λ l e. rw e (width-some l))
 
 other-byte : (l : Letter) → isC l ≡ false → eqb (letterByte l) (letterByte letterC) ≡ false
-other-byte l e = each-letter (λ l. eqb (letterByte l) (letterByte letterC) ≡ isC l) refl refl refl refl refl refl refl refl refl refl refl l ∙ e
+other-byte l e = each-letter (λ l. eqb (letterByte l) (letterByte letterC) ≡ isC l) refl refl refl refl refl refl refl refl refl refl refl refl l ∙ e
 
 -- a line begins with the byte of its letter
 letter-byte : (t : List ℕ) (l : Letter) → letterOf t ≡ some l → getD t 0 0 ≡ letterByte l

@@ -9,7 +9,7 @@ use Prim.Native.String.{String}
 use lib.Dec.{T, eqb, leb, eqb→eq, eqb-refl, T-not}
 use lib.ListN.{length, getD, take, drop}
 use Rattle.as5506.specs.Lists.{keep, each, firstOf, sameBytes, bytesOf}
-use Rattle.as5506.specs.Tables.{Tables, count, missing, twoTo32, Letter, letterN, letterC, letterF, letterX, letterP, letterI, letterT, letterQ, letterU, letterE, letterR, table, nameOf, Ref, ref}
+use Rattle.as5506.specs.Tables.{Tables, count, missing, twoTo32, Letter, letterN, letterC, letterF, letterX, letterP, letterI, letterT, letterQ, letterU, letterE, letterR, letterM, table, nameOf, Ref, ref}
 use Rattle.as5506.specs.Names.{goodName, folded, baseName, isOneToOne}
 use Rattle.as5506.specs.Answers.{Place, nowhere, line, row, Refusal, refusal, Answer, given, refused}
 use Rattle.as5506.specs.Sheet.{Lent, isN, lentOf, readSheet, tableAfter, bytesAfter}
@@ -22,8 +22,9 @@ use Rattle.as5506.specs.Tracing.{foundChildren, rows, unlimited, stepLim
 use Rattle.as5506.specs.GroupList.{GroupConnection}
 use Rattle.as5506.specs.Listing.{Room, BothLists, groupOf, expansionWithin, expandAnswer, tracedAnswer, groupAnswer, bothAnswer}
 use Rattle.as5506.specs.Layout.{roomIn, output, featureNumbers, tracedRowNumbers, tracedDiagNumbers, groupRowNumbers, groupDiagNumbers, expansionNumbers, composedNames, ofTraced, ofGroup}
+use Rattle.as5506.specs.Modes.{modal, selectionsOf, isCut, Modes, modesAnswer, Selection, selectionAnswer}
 use Rattle.as5506.specs.Text.{column}
-use Rattle.as5506.specs.Program.{rowsLent, lent, textLent, conlistText, textAfter, conlist}
+use Rattle.as5506.specs.Program.{rowsLent, lent, textLent, conlistText, textAfter, conlist, modes, mode}
 use Rattle.as5506.proofs.Laws.{All, and-left, and-right, and-both, is-true}
 
 -- ---- sheets, and models in words
@@ -102,6 +103,7 @@ tablesOf names ls =
       u = rowsWith ls "U";
       e = rowsWith ls "E";
       r = rowsWith ls "R";
+      m = rowsWith ls "M";
     }
 
 abbrev lineWords : List String → List (List (List ℕ))
@@ -124,7 +126,7 @@ askedFor q = ref (getD q 1 0) (getD q 2 0) (getD q 3 0)
 -- ---- letters by number, beside the definition's own
 
 abbrev pub letters : List Letter
-letters = letterN ∷ letterC ∷ letterF ∷ letterX ∷ letterP ∷ letterI ∷ letterT ∷ letterQ ∷ letterU ∷ letterE ∷ letterR ∷ []
+letters = letterN ∷ letterC ∷ letterF ∷ letterX ∷ letterP ∷ letterI ∷ letterT ∷ letterQ ∷ letterU ∷ letterE ∷ letterR ∷ letterM ∷ []
 
 abbrev pub numberOf : Letter → ℕ
 numberOf letterN = 0
@@ -138,6 +140,7 @@ numberOf letterQ = 7
 numberOf letterU = 8
 numberOf letterE = 9
 numberOf letterR = 10
+numberOf letterM = 11
 
 -- tables with one letter's table changed
 abbrev changed : Tables → Letter → (List ℕ → List ℕ) → Letter → List ℕ
@@ -158,6 +161,7 @@ change m l g =
       u = changed m l g letterU;
       e = changed m l g letterE;
       r = changed m l g letterR;
+      m = changed m l g letterM;
     }
 
 -- ---- what is compared
@@ -216,6 +220,21 @@ lengths l = l .bytes ∷ map (l .numbers) letters
 abbrev pub listed : Tables → List ℕ
 listed m = conlistText textLent m
 
+-- 02 (xi): the number of selections and whether they are cut, of which a refusal has none; what a selection puts into its outputs
+abbrev pub modeCount : Answer Modes → ℕ
+modeCount (given s) = s .number
+modeCount (refused r) = 0
+
+abbrev pub modesCut : Answer Modes → Bool
+modesCut (given s) = s .cut
+modesCut (refused r) = false
+
+abbrev pub selectionRows : Selection → List ℕ
+selectionRows s = s .rows
+
+abbrev pub selectionName : Selection → List ℕ
+selectionName s = s .name
+
 -- both listings in outputs of the given lengths, and each output afterwards
 abbrev pub bothIn : Tables → List (List ℕ) → Answer BothLists
 bothIn m out =
@@ -268,6 +287,14 @@ pub data Trial : Type 0 where
   traces : Tables → Option Refusal → List ℕ → List ℕ → Trial
   groups : Tables → Option Refusal → List ℕ → List ℕ → List ℕ → Trial
   both : Tables → Option Refusal → List (List ℕ) → Trial
+  -- 02 (xi): under a limit, the selections of tables and whether they are cut
+  grows : ℕ → Tables → List (List ℕ) → Bool → Trial
+  -- the refusal or none, the number of selections and whether they are cut; a number, the refusal or none, the outputs of M rows and of the name
+  countsModes : Tables → Option Refusal → ℕ → Bool → Trial
+  selects : Tables → ℕ → Option Refusal → List ℕ → List ℕ → Trial
+  -- a sheet's bytes, and what modes prints; and mode for a number
+  modesPrints : List ℕ → List String → Trial
+  modePrints : List ℕ → ℕ → List String → Trial
   -- the group listing of connections whose ends are expanded
   joins : Room → ℕ → Tables → List GroupConnection → Option Refusal → Trial
 
@@ -309,6 +336,14 @@ Means (groups m r rs ds ns) =
     × (output (length ds) groupDiagNumbers (groupAnswer (roomIn (length rs) (length ds)) (length ns) m) ≡ ds)
     × (output (length ns) composedNames (groupAnswer (roomIn (length rs) (length ds)) (length ns) m) ≡ ns)
 Means (both m r out) = (refusalOf (bothIn m out) ≡ r) × (bothOutputs m out (bothIn m out) ≡ out)
+Means (grows limit m ss b) = (selectionsOf limit (modal m) ≡ ss) × (isCut limit (modal m) ≡ b)
+Means (countsModes m r n b) = (refusalOf (modesAnswer m) ≡ r) × (modeCount (modesAnswer m) ≡ n) × (modesCut (modesAnswer m) ≡ b)
+Means (selects m k r rs ns) =
+    (refusalOf (selectionAnswer (length rs) (length ns) m k) ≡ r)
+    × (output (length rs) selectionRows (selectionAnswer (length rs) (length ns) m k) ≡ rs)
+    × (output (length ns) selectionName (selectionAnswer (length rs) (length ns) m k) ≡ ns)
+Means (modesPrints sheet list) = modes sheet ≡ text list
+Means (modePrints sheet k list) = mode k sheet ≡ text list
 Means (joins space names m bs r) = refusalOf (groupOf space names m bs) ≡ r
 
 -- ---- equal, by a test, and the laws of the tests
@@ -372,6 +407,7 @@ letter-back letterQ = refl
 letter-back letterU = refl
 letter-back letterE = refl
 letter-back letterR = refl
+letter-back letterM = refl
 
 place-back : (n : ℕ) (p : Place) → decodedRefusal (placeCode n p) ≡ some (refusal n p)
 place-back n nowhere = refl
@@ -499,6 +535,14 @@ passes (groups m r rs ds ns) =
     && (sameBytes (output (length ds) groupDiagNumbers (groupAnswer (roomIn (length rs) (length ds)) (length ns) m)) ds
     && sameBytes (output (length ns) composedNames (groupAnswer (roomIn (length rs) (length ds)) (length ns) m)) ns))
 passes (both m r out) = sameRefusal (refusalOf (bothIn m out)) r && sameLists (bothOutputs m out (bothIn m out)) out
+passes (grows limit m ss b) = sameLists (selectionsOf limit (modal m)) ss && is b (isCut limit (modal m))
+passes (countsModes m r n b) = sameRefusal (refusalOf (modesAnswer m)) r && (eqb (modeCount (modesAnswer m)) n && is b (modesCut (modesAnswer m)))
+passes (selects m k r rs ns) =
+    sameRefusal (refusalOf (selectionAnswer (length rs) (length ns) m k)) r
+    && (sameBytes (output (length rs) selectionRows (selectionAnswer (length rs) (length ns) m k)) rs
+    && sameBytes (output (length ns) selectionName (selectionAnswer (length rs) (length ns) m k)) ns)
+passes (modesPrints sheet list) = sameBytes (modes sheet) (text list)
+passes (modePrints sheet k list) = sameBytes (mode k sheet) (text list)
 passes (joins space names m bs r) = sameRefusal (refusalOf (groupOf space names m bs)) r
 
 meant : (t : Trial) → T (passes t) → Means t
@@ -544,6 +588,12 @@ meant (groups m r rs ds ns) t = (
   same-bytes _ ns (search (and-left, and-right)),
 )
 meant (both m r out) t = (same-refusal _ r (search and-left), same-lists _ out (search (and-left, and-right)))
+meant (grows limit m ss b) t = (same-lists _ ss (search and-left), is-same _ b (search and-right))
+meant (countsModes m r n b) t = (same-refusal _ r (search and-left), eqb→eq _ n (search (and-left, and-right)), is-same (modesCut (modesAnswer m)) b (search and-right))
+meant (selects m k r rs ns) t =
+    (same-refusal _ r (search and-left), same-bytes _ rs (search (and-left, and-right)), same-bytes _ ns (search (and-left, and-right)))
+meant (modesPrints sheet list) t = same-bytes (modes sheet) (text list) t
+meant (modePrints sheet k list) t = same-bytes (mode k sheet) (text list) t
 meant (joins space names m bs r) t = same-refusal (refusalOf (groupOf space names m bs)) r t
 
 -- ---- a table of trials

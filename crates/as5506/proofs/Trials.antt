@@ -19,13 +19,14 @@ use Rattle.as5506.specs.Tracing.{isNamed, isElement, orElements, foundCh
 use Rattle.as5506.specs.GroupList.{isGroupFeature, typeOf, declaredGroup, classifierBy, declaredBy, typedBy, endpointBy, endpoint, isGroupConnection, endComponentBy, endComponent, groupConnection, groupConnections, overrun, partner, matchesBy, matches, dotted, fullName, connectionKind, matchRow, matchDiag, rowsMatched, diagsMatched}
 use Rattle.as5506.specs.Listing.{expansionWithin, expandOn, expandAnswer, tracedList, tracedWithin, rowNames, groupWithin, groupListOf, groupOf, tracedOn, tracedAnswer, groupOn, groupAnswer, withGroup, afterTraced, bothAnswer}
 use Rattle.as5506.specs.Layout.{featureBlock, expansionNumbers, tracedBlock, groupBlock, diagBlock, tracedRowNumbers, tracedDiagNumbers, groupRowNumbers, groupDiagNumbers, composedNames}
-use Rattle.as5506.specs.Text.{digitsWithin, digits, column, numberLine, textLine, rowText, message, pathNames, diagText, listText, refusalText, textWithin, printed}
-use Rattle.as5506.specs.Program.{textOrRefusal, printedOrRefusal, conlistText, ofReading, whatFits, conlistWithin, textAfter, conlist}
+use Rattle.as5506.specs.Text.{digitsWithin, digits, column, numberLine, textLine, rowText, message, pathNames, diagText, listText, modesLine, selectionLines, refusalText, textWithin}
+use Rattle.as5506.specs.Modes.{modal, grown, selectionsOf, combinations, selections, underscored, joinedName, modesCounted, modesOn, modesAnswer, selectionAt, selectionWithin, selectionOn, selectionAnswer}
+use Rattle.as5506.specs.Program.{textOrRefusal, printedOrRefusal, conlistText, modesText, modeText, ofReading, whatFits, conlistWithin, textAfter, conlist, modes, mode}
 use Rattle.as5506.proofs.Laws.{All}
 use Rattle.as5506.proofs.TrialForms.{Trial, Means, prints, lists, pattern, children, expands, whole, cut, text, componentRows, offsets, every, all-meant}
 use Rattle.as5506.proofs.TrialsRead.{ofNames, ofSheets, ofIndex, ofLent, of10, of6, of7to9, of16}
 use Rattle.as5506.proofs.TrialsFind.{ofPackages, ofSearches, ofGroups, ofChildren}
-use Rattle.as5506.proofs.TrialsList.{ofChains, ofPlaces, ofShapes, ofMatching, ofEndpoints, ofRooms, ofConlist}
+use Rattle.as5506.proofs.TrialsList.{ofChains, ofPlaces, ofShapes, ofMatching, ofEndpoints, ofRooms, ofConlist, ofModes}
 
 -- ---- models made by rule
 
@@ -35,7 +36,7 @@ joined ls = each (λ l. l) ls
 -- names, components, connections, packages, group types, declared features
 abbrev made : List (List ℕ) → List (List ℕ) → List (List ℕ) → List ℕ → List (List ℕ) → List (List ℕ) → Tables
 made ns cs xs ps us es =
-    record { bytes = joined ns; n = offsets 0 ns; c = componentRows 0 cs; f = []; x = joined xs; p = ps; i = []; t = []; q = []; u = joined us; e = joined es; r = [] }
+    record { bytes = joined ns; n = offsets 0 ns; c = componentRows 0 cs; f = []; x = joined xs; p = ps; i = []; t = []; q = []; u = joined us; e = joined es; r = []; m = [] }
 
 -- a component, whose place is its row
 abbrev comp : ℕ → ℕ → ℕ → List ℕ
@@ -193,19 +194,19 @@ ofLimit =
 abbrev pub further : List Trial
 further =
     ofNames ++ ofIndex ++ ofLent ++ of10 ++ of7to9 ++ of16 ++ ofPackages ++ ofSearches ++ ofGroups ++ ofChildren ++ ofChains ++ ofPlaces ++ ofShapes ++ ofMatching ++ ofEndpoints
-    ++ ofRooms ++ ofSheets ++ ofLimit ++ of6 ++ ofConlist
+    ++ ofRooms ++ ofSheets ++ ofLimit ++ of6 ++ ofConlist ++ ofModes
 
 abbrev pub trialTable : List Trial
 trialTable = starred ++ traps ++ further
 
 -- how many there are
-trials-counted : length trialTable ≡ 596
+trials-counted : length trialTable ≡ 642
 trials-counted = refl
 
 -- ---- THE PROOF
 
 table-passes : T (every trialTable)
-unfolding padded sortBy rowsNaming nameIn goodName folded key sameFolded baseName isOneToOne unspaced decimalFrom isDecimal isNumber fieldOf fieldsFit fieldNumbers lineWith linesOf letterOf linesWith keepsRules hasPlace isEarlier lineFaults faultsFrom sheetFaults placed rowsRead tablesRead readSheet tableAfter bytesAfter brokenRows tooManyRows badName faults10 allowsFrom badRow faults6 faults7 clashesFrom clashes faults16 faults8 faults9 faults accepted hasPlaceBefore lineFaultsBefore linesFaultsBefore tablesReadBefore readBefore faults10Before allowsFromBefore faults6Before faults7Before faults16Before faultsBefore paddedSheet packageNamed typeNamed implNamed groupNamed renamesNamed typeHit inPackageBy inPackage inFound replacedBy replaced inNamed withPackage fromImports target renamesFor afterRename afterOwn withoutPackage resolveBy resolve turned featureBy featuresWalked extendedBy typeBy foundBy visitWithin expandFeatureGroup expand expansionWithin expandOn expandAnswer featureBlock expansionNumbers isNamed isElement orElements foundChildren leads stepsOver steps chainsBy chains shape named oneToOne pairsBy pairs appendNew rowOf pairRows rowsAt traced shown rows unlimited diagsBy diagsAt tracedDiags isGroupFeature typeOf declaredGroup classifierBy declaredBy typedBy endpointBy endpoint isGroupConnection endComponentBy endComponent groupConnection groupConnections overrun partner matchesBy matches dotted fullName connectionKind matchRow matchDiag rowsMatched diagsMatched tracedList tracedWithin rowNames groupWithin groupListOf groupOf tracedOn tracedAnswer groupOn groupAnswer withGroup afterTraced bothAnswer tracedBlock groupBlock diagBlock tracedRowNumbers tracedDiagNumbers groupRowNumbers groupDiagNumbers composedNames digitsWithin digits column numberLine textLine rowText message pathNames diagText listText refusalText textWithin printed textOrRefusal printedOrRefusal conlistText ofReading whatFits conlistWithin textAfter conlist
+unfolding padded sortBy rowsNaming nameIn goodName folded key sameFolded baseName isOneToOne unspaced decimalFrom isDecimal isNumber fieldOf fieldsFit fieldNumbers lineWith linesOf letterOf linesWith keepsRules hasPlace isEarlier lineFaults faultsFrom sheetFaults placed rowsRead tablesRead readSheet tableAfter bytesAfter brokenRows tooManyRows badName faults10 allowsFrom badRow faults6 faults7 clashesFrom clashes faults16 faults8 faults9 faults accepted hasPlaceBefore lineFaultsBefore linesFaultsBefore tablesReadBefore readBefore faults10Before allowsFromBefore faults6Before faults7Before faults16Before faultsBefore paddedSheet packageNamed typeNamed implNamed groupNamed renamesNamed typeHit inPackageBy inPackage inFound replacedBy replaced inNamed withPackage fromImports target renamesFor afterRename afterOwn withoutPackage resolveBy resolve turned featureBy featuresWalked extendedBy typeBy foundBy visitWithin expandFeatureGroup expand expansionWithin expandOn expandAnswer featureBlock expansionNumbers isNamed isElement orElements foundChildren leads stepsOver steps chainsBy chains shape named oneToOne pairsBy pairs appendNew rowOf pairRows rowsAt traced shown rows unlimited diagsBy diagsAt tracedDiags isGroupFeature typeOf declaredGroup classifierBy declaredBy typedBy endpointBy endpoint isGroupConnection endComponentBy endComponent groupConnection groupConnections overrun partner matchesBy matches dotted fullName connectionKind matchRow matchDiag rowsMatched diagsMatched tracedList tracedWithin rowNames groupWithin groupListOf groupOf tracedOn tracedAnswer groupOn groupAnswer withGroup afterTraced bothAnswer tracedBlock groupBlock diagBlock tracedRowNumbers tracedDiagNumbers groupRowNumbers groupDiagNumbers composedNames digitsWithin digits column numberLine textLine rowText message pathNames diagText listText modesLine selectionLines refusalText textWithin modal grown selectionsOf combinations selections underscored joinedName modesCounted modesOn modesAnswer selectionAt selectionWithin selectionOn selectionAnswer textOrRefusal printedOrRefusal conlistText modesText modeText ofReading whatFits conlistWithin textAfter conlist modes mode
 table-passes = tt
 
 -- EVERY TRIAL HOLDS

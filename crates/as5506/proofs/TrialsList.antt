@@ -1,15 +1,16 @@
 -- Trials of the two listings: rows, diagnostics, rooms, lent outputs and text, over models in words. Assumes nothing.
+use mathlib.Core.Bool.{true, false}
 use mathlib.Core.List.{List, [], _∷_, _++_}
 use mathlib.Core.Option.{Option, none, some}
 use Prim.Native.Nat.{ℕ, _+_, _-_, _*_}
 use Prim.Native.String.{String}
 use lib.ListN.{length, replicate, set}
 use Rattle.as5506.specs.Lists.{zeros, bytesOf}
-use Rattle.as5506.specs.Tables.{Tables, missing, letterC, letterN}
+use Rattle.as5506.specs.Tables.{Tables, missing, letterC, letterN, letterM}
 use Rattle.as5506.specs.Answers.{Refusal, refusal, nowhere, row}
 use Rattle.as5506.specs.Groups.{Expansion}
 use Rattle.as5506.specs.GroupList.{GroupConnection}
-use Rattle.as5506.proofs.TrialForms.{Trial, fills, lends, lists, lengthIs, traces, groups, both, joins, text, model, change}
+use Rattle.as5506.proofs.TrialForms.{Trial, fills, lends, lists, lengthIs, traces, groups, both, joins, grows, countsModes, selects, modesPrints, modePrints, text, model, change}
 
 -- a model in words, and what is printed
 abbrev prints-of : List String → List String → Trial
@@ -510,7 +511,7 @@ unmatched n k =
 abbrev pub ofConlist : List Trial
 ofConlist =
     -- "lends 256 `N` rows, 96 of each other letter, a byte table of 16,384": so many numbers
-    lends (16384 ∷ 512 ∷ 864 ∷ 288 ∷ 672 ∷ 96 ∷ 192 ∷ 288 ∷ 384 ∷ 864 ∷ 768 ∷ 480 ∷ [])
+    lends (16384 ∷ 512 ∷ 864 ∷ 288 ∷ 672 ∷ 96 ∷ 192 ∷ 288 ∷ 384 ∷ 864 ∷ 768 ∷ 480 ∷ 288 ∷ [])
     -- "per listing 64 rows", "8,192 for text"
     ∷ lengthIs (full "X nnnnnnnnnnnnnnnnnnnnnn 0 0 s ssssssssssssssssssssss d ddddddddddddddddddddddd") 8192
     ∷ lists (full "X nnnnnnnnnnnnnnnnnnnnnnn 0 0 s ssssssssssssssssssssss d ddddddddddddddddddddddd") ("R    15     0 -" ∷ [])
@@ -521,4 +522,70 @@ ofConlist =
     -- "4,096 bytes for composed names"
     ∷ lengthIs (wide "X cccccccccccccccccccccccccccccccccccccccccccccccccccccccccccccc 0 2 - ggggggggggggggggggggggggggggggggggggggggggggggggggggggggggggggg - ggggggggggggggggggggggggggggggggggggggggggggggggggggggggggggggg" 6 5) (4096 + 11 * 47 + 14)
     ∷ lists (wide "X ccccccccccccccccccccccccccccccccccccccccccccccccccccccccccccc 0 2 - ggggggggggggggggggggggggggggggggggggggggggggggggggggggggggggggg - ggggggggggggggggggggggggggggggggggggggggggggggggggggggggggggggg" 2 9) ("R    14     0 -" ∷ [])
+    ∷ []
+
+-- ---- 02 (xi): operation modes
+
+-- component 0 and, in it, a (1), b (2) and d (3)
+abbrev four : List String → Tables
+four ls = model ("C top - - p t - 0" ∷ "C a 0 - p t - 9" ∷ "C b 0 - p t - 8" ∷ "C d 0 - p t - 7" ∷ ls)
+
+-- so many modes of component 0, and of a
+abbrev many : ℕ → ℕ → Tables
+many k l = four (replicate k "M on 0 1" ++ replicate l "M off 1 0")
+
+-- two modes of d and two of a, in other rows than in order of components
+abbrev twice : Tables
+twice = four ("M x 3 0" ∷ "M yy 1 1" ∷ "M z 3 1" ∷ "M w 1 0" ∷ [])
+
+-- the same as a sheet
+abbrev modeSheet : List ℕ
+modeSheet =
+    text
+    ("N top" ∷ "N a" ∷ "N x" ∷ "N yy" ∷ "N z" ∷ "N w" ∷ "C     0     -                   -     0     0     -     0" ∷ "C     1     0                   -     0     0     -     9" ∷
+    "C     1     0                   -     0     0     -     8" ∷ "C     1     0                   -     0     0     -     7" ∷ "M     2     3     0" ∷
+    "M     3     1     1" ∷ "M     4     3     1" ∷ "M     5     1     0" ∷ [])
+
+abbrev pub ofModes : List Trial
+ofModes =
+    -- "Components with modes and their modes come in row order; the last one's mode changes fastest"
+    grows 10000 (four ("M x 3 0" ∷ "M y 1 1" ∷ "M z 3 1" ∷ "M w 1 0" ∷ "M v 1 0" ∷ []))
+    ((1 ∷ 0 ∷ []) ∷ (1 ∷ 2 ∷ []) ∷ (3 ∷ 0 ∷ []) ∷ (3 ∷ 2 ∷ []) ∷ (4 ∷ 0 ∷ []) ∷ (4 ∷ 2 ∷ []) ∷ []) false
+    -- "With no modes at all the number is 0 and nothing is cut"
+    ∷ grows 10000 (four []) [] false
+    ∷ countsModes (four []) none 0 false
+    ∷ grows 10000 (four ("M x 0 0" ∷ [])) ((0 ∷ []) ∷ []) false
+    -- "If the growing list passes 10,000 at a component, its first 10,000 selections count and later components are missing from each": under other
+    -- limits, exactly met, passed at the last component, and before it
+    ∷ grows 6 (four ("M x 0 0" ∷ "M y 0 0" ∷ "M x 1 0" ∷ "M y 1 0" ∷ "M z 1 0" ∷ [])) ((0 ∷ 2 ∷ []) ∷ (0 ∷ 3 ∷ []) ∷ (0 ∷ 4 ∷ []) ∷ (1 ∷ 2 ∷ []) ∷ (1 ∷ 3 ∷ []) ∷ (1 ∷ 4 ∷ []) ∷ []) false
+    ∷ grows 5 (four ("M x 0 0" ∷ "M y 0 0" ∷ "M x 1 0" ∷ "M y 1 0" ∷ "M z 1 0" ∷ [])) ((0 ∷ 2 ∷ []) ∷ (0 ∷ 3 ∷ []) ∷ (0 ∷ 4 ∷ []) ∷ (1 ∷ 2 ∷ []) ∷ (1 ∷ 3 ∷ []) ∷ []) true
+    ∷ grows 3 (four ("M x 0 0" ∷ "M y 0 0" ∷ "M x 1 0" ∷ "M y 1 0" ∷ "M x 2 0" ∷ "M y 2 0" ∷ [])) ((0 ∷ 2 ∷ []) ∷ (0 ∷ 3 ∷ []) ∷ (1 ∷ 2 ∷ []) ∷ []) true
+    ∷ grows 4 (four ("M x 0 0" ∷ "M y 0 0" ∷ "M x 1 0" ∷ "M y 1 0" ∷ "M x 2 0" ∷ "M y 2 0" ∷ [])) ((0 ∷ 2 ∷ 4 ∷ []) ∷ (0 ∷ 2 ∷ 5 ∷ []) ∷ (0 ∷ 3 ∷ 4 ∷ []) ∷ (0 ∷ 3 ∷ 5 ∷ []) ∷ []) true
+    ∷ grows 2 (four ("M x 0 0" ∷ "M y 0 0" ∷ "M z 0 0" ∷ "M x 1 0" ∷ [])) ((0 ∷ []) ∷ (1 ∷ []) ∷ []) true
+    -- 100 times 100 is 10,000, and 73 times 137 is 10,001
+    ∷ countsModes (many 100 100) none 10000 false
+    ∷ countsModes (many 73 137) none 10000 true
+    ∷ selects (many 73 137) 9999 none (72 ∷ 208 ∷ []) (bytesOf "on_off")
+    ∷ selects (many 73 137) 10000 (over 20) (zeros 2) (zeros 6)
+    -- "the mode names are joined by an underscore"; "as `M` rows with the joined name"; unused output is zero
+    ∷ selects twice 1 none (1 ∷ 2 ∷ 0 ∷ []) (bytesOf "yy_z" ++ (0 ∷ []))
+    ∷ selects twice 3 none (3 ∷ 2 ∷ []) (bytesOf "w_z")
+    ∷ selects (four ("M x 2 0" ∷ [])) 0 none (0 ∷ []) (bytesOf "x")
+    -- two selections of which the joined names are equal
+    ∷ selects (four ("M a 0 0" ∷ "M a_b 0 0" ∷ "M b_c 1 0" ∷ "M c 1 0" ∷ [])) 0 none (0 ∷ 2 ∷ []) (bytesOf "a_b_c")
+    ∷ selects (four ("M a 0 0" ∷ "M a_b 0 0" ∷ "M b_c 1 0" ∷ "M c 1 0" ∷ [])) 3 none (1 ∷ 3 ∷ []) (bytesOf "a_b_c")
+    -- "A selection number not below the number of selections is refused as 20, after the tables' checks"; "then the existing 11", then 14
+    ∷ selects twice 4 (over 20) [] []
+    ∷ selects twice 5 (over 20) (zeros 2) (zeros 4)
+    ∷ selects twice 3 (over 11) (zeros 1) (zeros 2)
+    ∷ selects twice 3 (over 14) (zeros 2) (zeros 2)
+    ∷ selects (four []) 0 (over 20) (zeros 2) (zeros 2)
+    ∷ selects (four ("M x 4 0" ∷ [])) 9 (some (refusal 6 (row letterM 0))) (zeros 2) (zeros 2)
+    ∷ countsModes (four ("M x 0 2" ∷ [])) (some (refusal 6 (row letterM 0))) 0 false
+    -- the programs
+    ∷ modesPrints modeSheet ("Z     4     0" ∷ [])
+    ∷ modePrints modeSheet 2 ("M     3     0" ∷ "= w_x" ∷ [])
+    ∷ modePrints modeSheet 4 ("R    20     0 -" ∷ [])
+    ∷ modesPrints [] ("R     7     0 C" ∷ [])
+    ∷ modePrints (bytesOf "M") 0 ("R     2     1 -" ∷ [])
     ∷ []

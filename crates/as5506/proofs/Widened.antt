@@ -9,7 +9,7 @@ use native.Mathlib.Omega.{arith}
 use lib.Dec.{T, eqb, ltb}
 use lib.ListN.{length, getD}
 use Rattle.as5506.specs.Lists.{upTo, keep, when, allOf}
-use Rattle.as5506.specs.Tables.{Tables, twoTo32, present, Letter, letterN, letterC, letterF, letterX, letterP, letterI, letterT, letterQ, letterU, letterE, letterR, table, width, count, at, hasIndex, cIndex, eHolderKind}
+use Rattle.as5506.specs.Tables.{Tables, twoTo32, present, Letter, letterN, letterC, letterF, letterX, letterP, letterI, letterT, letterQ, letterU, letterE, letterR, letterM, table, width, count, at, hasIndex, cIndex, eHolderKind}
 use Rattle.as5506.specs.Columns.{order, Meaning, name, rowIn, holder, below, anything, Column, needed, optional, long, columns}
 use Rattle.as5506.specs.Names.{key}
 use Rattle.as5506.specs.Answers.{refusal, row}
@@ -22,7 +22,7 @@ use Rattle.as5506.proofs.Letters.{each-letter}
 
 pub c-or-other : (P : Letter → Type 0) → P letterC → ((l : Letter) → isC l ≡ false → P l) → (l : Letter) → P l
 c-or-other P c h =
-    each-letter P (h letterN refl) c (h letterF refl) (h letterX refl) (h letterP refl) (h letterI refl) (h letterT refl) (h letterQ refl) (h letterU refl) (h letterE refl) (h letterR refl)
+    each-letter P (h letterN refl) c (h letterF refl) (h letterX refl) (h letterP refl) (h letterI refl) (h letterT refl) (h letterQ refl) (h letterU refl) (h letterE refl) (h letterR refl) (h letterM refl)
 
 other-width : (l : Letter) → isC l ≡ false → widthBefore l ≡ width l
 other-width l e = ap (λ (b : Bool). widthIf b l) e
@@ -60,7 +60,7 @@ isShort (optional b w) = true
 isShort (long b) = false
 
 short-columns : (l : Letter) → isC l ≡ false → T (allOf isShort (columns l))
-short-columns l e = subst (λ (b : Bool). T (b || allOf isShort (columns l))) e (each-letter (λ l. T (isC l || allOf isShort (columns l))) tt tt tt tt tt tt tt tt tt tt tt l)
+short-columns l e = subst (λ (b : Bool). T (b || allOf isShort (columns l))) e (each-letter (λ l. T (isC l || allOf isShort (columns l))) tt tt tt tt tt tt tt tt tt tt tt tt l)
 
 -- ---- widened tables, whatever the tables
 module _ (m : Tables) where
@@ -87,7 +87,7 @@ module _ (m : Tables) where
   unfolding widened
   other-table =
       each-letter (λ l. isC l ≡ false → table (widened m) l ≡ table m l)
-      (λ e. refl) (λ e. absurd (false-true (sym e))) (λ e. refl) (λ e. refl) (λ e. refl) (λ e. refl) (λ e. refl) (λ e. refl) (λ e. refl) (λ e. refl) (λ e. refl)
+      (λ e. refl) (λ e. absurd (false-true (sym e))) (λ e. refl) (λ e. refl) (λ e. refl) (λ e. refl) (λ e. refl) (λ e. refl) (λ e. refl) (λ e. refl) (λ e. refl) (λ e. refl)
 
   other-at : (l : Letter) → isC l ≡ false → (i j : ℕ) → at (widened m) l i j ≡ atBefore m l i j
   other-at l e i j = ap₂ (λ (t : List ℕ) (w : ℕ). getD t (i * w + j) 0) (other-table l e) (sym (other-width l e))

@@ -66,7 +66,7 @@ linesFaultsBefore lent before k (l ∷ ls) =
 
 -- tables with another table of C rows
 abbrev pub withC : List ℕ → Tables → Tables
-withC cs m = tablesOf (m .bytes) (m .n) cs (m .f) (m .x) (m .p) (m .i) (m .t) (m .q) (m .u) (m .e) (m .r)
+withC cs m = tablesOf (m .bytes) (m .n) cs (m .f) (m .x) (m .p) (m .i) (m .t) (m .q) (m .u) (m .e) (m .r) (m .m)
 
 unfoldable pub tablesReadBefore : List (List ℕ) → Tables
 tablesReadBefore ls = withC (each (λ s. fieldNumbers (columnsBefore letterC) (drop 1 s)) (linesWith letterC ls)) (tablesRead ls)

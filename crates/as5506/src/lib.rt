@@ -14,10 +14,12 @@ pub const STEPS: usize = 20;
 pub const CHAIN_PLACES: usize = STEPS + 1;
 
 pub const VISITS: u32 = 65536;
+// The selections of modes, at most.
+pub const SELECTIONS: usize = 10000;
 // The letters in their order; a letter is known by its place in it.
-pub const LETTER_COUNT: usize = 11;
+pub const LETTER_COUNT: usize = 12;
 
-pub const LETTERS: [u8; LETTER_COUNT] = *b"NCFXPITQUER";
+pub const LETTERS: [u8; LETTER_COUNT] = *b"NCFXPITQUERM";
 // The numbers of a row, by letter.
 pub const N_NUMBERS: usize = 2;
 
@@ -41,6 +43,8 @@ pub const E_NUMBERS: usize = 8;
 
 pub const R_NUMBERS: usize = 5;
 
+pub const M_NUMBERS: usize = 3;
+
 pub const WIDTHS: [usize; LETTER_COUNT] = [
     N_NUMBERS,
     C_NUMBERS,
@@ -53,6 +57,7 @@ pub const WIDTHS: [usize; LETTER_COUNT] = [
     U_NUMBERS,
     E_NUMBERS,
     R_NUMBERS,
+    M_NUMBERS,
 ];
 // The path of a listing's row: a connection, the steps of its source's chain and those of its destination's.
 pub const PATH_PLACES: usize = CHAIN_PLACES + STEPS;

@@ -3,8 +3,10 @@ use mathlib.Core.Bool.{Bool}
 use mathlib.Core.Path.{_≡_, ap, subst, _∙_}
 use mathlib.Core.List.{List}
 use Prim.Native.Nat.{ℕ}
+use lib.ListN.{length}
 use Rattle.as5506.specs.Tables.{Tables}
 use Rattle.as5506.specs.Sheet.{lentOf, readSheet}
+use Rattle.as5506.specs.Modes.{selectionAnswer}
 use Rattle.sheet.specs.declared.SheetRead.{SheetRead}
 use Rattle.sheet.specs.Read.{sheetRead, ReadInto}
 use Rattle.feature_group.specs.declared.Expanded.{Expanded}
@@ -15,7 +17,9 @@ use Rattle.group_list.specs.declared.GroupListed.{GroupListed}
 use Rattle.group_list.specs.Answer.{GroupListedInto, answerFor as groupFor}
 use Rattle.listing.specs.declared.Both.{Both}
 use Rattle.listing.specs.Answer.{Outputs, BothInto, answerFor as bothFor}
-use Rattle.conlist_c.specs.Numbers.{readNumbers, expandedNumbers, tracedNumbers, groupNumbers, bothNumbers}
+use Rattle.operation_modes.specs.declared.Selected.{Selected}
+use Rattle.operation_modes.specs.Answer.{selected, SelectedInto}
+use Rattle.conlist_c.specs.Numbers.{readNumbers, expandedNumbers, tracedNumbers, groupNumbers, bothNumbers, selectedNumbers}
 use Rattle.conlist_c.specs.Told.{TracedTold, GroupTold, BothTold}
 
 -- numbers of an answer, and what holds of it, are so of an answer that it equals
@@ -48,3 +52,8 @@ pub both-told : (m : Tables) (o : Outputs) (z : Both) (p : Outputs) (ns : List �
 both-told m o z p ns h q =
     let t = told-so bothNumbers (λ (z : Both). BothInto m o z p) z _ ns (h .answer) h q in
     record { told = t .0; outputs-hold = t .1 }
+
+pub selected-told : (m : Tables) (k : ℕ) (rows name : List ℕ) (z : Selected) (rows′ name′ ns : List ℕ) → SelectedInto m k rows name z rows′ name′ → ns ≡ selectedNumbers z
+    → (ns ≡ selectedNumbers (selected (selectionAnswer (length rows) (length name) m k)))
+    × SelectedInto m k rows name (selected (selectionAnswer (length rows) (length name) m k)) rows′ name′
+selected-told m k rows name z rows′ name′ ns h q = told-so selectedNumbers (λ (z : Selected). SelectedInto m k rows name z rows′ name′) z _ ns (h .answer) h q

@@ -23,6 +23,7 @@ pub extern "C" fn conlist_list_connections(
     u: &[u32],
     e: &[u32],
     r: &[u32],
+    m: &[u32],
     rows: &mut [u32],
     diagnostics: &mut [u32],
     group_rows: &mut [u32],
@@ -31,9 +32,9 @@ pub extern "C" fn conlist_list_connections(
     told: &mut [u64; 5],
 )
     ensures { λ _. ⌜ BothTold
-        (answerFor (tablesAt bytes n c f x p i t q u e r)
+        (answerFor (tablesAt bytes n c f x p i t q u e r m)
         (outputs (now (rows .entry)) (now (diagnostics .entry)) (now («group_rows» .entry)) (now (names .entry)) (now («group_diagnostics» .entry))))
-        (tablesAt bytes n c f x p i t q u e r)
+        (tablesAt bytes n c f x p i t q u e r m)
         (outputs (now (rows .entry)) (now (diagnostics .entry)) (now («group_rows» .entry)) (now (names .entry)) (now («group_diagnostics» .entry))) (now (told .exit))
         (outputs (now (rows .exit)) (now (diagnostics .exit)) (now («group_rows» .exit)) (now (names .exit)) (now («group_diagnostics» .exit))) ⌝ }
 {
@@ -50,6 +51,7 @@ pub extern "C" fn conlist_list_connections(
         u,
         e,
         r,
+        m,
         rows,
         diagnostics,
         group_rows,
@@ -73,6 +75,7 @@ fn list_for(
     u: &[u32],
     e: &[u32],
     r: &[u32],
+    m: &[u32],
     rows: &mut [u32],
     numbers: &mut [u32],
     group_rows: &mut [u32],
@@ -83,10 +86,10 @@ fn list_for(
     told: &mut [u64; 5],
 )
     ensures { λ _. ⌜ BothTold
-        (bothFor (tablesAt bytes n c f x p i t q u e r)
+        (bothFor (tablesAt bytes n c f x p i t q u e r m)
         (outputs (now (rows .entry)) (now (numbers .entry)) (now («group_rows» .entry)) (now (names .entry)) (now («group_numbers» .entry)))
         count «group_count»)
-        (tablesAt bytes n c f x p i t q u e r)
+        (tablesAt bytes n c f x p i t q u e r m)
         (outputs (now (rows .entry)) (now (numbers .entry)) (now («group_rows» .entry)) (now (names .entry)) (now («group_numbers» .entry))) (now (told .exit))
         (outputs (now (rows .exit)) (now (numbers .exit)) (now («group_rows» .exit)) (now (names .exit)) (now («group_numbers» .exit))) ⌝ }
 {
@@ -107,6 +110,7 @@ fn list_for(
         u,
         e,
         r,
+        m,
         rows,
         &mut numbers[..end],
         group_rows,
@@ -132,6 +136,7 @@ pub extern "C" fn conlist_list_connections_with_records(
     u: &[u32],
     e: &[u32],
     r: &[u32],
+    m: &[u32],
     rows: &mut [u32],
     numbers: &mut [u32],
     out: &mut [Diagnostic],
@@ -142,7 +147,7 @@ pub extern "C" fn conlist_list_connections_with_records(
     told: &mut [u64; 5],
 )
     ensures { λ _. ⌜ BothRecords
-        (tablesAt bytes n c f x p i t q u e r)
+        (tablesAt bytes n c f x p i t q u e r m)
         (outputs (now (rows .entry)) (now (numbers .entry)) (now («group_rows» .entry)) (now (names .entry)) (now («group_numbers» .entry)))
         (now (out .entry)) (now («group_out» .entry)) (now (told .exit))
         (outputs (now (rows .exit)) (now (numbers .exit)) (now («group_rows» .exit)) (now (names .exit)) (now («group_numbers» .exit)))
@@ -163,6 +168,7 @@ pub extern "C" fn conlist_list_connections_with_records(
         u,
         e,
         r,
+        m,
         rows,
         numbers,
         group_rows,

@@ -21,10 +21,11 @@ pub extern "C" fn conlist_check_tables(
     u: &[u32],
     e: &[u32],
     r: &[u32],
+    m: &[u32],
     told: &mut [u64; 3],
 )
-    ensures { λ _. ⌜ now (told .exit) ≡ checkedNumbers (checked (faults (tablesAt bytes n c f x p i t q u e r))) ⌝ }
+    ensures { λ _. ⌜ now (told .exit) ≡ checkedNumbers (checked (faults (tablesAt bytes n c f x p i t q u e r m))) ⌝ }
 {
-    let answer = tables::check_tables(bytes, n, c, f, x, p, i, t, q, u, e, r);
+    let answer = tables::check_tables(bytes, n, c, f, x, p, i, t, q, u, e, r, m);
     *told = numbers::checked(answer);
 }

@@ -21,14 +21,15 @@ pub extern "C" fn conlist_expand_feature_group(
     u: &[u32],
     e: &[u32],
     r: &[u32],
+    m: &[u32],
     out: &mut [u32],
     from: u32,
     type_name: u32,
     inverse: bool,
     told: &mut [u64; 3],
 )
-    ensures { λ _. ⌜ now (told .exit) ≡ expandedNumbers (expanded (answerFor (tablesAt bytes n c f x p i t q u e r) (now (out .entry)) from «type_name» inverse)) ⌝ }
-    ensures { λ _. ⌜ ExpandedInto (tablesAt bytes n c f x p i t q u e r) (now (out .entry)) from «type_name» inverse (expanded (answerFor (tablesAt bytes n c f x p i t q u e r) (now (out .entry)) from «type_name» inverse)) (now (out .exit)) ⌝ }
+    ensures { λ _. ⌜ now (told .exit) ≡ expandedNumbers (expanded (answerFor (tablesAt bytes n c f x p i t q u e r m) (now (out .entry)) from «type_name» inverse)) ⌝ }
+    ensures { λ _. ⌜ ExpandedInto (tablesAt bytes n c f x p i t q u e r m) (now (out .entry)) from «type_name» inverse (expanded (answerFor (tablesAt bytes n c f x p i t q u e r m) (now (out .entry)) from «type_name» inverse)) (now (out .exit)) ⌝ }
 {
     let answer = feature_group::expand_feature_group(
         bytes,
@@ -43,6 +44,7 @@ pub extern "C" fn conlist_expand_feature_group(
         u,
         e,
         r,
+        m,
         out,
         from,
         type_name,

@@ -23,13 +23,14 @@ pub extern "C" fn conlist_expand_feature_group_connections(
     u: &[u32],
     e: &[u32],
     r: &[u32],
+    m: &[u32],
     rows: &mut [u32],
     names: &mut [u8],
     diagnostics: &mut [u32],
     told: &mut [u64; 3],
 )
     ensures { λ _. ⌜ GroupTold
-        (answerFor (tablesAt bytes n c f x p i t q u e r) (now (rows .entry)) (now (names .entry)) (now (diagnostics .entry)))
+        (answerFor (tablesAt bytes n c f x p i t q u e r m) (now (rows .entry)) (now (names .entry)) (now (diagnostics .entry)))
         (now (rows .entry)) (now (names .entry)) (now (diagnostics .entry)) (now (told .exit)) (now (rows .exit)) (now (names .exit)) (now (diagnostics .exit)) ⌝ }
 {
     let answer = group_list::expand_feature_group_connections(
@@ -45,6 +46,7 @@ pub extern "C" fn conlist_expand_feature_group_connections(
         u,
         e,
         r,
+        m,
         rows,
         names,
         diagnostics,
@@ -66,6 +68,7 @@ fn expand_for(
     u: &[u32],
     e: &[u32],
     r: &[u32],
+    m: &[u32],
     rows: &mut [u32],
     names: &mut [u8],
     numbers: &mut [u32],
@@ -73,7 +76,7 @@ fn expand_for(
     told: &mut [u64; 3],
 )
     ensures { λ _. ⌜ GroupTold
-        (groupFor (tablesAt bytes n c f x p i t q u e r) (now (rows .entry)) (now (names .entry)) (now (numbers .entry)) count)
+        (groupFor (tablesAt bytes n c f x p i t q u e r m) (now (rows .entry)) (now (names .entry)) (now (numbers .entry)) count)
         (now (rows .entry)) (now (names .entry)) (now (numbers .entry)) (now (told .exit)) (now (rows .exit)) (now (names .exit)) (now (numbers .exit)) ⌝ }
 {
     let end = diagnostic::numbers_for(numbers.len(), count);
@@ -91,6 +94,7 @@ fn expand_for(
         u,
         e,
         r,
+        m,
         rows,
         names,
         &mut numbers[..end],
@@ -114,6 +118,7 @@ pub extern "C" fn conlist_expand_feature_group_connections_with_records(
     u: &[u32],
     e: &[u32],
     r: &[u32],
+    m: &[u32],
     rows: &mut [u32],
     names: &mut [u8],
     numbers: &mut [u32],
@@ -121,7 +126,7 @@ pub extern "C" fn conlist_expand_feature_group_connections_with_records(
     told: &mut [u64; 3],
 )
     ensures { λ _. ⌜ GroupRecords
-        (tablesAt bytes n c f x p i t q u e r)
+        (tablesAt bytes n c f x p i t q u e r m)
         (now (rows .entry)) (now (names .entry)) (now (numbers .entry)) (now (out .entry))
         (now (told .exit)) (now (rows .exit)) (now (names .exit)) (now (numbers .exit)) (now (out .exit)) ⌝ }
 {
@@ -139,6 +144,7 @@ pub extern "C" fn conlist_expand_feature_group_connections_with_records(
         u,
         e,
         r,
+        m,
         rows,
         names,
         numbers,

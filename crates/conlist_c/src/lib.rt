@@ -4,6 +4,7 @@ mod check;
 mod diagnostic;
 mod expand;
 mod group;
+mod modes;
 mod numbers;
 mod read;
 mod text;

@@ -3,13 +3,16 @@ use feature_group::Expanded;
 use group_list::GroupListed;
 use instance::Listed;
 use listing::Both;
+use operation_modes::Counted;
+use operation_modes::Selected;
 use sheet::SheetRead;
 use tables::Checked;
 ghost use mathlib.Core.Path.{_≡_};
-ghost use Rattle.conlist_c.specs.Numbers.{readNumbers, checkedNumbers, expandedNumbers, tracedNumbers, groupNumbers, bothNumbers};
+ghost use mathlib.Core.Bool.{cond};
+ghost use Rattle.conlist_c.specs.Numbers.{readNumbers, checkedNumbers, expandedNumbers, tracedNumbers, groupNumbers, bothNumbers, countedNumbers, selectedNumbers};
 
 // The reader's.
-pub fn read(answer: SheetRead) -> [u64; 13]
+pub fn read(answer: SheetRead) -> [u64; 14]
     ensures { λ z. ⌜ z ≡ readNumbers answer ⌝ }
 {
     match answer {
@@ -27,11 +30,13 @@ pub fn read(answer: SheetRead) -> [u64; 13]
             k.u as u64,
             k.e as u64,
             k.r as u64,
+            k.m as u64,
         ],
         SheetRead::Refused(reason) => [
             reason.number as u64,
             reason.place as u64,
             reason.letter as u64,
+            0,
             0,
             0,
             0,
@@ -114,6 +119,41 @@ pub fn both(answer: Both) -> [u64; 5]
             reason.letter as u64,
             0,
             0,
+        ],
+    }
+}
+
+// 1 or 0.
+fn flag(b: bool) -> u64
+    ensures { λ z. ⌜ z ≡ cond b 1 0 ⌝ }
+{
+    if b { 1 } else { 0 }
+}
+
+// That of the number of selections of modes.
+pub fn counted(answer: Counted) -> [u64; 3]
+    ensures { λ z. ⌜ z ≡ countedNumbers answer ⌝ }
+{
+    match answer {
+        Counted::Given(s) => [0, s.number as u64, flag(s.cut)],
+        Counted::Refused(reason) => [
+            reason.number as u64,
+            reason.place as u64,
+            reason.letter as u64,
+        ],
+    }
+}
+
+// That of a selection of modes.
+pub fn selected(answer: Selected) -> [u64; 3]
+    ensures { λ z. ⌜ z ≡ selectedNumbers answer ⌝ }
+{
+    match answer {
+        Selected::Rows(k, b) => [0, k as u64, b as u64],
+        Selected::Refused(reason) => [
+            reason.number as u64,
+            reason.place as u64,
+            reason.letter as u64,
         ],
     }
 }

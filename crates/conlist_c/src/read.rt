@@ -23,11 +23,12 @@ pub extern "C" fn conlist_read_sheet(
     u: &mut [u32],
     e: &mut [u32],
     r: &mut [u32],
-    told: &mut [u64; 13],
+    m: &mut [u32],
+    told: &mut [u64; 14],
 )
-    ensures { λ _. ⌜ now (told .exit) ≡ readNumbers (sheetRead (readSheet (lentOf (tablesAt bytes n c f x p i t q u e r)) (now (sheet .entry)))) ⌝ }
-    ensures { λ _. ⌜ ReadInto (tablesAt bytes n c f x p i t q u e r) (now (sheet .entry)) (sheetRead (readSheet (lentOf (tablesAt bytes n c f x p i t q u e r)) (now (sheet .entry)))) (tablesLeft bytes n c f x p i t q u e r) ⌝ }
+    ensures { λ _. ⌜ now (told .exit) ≡ readNumbers (sheetRead (readSheet (lentOf (tablesAt bytes n c f x p i t q u e r m)) (now (sheet .entry)))) ⌝ }
+    ensures { λ _. ⌜ ReadInto (tablesAt bytes n c f x p i t q u e r m) (now (sheet .entry)) (sheetRead (readSheet (lentOf (tablesAt bytes n c f x p i t q u e r m)) (now (sheet .entry)))) (tablesLeft bytes n c f x p i t q u e r m) ⌝ }
 {
-    let answer = sheet::read_sheet(sheet, bytes, n, c, f, x, p, i, t, q, u, e, r);
+    let answer = sheet::read_sheet(sheet, bytes, n, c, f, x, p, i, t, q, u, e, r, m);
     *told = numbers::read(answer);
 }

@@ -23,13 +23,14 @@ pub extern "C" fn conlist_compute_semantic_connections(
     u: &[u32],
     e: &[u32],
     r: &[u32],
+    m: &[u32],
     rows: &mut [u32],
     diagnostics: &mut [u32],
     told: &mut [u64; 3],
 )
     ensures { λ _. ⌜ TracedTold
-        (answerFor (tablesAt bytes n c f x p i t q u e r) (now (rows .entry)) (now (diagnostics .entry)))
-        (tablesAt bytes n c f x p i t q u e r)
+        (answerFor (tablesAt bytes n c f x p i t q u e r m) (now (rows .entry)) (now (diagnostics .entry)))
+        (tablesAt bytes n c f x p i t q u e r m)
         (now (rows .entry)) (now (diagnostics .entry)) (now (told .exit)) (now (rows .exit)) (now (diagnostics .exit)) ⌝ }
 {
     let answer = instance::compute_semantic_connections(
@@ -45,6 +46,7 @@ pub extern "C" fn conlist_compute_semantic_connections(
         u,
         e,
         r,
+        m,
         rows,
         diagnostics,
     );
@@ -65,14 +67,15 @@ fn trace_for(
     u: &[u32],
     e: &[u32],
     r: &[u32],
+    m: &[u32],
     rows: &mut [u32],
     numbers: &mut [u32],
     count: usize,
     told: &mut [u64; 3],
 )
     ensures { λ _. ⌜ TracedTold
-        (tracedFor (tablesAt bytes n c f x p i t q u e r) (now (rows .entry)) (now (numbers .entry)) count)
-        (tablesAt bytes n c f x p i t q u e r)
+        (tracedFor (tablesAt bytes n c f x p i t q u e r m) (now (rows .entry)) (now (numbers .entry)) count)
+        (tablesAt bytes n c f x p i t q u e r m)
         (now (rows .entry)) (now (numbers .entry)) (now (told .exit)) (now (rows .exit)) (now (numbers .exit)) ⌝ }
 {
     let end = diagnostic::numbers_for(numbers.len(), count);
@@ -90,6 +93,7 @@ fn trace_for(
         u,
         e,
         r,
+        m,
         rows,
         &mut numbers[..end],
         told,
@@ -112,13 +116,14 @@ pub extern "C" fn conlist_compute_semantic_connections_with_records(
     u: &[u32],
     e: &[u32],
     r: &[u32],
+    m: &[u32],
     rows: &mut [u32],
     numbers: &mut [u32],
     out: &mut [Diagnostic],
     told: &mut [u64; 3],
 )
     ensures { λ _. ⌜ TracedRecords
-        (tablesAt bytes n c f x p i t q u e r)
+        (tablesAt bytes n c f x p i t q u e r m)
         (now (rows .entry)) (now (numbers .entry)) (now (out .entry)) (now (told .exit)) (now (rows .exit)) (now (numbers .exit)) (now (out .exit)) ⌝ }
 {
     let count = out.len();
@@ -135,6 +140,7 @@ pub extern "C" fn conlist_compute_semantic_connections_with_records(
         u,
         e,
         r,
+        m,
         rows,
         numbers,
         count,

@@ -92,15 +92,30 @@ fn expand(
     u: &[u32],
     e: &[u32],
     r: &[u32],
+    m: &[u32],
     out: &mut [u32],
     from: u32,
     type_name: u32,
     inverse: bool,
 ) -> Expanded
-    ensures { λ z. ⌜ z ≡ expanded (answerFor (tablesAt bytes n c f x p i t q u e r) (now (out .entry)) from «type_name» inverse) ⌝ }
-    ensures { λ _. ⌜ AnswerIn expansionNumbers (answerFor (tablesAt bytes n c f x p i t q u e r) (now (out .entry)) from «type_name» inverse) (now (out .entry)) (now (out .exit)) ⌝ }
+    ensures { λ z. ⌜ z ≡ expanded (answerFor (tablesAt bytes n c f x p i t q u e r m) (now (out .entry)) from «type_name» inverse) ⌝ }
+    ensures { λ _. ⌜ AnswerIn expansionNumbers (answerFor (tablesAt bytes n c f x p i t q u e r m) (now (out .entry)) from «type_name» inverse) (now (out .entry)) (now (out .exit)) ⌝ }
 {
-    if let Checked::Refused(reason) = tables::check_tables(bytes, n, c, f, x, p, i, t, q, u, e, r) {
+    if let Checked::Refused(reason) = tables::check_tables(
+        bytes,
+        n,
+        c,
+        f,
+        x,
+        p,
+        i,
+        t,
+        q,
+        u,
+        e,
+        r,
+        m,
+    ) {
         return Expanded::Refused(reason);
     }
     let mut nested = [0u32; 4096];
@@ -152,13 +167,14 @@ pub fn expand_feature_group(
     u: &[u32],
     e: &[u32],
     r: &[u32],
+    m: &[u32],
     out: &mut [u32],
     from: u32,
     type_name: u32,
     inverse: bool,
 ) -> Expanded
     ensures { λ z. ⌜ ExpandedInto
-        (tablesAt bytes n c f x p i t q u e r)
+        (tablesAt bytes n c f x p i t q u e r m)
         (now (out .entry)) from «type_name» inverse z (now (out .exit)) ⌝ }
 {
     lent::clear_numbers(out);
@@ -175,6 +191,7 @@ pub fn expand_feature_group(
         u,
         e,
         r,
+        m,
         out,
         from,
         type_name,

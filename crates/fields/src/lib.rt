@@ -87,6 +87,13 @@ fn decimal(f: &[u8], from: usize) -> Field
     Field::Bad
 }
 
+// A number that stands by itself, without columns: an argument of a program.
+pub fn number_in(s: &[u8]) -> Field
+    ensures { λ r. ⌜ shown r ≡ fieldBy false (isNumber (now (s .entry))) (now (s .entry)) ⌝ }
+{
+    decimal(s, 0)
+}
+
 // A lone `-`: whether it is all that stands from `from` on.
 fn is_dash(f: &[u8], from: usize) -> bool
     requires { ⌜ from ≤ length (now f) ⌝ }

@@ -50,6 +50,7 @@ fn match_in(
     u: &[u32],
     e: &[u32],
     r: &[u32],
+    m: &[u32],
     nested: &mut [u32],
     extends: &mut [u32],
     inverse: &mut [u32],
@@ -60,10 +61,10 @@ fn match_in(
     notes: &mut [u32],
 ) -> Matched
     requires { ⌜ MatchRoom
-        (tablesLent bytes n c f x p i t q u e r)
+        (tablesLent bytes n c f x p i t q u e r m)
         (now nested) (now extends) (now inverse) (now kept) (now memo) (now calm) ⌝ }
     ensures { λ z. ⌜ MatchedInto
-        (tablesAt bytes n c f x p i t q u e r)
+        (tablesAt bytes n c f x p i t q u e r m)
         (now (rows .entry)) (now (notes .entry)) z (now (rows .exit)) (now (notes .exit)) ⌝ }
 {
     links::link_groups(bytes, n, p, i, t, q, u, e, r, nested, extends, inverse);
@@ -82,6 +83,7 @@ fn match_in(
         u,
         e,
         r,
+        m,
         nested,
         extends,
         inverse,
@@ -107,13 +109,14 @@ fn match_small(
     u: &[u32],
     e: &[u32],
     r: &[u32],
+    m: &[u32],
     rows: &mut [u32],
     notes: &mut [u32],
 ) -> Matched
-    requires { ⌜ T (accepted (tablesLent bytes n c f x p i t q u e r)) ⌝ }
+    requires { ⌜ T (accepted (tablesLent bytes n c f x p i t q u e r m)) ⌝ }
     requires { ⌜ (length (now n) / width letterN ≤ 256) × (length (now u) / width letterU ≤ 96) × (length (now e) / width letterE ≤ 96) ⌝ }
     ensures { λ z. ⌜ MatchedInto
-        (tablesAt bytes n c f x p i t q u e r)
+        (tablesAt bytes n c f x p i t q u e r m)
         (now (rows .entry)) (now (notes .entry)) z (now (rows .exit)) (now (notes .exit)) ⌝ }
 {
     let mut nested = [0u32; SMALL_ROWS];
@@ -135,6 +138,7 @@ fn match_small(
         u,
         e,
         r,
+        m,
         &mut nested,
         &mut extends,
         &mut inverse,
@@ -160,12 +164,13 @@ fn match_large(
     u: &[u32],
     e: &[u32],
     r: &[u32],
+    m: &[u32],
     rows: &mut [u32],
     notes: &mut [u32],
 ) -> Matched
-    requires { ⌜ T (accepted (tablesLent bytes n c f x p i t q u e r)) ⌝ }
+    requires { ⌜ T (accepted (tablesLent bytes n c f x p i t q u e r m)) ⌝ }
     ensures { λ z. ⌜ MatchedInto
-        (tablesAt bytes n c f x p i t q u e r)
+        (tablesAt bytes n c f x p i t q u e r m)
         (now (rows .entry)) (now (notes .entry)) z (now (rows .exit)) (now (notes .exit)) ⌝ }
 {
     let mut nested = [0u32; TABLE_ROWS];
@@ -187,6 +192,7 @@ fn match_large(
         u,
         e,
         r,
+        m,
         &mut nested,
         &mut extends,
         &mut inverse,
@@ -212,21 +218,22 @@ fn match_all(
     u: &[u32],
     e: &[u32],
     r: &[u32],
+    m: &[u32],
     rows: &mut [u32],
     notes: &mut [u32],
 ) -> Matched
-    requires { ⌜ T (accepted (tablesLent bytes n c f x p i t q u e r)) ⌝ }
+    requires { ⌜ T (accepted (tablesLent bytes n c f x p i t q u e r m)) ⌝ }
     ensures { λ z. ⌜ MatchedInto
-        (tablesAt bytes n c f x p i t q u e r)
+        (tablesAt bytes n c f x p i t q u e r m)
         (now (rows .entry)) (now (notes .entry)) z (now (rows .exit)) (now (notes .exit)) ⌝ }
 {
     if n.len() / N_NUMBERS <= SMALL_NAMES
         && u.len() / U_NUMBERS <= SMALL_ROWS
         && e.len() / E_NUMBERS <= SMALL_ROWS
     {
-        return match_small(bytes, n, c, f, x, p, i, t, q, u, e, r, rows, notes);
+        return match_small(bytes, n, c, f, x, p, i, t, q, u, e, r, m, rows, notes);
     }
-    match_large(bytes, n, c, f, x, p, i, t, q, u, e, r, rows, notes)
+    match_large(bytes, n, c, f, x, p, i, t, q, u, e, r, m, rows, notes)
 }
 
 // Lists the group connections of accepted tables: first the matches, in the places of their rows; where there is room for all, their names. On a
@@ -244,21 +251,22 @@ pub fn list_accepted(
     u: &[u32],
     e: &[u32],
     r: &[u32],
+    m: &[u32],
     rows: &mut [u32],
     names: &mut [u8],
     diagnostics: &mut [u32],
 ) -> GroupListed
-    requires { ⌜ ListReady (tablesLent bytes n c f x p i t q u e r) ⌝ }
-    ensures { λ z. ⌜ z ≡ listed (answerOf (tablesAt bytes n c f x p i t q u e r) (now (rows .entry)) (now (names .entry)) (now (diagnostics .entry))) ⌝ }
-    ensures { λ _. ⌜ AnswerIn groupRowNumbers (answerOf (tablesAt bytes n c f x p i t q u e r) (now (rows .entry)) (now (names .entry)) (now (diagnostics .entry)))
+    requires { ⌜ ListReady (tablesLent bytes n c f x p i t q u e r m) ⌝ }
+    ensures { λ z. ⌜ z ≡ listed (answerOf (tablesAt bytes n c f x p i t q u e r m) (now (rows .entry)) (now (names .entry)) (now (diagnostics .entry))) ⌝ }
+    ensures { λ _. ⌜ AnswerIn groupRowNumbers (answerOf (tablesAt bytes n c f x p i t q u e r m) (now (rows .entry)) (now (names .entry)) (now (diagnostics .entry)))
         (now (rows .entry)) (now (rows .exit)) ⌝ }
-    ensures { λ _. ⌜ AnswerIn composedNames (answerOf (tablesAt bytes n c f x p i t q u e r) (now (rows .entry)) (now (names .entry)) (now (diagnostics .entry)))
+    ensures { λ _. ⌜ AnswerIn composedNames (answerOf (tablesAt bytes n c f x p i t q u e r m) (now (rows .entry)) (now (names .entry)) (now (diagnostics .entry)))
         (now (names .entry)) (now (names .exit)) ⌝ }
-    ensures { λ _. ⌜ AnswerIn groupDiagNumbers (answerOf (tablesAt bytes n c f x p i t q u e r) (now (rows .entry)) (now (names .entry)) (now (diagnostics .entry)))
+    ensures { λ _. ⌜ AnswerIn groupDiagNumbers (answerOf (tablesAt bytes n c f x p i t q u e r m) (now (rows .entry)) (now (names .entry)) (now (diagnostics .entry)))
         (now (diagnostics .entry)) (now (diagnostics .exit)) ⌝ }
     ensures { λ z. ⌜ NamesStay z (now (names .entry)) (now (names .exit)) ⌝ }
 {
-    let matched = match_all(bytes, n, c, f, x, p, i, t, q, u, e, r, rows, diagnostics);
+    let matched = match_all(bytes, n, c, f, x, p, i, t, q, u, e, r, m, rows, diagnostics);
     match matched {
         Matched::Over => GroupListed::Refused(as5506::unplaced(13)),
         Matched::Done(tally) => {
@@ -294,16 +302,31 @@ pub fn expand_feature_group_connections(
     u: &[u32],
     e: &[u32],
     r: &[u32],
+    m: &[u32],
     rows: &mut [u32],
     names: &mut [u8],
     diagnostics: &mut [u32],
 ) -> GroupListed
     ensures { λ z. ⌜ GroupListedInto
-        (tablesAt bytes n c f x p i t q u e r)
+        (tablesAt bytes n c f x p i t q u e r m)
         (now (rows .entry)) (now (names .entry)) (now (diagnostics .entry)) z (now (rows .exit)) (now (names .exit)) (now (diagnostics .exit)) ⌝ }
 {
     clear(rows, names, diagnostics);
-    if let Checked::Refused(reason) = tables::check_tables(bytes, n, c, f, x, p, i, t, q, u, e, r) {
+    if let Checked::Refused(reason) = tables::check_tables(
+        bytes,
+        n,
+        c,
+        f,
+        x,
+        p,
+        i,
+        t,
+        q,
+        u,
+        e,
+        r,
+        m,
+    ) {
         return GroupListed::Refused(reason);
     }
     let answer = list_accepted(
@@ -319,6 +342,7 @@ pub fn expand_feature_group_connections(
         u,
         e,
         r,
+        m,
         rows,
         names,
         diagnostics,

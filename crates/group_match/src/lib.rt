@@ -276,6 +276,7 @@ fn match_connection(
     u: &[u32],
     e: &[u32],
     r: &[u32],
+    m: &[u32],
     nested: &[u32],
     extends: &[u32],
     inverses: &[u32],
@@ -288,11 +289,11 @@ fn match_connection(
     tally: Tally,
 ) -> Matched
     requires { ⌜ ConnectionReady
-        (tablesLent bytes n c f x p i t q u e r)
+        (tablesLent bytes n c f x p i t q u e r m)
         (now nested) (now extends) (now inverses) (now memo) (now kept) (now rows) (now notes) row tally ⌝ }
     ensures { λ z.
-        ⌜ (let m : Tables = tablesAt bytes n c f x p i t q u e r in
-        listsOf z (now (rows .exit)) (now (notes .exit)) ≡ afterAll m (connectionsAt m row) (lists (filled (now (rows .entry)) (tally .used)) (filled (now (notes .entry)) (tally .noted)))) ⌝ }
+        ⌜ (let whole : Tables = tablesAt bytes n c f x p i t q u e r m in
+        listsOf z (now (rows .exit)) (now (notes .exit)) ≡ afterAll whole (connectionsAt whole row) (lists (filled (now (rows .entry)) (tally .used)) (filled (now (notes .entry)) (tally .noted)))) ⌝ }
 {
     if !endpoint::is_group_connection(x, row) {
         return Matched::Done(tally);
@@ -371,6 +372,7 @@ pub fn match_connections(
     u: &[u32],
     e: &[u32],
     r: &[u32],
+    m: &[u32],
     nested: &[u32],
     extends: &[u32],
     inverses: &[u32],
@@ -381,10 +383,10 @@ pub fn match_connections(
     notes: &mut [u32],
 ) -> Matched
     requires { ⌜ MatchReady
-        (tablesLent bytes n c f x p i t q u e r)
+        (tablesLent bytes n c f x p i t q u e r m)
         (now nested) (now extends) (now inverses) (now memo) (now kept) ⌝ }
     ensures { λ z. ⌜ MatchedInto
-        (tablesAt bytes n c f x p i t q u e r)
+        (tablesAt bytes n c f x p i t q u e r m)
         (now (rows .entry)) (now (notes .entry)) z (now (rows .exit)) (now (notes .exit)) ⌝ }
 {
     let count = x.len() / X_NUMBERS;
@@ -404,6 +406,7 @@ pub fn match_connections(
             u,
             e,
             r,
+            m,
             nested,
             extends,
             inverses,

@@ -28,14 +28,29 @@ fn list(
     u: &[u32],
     e: &[u32],
     r: &[u32],
+    m: &[u32],
     rows: &mut [u32],
     diagnostics: &mut [u32],
 ) -> Listed
-    ensures { λ z. ⌜ z ≡ listed (answerFor (tablesAt bytes n c f x p i t q u e r) (now (rows .entry)) (now (diagnostics .entry))) ⌝ }
-    ensures { λ _. ⌜ AnswerIn (tracedRowNumbers (tablesAt bytes n c f x p i t q u e r)) (answerFor (tablesAt bytes n c f x p i t q u e r) (now (rows .entry)) (now (diagnostics .entry))) (now (rows .entry)) (now (rows .exit)) ⌝ }
-    ensures { λ _. ⌜ AnswerIn tracedDiagNumbers (answerFor (tablesAt bytes n c f x p i t q u e r) (now (rows .entry)) (now (diagnostics .entry))) (now (diagnostics .entry)) (now (diagnostics .exit)) ⌝ }
+    ensures { λ z. ⌜ z ≡ listed (answerFor (tablesAt bytes n c f x p i t q u e r m) (now (rows .entry)) (now (diagnostics .entry))) ⌝ }
+    ensures { λ _. ⌜ AnswerIn (tracedRowNumbers (tablesAt bytes n c f x p i t q u e r m)) (answerFor (tablesAt bytes n c f x p i t q u e r m) (now (rows .entry)) (now (diagnostics .entry))) (now (rows .entry)) (now (rows .exit)) ⌝ }
+    ensures { λ _. ⌜ AnswerIn tracedDiagNumbers (answerFor (tablesAt bytes n c f x p i t q u e r m) (now (rows .entry)) (now (diagnostics .entry))) (now (diagnostics .entry)) (now (diagnostics .exit)) ⌝ }
 {
-    if let Checked::Refused(reason) = tables::check_tables(bytes, n, c, f, x, p, i, t, q, u, e, r) {
+    if let Checked::Refused(reason) = tables::check_tables(
+        bytes,
+        n,
+        c,
+        f,
+        x,
+        p,
+        i,
+        t,
+        q,
+        u,
+        e,
+        r,
+        m,
+    ) {
         return Listed::Refused(reason);
     }
     let Wrote::Count(k) = semantic::trace_connections(bytes, n, c, x, rows) else {
@@ -61,16 +76,17 @@ pub fn compute_semantic_connections(
     u: &[u32],
     e: &[u32],
     r: &[u32],
+    m: &[u32],
     rows: &mut [u32],
     diagnostics: &mut [u32],
 ) -> Listed
     ensures { λ z. ⌜ TracedInto
-        (tablesAt bytes n c f x p i t q u e r)
+        (tablesAt bytes n c f x p i t q u e r m)
         (now (rows .entry)) (now (diagnostics .entry)) z (now (rows .exit)) (now (diagnostics .exit)) ⌝ }
 {
     lent::clear_numbers(rows);
     lent::clear_numbers(diagnostics);
-    let answer = list(bytes, n, c, f, x, p, i, t, q, u, e, r, rows, diagnostics);
+    let answer = list(bytes, n, c, f, x, p, i, t, q, u, e, r, m, rows, diagnostics);
     match answer {
         Listed::Rows(_, _) => answer,
         Listed::Refused(_) => {

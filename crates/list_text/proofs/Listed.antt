@@ -9,7 +9,7 @@ use Rattle.as5506.specs.Answers.{Answer, given, refused, told}
 use Rattle.as5506.specs.Tracing.{shown}
 use Rattle.as5506.specs.Listing.{Room, BothLists, bothAnswer}
 use Rattle.as5506.specs.Layout.{tracedRowNumbers, tracedDiagNumbers, groupRowNumbers, groupDiagNumbers, composedNames, ofTraced, ofGroup, output, rowsBack, groupRowsBack, diagsBack}
-use Rattle.as5506.specs.Text.{textWithin, printed}
+use Rattle.as5506.specs.Text.{listText, textWithin}
 use Rattle.as5506.specs.Program.{room, namesLent, textOrRefusal, printedOrRefusal, conlistText}
 use Rattle.as5506.specs.declared.Refusal.{Refusal as Told}
 use Rattle.as5506.proofs.Laws.{not-both}
@@ -29,8 +29,8 @@ module _ (room room′ : Room) (m : Tables) (k d l g : ℕ) where
       (listOf (wiringOf m) (rowsBack (wiringOf m) k (output n₁ (ofTraced (tracedRowNumbers m)) a))
       (groupRowsBack l (output n₃ (ofGroup groupRowNumbers) a) (output n₄ (ofGroup composedNames) a))
       (diagsBack d (output n₂ (ofTraced tracedDiagNumbers) a)) (diagsBack g (output n₅ (ofGroup groupDiagNumbers) a))))
-      ≡ printedOrRefusal n m a
-  unfolding printedOrRefusal printed
+      ≡ printedOrRefusal n (listText m) a
+  unfolding printedOrRefusal
   list-given n n₁ n₂ n₃ n₄ n₅ (given b) h e = ap (λ (t : List ℕ). textOrRefusal (textWithin n t)) (back ∙ sym (list-same m _ _ _ _) ∙ sym (list-printed m b))
     where
       traced-is : rowsBack (wiringOf m) k (padded n₁ (tracedRowNumbers m (b .traced))) ≡ map (shown m) (b .traced .rows)
@@ -57,7 +57,7 @@ module _ (room room′ : Room) (m : Tables) (k d l g : ℕ) where
   list-given n n₁ n₂ n₃ n₄ n₅ (refused r) h e = absurd (not-both isRows (Rows k d l g) (Refused (told r)) e tt refl)
 
 -- a refusal of the listings is printed as it is handed over
-listing-refused : (n : ℕ) (m : Tables) (t : Told) (a : Answer BothLists) → Refused t ≡ listed a → refusalOf t ≡ printedOrRefusal n m a
+listing-refused : (n : ℕ) (m : Tables) (t : Told) (a : Answer BothLists) → Refused t ≡ listed a → refusalOf t ≡ printedOrRefusal n (listText m) a
 unfolding printedOrRefusal
 listing-refused n m t (given b) e = absurd (not-both isRows _ (Refused t) (sym e) tt refl)
 listing-refused n m t (refused r) e = ap (λ (z : Both). refusalOf (reasonOr t z)) e ∙ sym (refusal-printed r)
@@ -80,4 +80,4 @@ module _ (m : Tables) (z : Both) (p : Outputs) (h : BothInto m noOutputs z p) wh
       (diagsBack d (h .written-diagnostics i)) (diagsBack g (h .written-group-diagnostics i)))))
       ∙ list-given (tracedRoom noOutputs) (groupRoom noOutputs) m k d l g n (length (noOutputs .rows)) (length (noOutputs .diags)) (length (noOutputs .group-rows)) (length (noOutputs .names))
       (length (noOutputs .group-diags)) (answerFor m noOutputs) (fit m noOutputs) (sym e ∙ h .answer)
-      ∙ ap (printedOrRefusal n m) (answer-lent m)
+      ∙ ap (printedOrRefusal n (listText m)) (answer-lent m)

@@ -77,10 +77,11 @@ pub fn list_tables(
     u: &[u32],
     e: &[u32],
     r: &[u32],
+    m: &[u32],
     text: &mut [u8],
 ) -> usize
     ensures { λ z. ⌜ Shown
-        (conlistText (length (now (text .entry))) (tablesAt bytes n c f x p i t q u e r))
+        (conlistText (length (now (text .entry))) (tablesAt bytes n c f x p i t q u e r m))
         (now (text .entry)) z (now (text .exit)) ⌝ }
 {
     let mut rows = [0u32; LISTED_LENT * ROW_NUMBERS];
@@ -101,6 +102,7 @@ pub fn list_tables(
         u,
         e,
         r,
+        m,
         &mut rows,
         &mut diagnostics,
         &mut group_rows,

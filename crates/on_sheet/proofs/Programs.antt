@@ -1,4 +1,4 @@
--- What a program writes: it is decided by what it reads of its input, though that is 16,385 bytes at most; and conlist is the program of its task.
+-- What a program writes: it is decided by what it reads of its input, though that is 16,385 bytes at most; and each program is that of its task.
 -- Assumes nothing.
 use mathlib.Core.Path.{_≡_, refl, sym, ap, _∙_}
 use mathlib.Core.List.{List}
@@ -12,11 +12,11 @@ use Rattle.as5506.specs.Lists.{padded}
 use Rattle.as5506.specs.Tables.{Tables}
 use Rattle.as5506.specs.Answers.{refusal, nowhere, Answer, refused}
 use Rattle.as5506.specs.Sheet.{Lent, sheetFaults, readSheet}
-use Rattle.as5506.specs.Program.{lent, textLent, ofReading, whatFits, conlistWithin, conlist}
+use Rattle.as5506.specs.Program.{lent, textLent, ofReading, whatFits, conlistWithin, conlist, modes, mode}
 use Rattle.shown.specs.Shown.{Shown}
 use Rattle.shown.proofs.Fits.{shown-within}
 use Rattle.on_sheet.specs.declared.Task.{Task}
-use Rattle.on_sheet.specs.declared.Task.the-variants.{Conlist}
+use Rattle.on_sheet.specs.declared.Task.the-variants.{Conlist, Modes, Mode}
 use Rattle.on_sheet.specs.Tasks.{taskText, onSheet, program, Writes}
 
 -- ---- one byte more than a sheet may have
@@ -51,6 +51,16 @@ pub conlist-is : (s : List ℕ) → program Conlist textLent s ≡ conlist s
 unfolding program conlist
 conlist-is s = list-is textLent s
 
+-- ---- modes and mode
+
+modes-is : (s : List ℕ) → program Modes textLent s ≡ modes s
+unfolding program onSheet modes
+modes-is s = refl
+
+mode-is : (k : ℕ) (s : List ℕ) → program (Mode k) textLent s ≡ mode k s
+unfolding program onSheet mode
+mode-is k s = refl
+
 -- ---- what is written
 
 -- the text of a sheet in an output of n bytes: the sheet is the first `got` of an array of 16,385 bytes
@@ -67,10 +77,20 @@ writes task n read got sheet text z text′ r w e k h =
     whole : (s : List ℕ) → take (length read) s ≡ take got read → whatFits (length text) (onSheet task (length text) sheet) ≡ whatFits n (onSheet task n s)
     whole s q = (λ i. whatFits (e i) (onSheet task (e i) (w i))) ∙ ap (program task n) (sym q ∙ ap (λ (k : ℕ). take k s) r) ∙ enough task n s
 
-pub conlist-writes : (read : List ℕ) (got z : ℕ) (text′ : List ℕ) → Writes (program Conlist textLent) read got z text′ → Writes conlist read got z text′
-conlist-writes read got z text′ w =
+-- the same by another name
+writes-as : (f g : List ℕ → List ℕ) → ((s : List ℕ) → f s ≡ g s) → (read : List ℕ) (got z : ℕ) (text′ : List ℕ) → Writes f read got z text′ → Writes g read got z text′
+writes-as f g e read got z text′ w =
     record {
       within = w .within;
-      used = λ s q. w .used s q ∙ ap length (conlist-is s);
-      output = λ s q. w .output s q ∙ ap (padded (length text′)) (conlist-is s);
+      used = λ s q. w .used s q ∙ ap length (e s);
+      output = λ s q. w .output s q ∙ ap (padded (length text′)) (e s);
     }
+
+pub conlist-writes : (read : List ℕ) (got z : ℕ) (text′ : List ℕ) → Writes (program Conlist textLent) read got z text′ → Writes conlist read got z text′
+conlist-writes = writes-as (program Conlist textLent) conlist conlist-is
+
+pub modes-writes : (read : List ℕ) (got z : ℕ) (text′ : List ℕ) → Writes (program Modes textLent) read got z text′ → Writes modes read got z text′
+modes-writes = writes-as (program Modes textLent) modes modes-is
+
+pub mode-writes : (k : ℕ) (read : List ℕ) (got z : ℕ) (text′ : List ℕ) → Writes (program (Mode k) textLent) read got z text′ → Writes (mode k) read got z text′
+mode-writes k = writes-as (program (Mode k) textLent) (mode k) (mode-is k)

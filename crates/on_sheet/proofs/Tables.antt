@@ -7,7 +7,7 @@ use native.Mathlib.Nat.{le-trans}
 use native.Mathlib.Omega.{arith}
 use lib.ListN.{length, take, length-replicate}
 use Rattle.as5506.specs.Lists.{zeros}
-use Rattle.as5506.specs.Tables.{Tables, tablesOf, Letter, letterN, letterC, letterF, letterX, letterP, letterI, letterT, letterQ, letterU, letterE, letterR, table, width, count}
+use Rattle.as5506.specs.Tables.{Tables, tablesOf, Letter, letterN, letterC, letterF, letterX, letterP, letterI, letterT, letterQ, letterU, letterE, letterR, letterM, table, width, count}
 use Rattle.as5506.specs.Answers.{Answer, given, refused}
 use Rattle.as5506.specs.Sheet.{Lent, lentOf, tablesRead, readSheet}
 use Rattle.as5506.specs.Program.{lent, ofReading}
@@ -23,14 +23,13 @@ use Rattle.sheet.proofs.Model.{Model, handed}
 use Rattle.text.specs.Printing.{refusalOf}
 use Rattle.text.proofs.Printed.{refusal-printed}
 use Rattle.on_sheet.specs.declared.Task.{Task}
-use Rattle.on_sheet.specs.declared.Task.the-variants.{Conlist}
 use Rattle.on_sheet.specs.Tasks.{taskText, onSheet}
 
 -- ---- tables, letter by letter
 
 abbrev pub tablesBy : List ℕ → (Letter → List ℕ) → Tables
 tablesBy bytes t =
-    tablesOf bytes (t letterN) (t letterC) (t letterF) (t letterX) (t letterP) (t letterI) (t letterT) (t letterQ) (t letterU) (t letterE) (t letterR)
+    tablesOf bytes (t letterN) (t letterC) (t letterF) (t letterX) (t letterP) (t letterI) (t letterT) (t letterQ) (t letterU) (t letterE) (t letterR) (t letterM)
 
 table-by : (bytes : List ℕ) (t : Letter → List ℕ) (l : Letter) → table (tablesBy bytes t) l ≡ t l
 table-by bytes t letterN = refl
@@ -44,6 +43,7 @@ table-by bytes t letterQ = refl
 table-by bytes t letterU = refl
 table-by bytes t letterE = refl
 table-by bytes t letterR = refl
+table-by bytes t letterM = refl
 
 -- the rows of each letter
 abbrev pub counted : Counts → Letter → ℕ
@@ -58,6 +58,7 @@ counted k letterQ = k .q
 counted k letterU = k .u
 counted k letterE = k .e
 counted k letterR = k .r
+counted k letterM = k .m
 
 counts-are : (m : Tables) (l : Letter) → counted (countsOf m) l ≡ count m l
 counts-are m letterN = refl
@@ -71,6 +72,7 @@ counts-are m letterQ = refl
 counts-are m letterU = refl
 counts-are m letterE = refl
 counts-are m letterR = refl
+counts-are m letterM = refl
 
 -- ---- what is lent, as it is before the call
 
@@ -96,6 +98,7 @@ lent-small letterQ = omega arith
 lent-small letterU = omega arith
 lent-small letterE = omega arith
 lent-small letterR = omega arith
+lent-small letterM = omega arith
 
 -- ---- what is handed on: of each slice as much as was read
 
@@ -160,7 +163,3 @@ text-refused s z after h task n t e =
 
 pub same-task : (task known : Task) (n : ℕ) (m : Tables) → task ≡ known → taskText known n m ≡ taskText task n m
 same-task task known n m e = ap (λ (k : Task). taskText k n m) (sym e)
-
--- as long as there is one only
-pub one-task : (task : Task) → task ≡ Conlist
-one-task Conlist = refl

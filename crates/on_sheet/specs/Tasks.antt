@@ -6,13 +6,15 @@ use lib.ListN.{length, take}
 use Rattle.as5506.specs.Lists.{padded}
 use Rattle.as5506.specs.Tables.{Tables}
 use Rattle.as5506.specs.Sheet.{readSheet}
-use Rattle.as5506.specs.Program.{lent, conlistText, ofReading, whatFits}
+use Rattle.as5506.specs.Program.{lent, conlistText, modesText, modeText, ofReading, whatFits}
 use Rattle.on_sheet.specs.declared.Task.{Task}
-use Rattle.on_sheet.specs.declared.Task.the-variants.{Conlist}
+use Rattle.on_sheet.specs.declared.Task.the-variants.{Conlist, Modes, Mode}
 
 -- WHAT A TASK GIVES for the tables m, accepted or not, and an output of n bytes: its text, or a refusal's line
 abbrev pub taskText : Task → ℕ → Tables → List ℕ
 taskText Conlist n m = conlistText n m
+taskText Modes n m = modesText n m
+taskText (Mode k) n m = modeText k n m
 
 -- what a task gives for the sheet s and an output of n bytes
 unfoldable pub onSheet : Task → ℕ → List ℕ → List ℕ

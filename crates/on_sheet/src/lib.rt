@@ -3,6 +3,7 @@ use as5506::C_NUMBERS;
 use as5506::E_NUMBERS;
 use as5506::F_NUMBERS;
 use as5506::I_NUMBERS;
+use as5506::M_NUMBERS;
 use as5506::N_NUMBERS;
 use as5506::N_ROWS_LENT;
 use as5506::P_NUMBERS;
@@ -23,6 +24,10 @@ ghost use Rattle.on_sheet.specs.Tasks.{taskText, onSheet};
 pub enum Task {
     // The list of its connections (conlist).
     Conlist,
+    // How many selections of modes there are (modes).
+    Modes,
+    // The selection of modes at a number (mode).
+    Mode(u64),
 }
 
 // Does a task with tables: how many bytes of text there are. Behind them the output is zero.
@@ -40,14 +45,33 @@ fn do_task(
     u: &[u32],
     e: &[u32],
     r: &[u32],
+    m: &[u32],
     text: &mut [u8],
 ) -> usize
     ensures { λ z. ⌜ Shown
-        (taskText task (length (now (text .entry))) (tablesAt bytes n c f x p i t q u e r))
+        (taskText task (length (now (text .entry))) (tablesAt bytes n c f x p i t q u e r m))
         (now (text .entry)) z (now (text .exit)) ⌝ }
 {
     match task {
-        Task::Conlist => list_text::list_tables(bytes, n, c, f, x, p, i, t, q, u, e, r, text),
+        Task::Conlist => list_text::list_tables(bytes, n, c, f, x, p, i, t, q, u, e, r, m, text),
+        Task::Modes => modes_text::count_tables(bytes, n, c, f, x, p, i, t, q, u, e, r, m, text),
+        Task::Mode(number) => modes_text::select_tables(
+            bytes,
+            n,
+            c,
+            f,
+            x,
+            p,
+            i,
+            t,
+            q,
+            u,
+            e,
+            r,
+            m,
+            number,
+            text,
+        ),
     }
 }
 
@@ -68,6 +92,7 @@ pub fn on_sheet(task: Task, sheet: &[u8], text: &mut [u8]) -> usize
     let mut u = [0u32; ROWS_LENT * U_NUMBERS];
     let mut e = [0u32; ROWS_LENT * E_NUMBERS];
     let mut r = [0u32; ROWS_LENT * R_NUMBERS];
+    let mut m = [0u32; ROWS_LENT * M_NUMBERS];
     match sheet::read_sheet(
         sheet,
         &mut bytes,
@@ -82,6 +107,7 @@ pub fn on_sheet(task: Task, sheet: &[u8], text: &mut [u8]) -> usize
         &mut u,
         &mut e,
         &mut r,
+        &mut m,
     ) {
         SheetRead::Refused(reason) => shown::tell(reason, text),
         SheetRead::Read(k) => do_task(
@@ -98,6 +124,7 @@ pub fn on_sheet(task: Task, sheet: &[u8], text: &mut [u8]) -> usize
             &u[..k.u * U_NUMBERS],
             &e[..k.e * E_NUMBERS],
             &r[..k.r * R_NUMBERS],
+            &m[..k.m * M_NUMBERS],
             text,
         ),
     }

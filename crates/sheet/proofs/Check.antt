@@ -17,7 +17,7 @@ use Rattle.as5506.specs.Fields.{space, fieldsFit}
 use Rattle.as5506.specs.Lists.{when, allOf}
 use Rattle.as5506.specs.Names.{nameByte, goodName}
 use Rattle.as5506.specs.Sheet.{Line, ended, unended, textOf, letterOf, linesOf, linesWith, lineName, keepsRules, Lent, nameBytes, hasPlace, earlierThan, isEarlier, knownFaults, lineFaults, faultsFrom, sheetFaults, tablesRead, readSheet}
-use Rattle.as5506.specs.Tables.{Letter, letterN, letterC, letterF, letterX, letterP, letterI, letterT, letterQ, letterU, letterE, letterR, width, count}
+use Rattle.as5506.specs.Tables.{Letter, letterN, letterC, letterF, letterX, letterP, letterI, letterT, letterQ, letterU, letterE, letterR, letterM, width, count}
 use Rattle.sheet.proofs.Letters.{rank-below, same-letter, width-bytes, letter-byte, other-byte}
 use Rattle.sheet.proofs.Rows.{own-line, other-line, names-length, whole-rows, lines-turned, names-split, names-turned}
 use Rattle.sheet.specs.Read.{countsOf, sheetRead}
@@ -243,9 +243,9 @@ module _ (seen : Seen) (before : List (List ℕ)) (counted : Counted seen before
 
   pub counted-rows : (r : Counts) → r .bytes ≡ seen .bytes
       → r .n ≡ rowsOf letterN → r .c ≡ rowsOf letterC → r .f ≡ rowsOf letterF → r .x ≡ rowsOf letterX → r .p ≡ rowsOf letterP → r .i ≡ rowsOf letterI
-      → r .t ≡ rowsOf letterT → r .q ≡ rowsOf letterQ → r .u ≡ rowsOf letterU → r .e ≡ rowsOf letterE → r .r ≡ rowsOf letterR
+      → r .t ≡ rowsOf letterT → r .q ≡ rowsOf letterQ → r .u ≡ rowsOf letterU → r .e ≡ rowsOf letterE → r .r ≡ rowsOf letterR → r .m ≡ rowsOf letterM
       → r ≡ countsOf (tablesRead (reverse before))
-  counted-rows r eb en ec ef ex ep ei et eq eu ee er = λ j. record {
+  counted-rows r eb en ec ef ex ep ei et eq eu ee er em = λ j. record {
     bytes = (eb ∙ bytes-seen) j;
     n = (en ∙ rows-seen letterN) j;
     c = (ec ∙ rows-seen letterC) j;
@@ -258,6 +258,7 @@ module _ (seen : Seen) (before : List (List ℕ)) (counted : Counted seen before
     u = (eu ∙ rows-seen letterU) j;
     e = (ee ∙ rows-seen letterE) j;
     r = (er ∙ rows-seen letterR) j;
+    m = (em ∙ rows-seen letterM) j;
   }
 
 -- ---- the answer from a line on

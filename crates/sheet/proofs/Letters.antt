@@ -23,13 +23,13 @@ use Rattle.sheet.specs.Steps.{letterAt, rankOf, indexOf}
 -- ---- by rank
 
 pub letter-at : (l : Letter) → letterAt (rank l) ≡ l
-letter-at = each-letter (λ l. letterAt (rank l) ≡ l) refl refl refl refl refl refl refl refl refl refl refl
+letter-at = each-letter (λ l. letterAt (rank l) ≡ l) refl refl refl refl refl refl refl refl refl refl refl refl
 
 pub same-letter : (a b : Letter) → rank a ≡ rank b → a ≡ b
 same-letter a b e = sym (letter-at a) ∙ ap letterAt e ∙ letter-at b
 
 pub rank-below : (l : Letter) → rank l < letterCount
-rank-below = each-letter (λ l. rank l < letterCount) (omega arith) (omega arith) (omega arith) (omega arith) (omega arith) (omega arith) (omega arith) (omega arith) (omega arith) (omega arith) (omega arith)
+rank-below = each-letter (λ l. rank l < letterCount) (omega arith) (omega arith) (omega arith) (omega arith) (omega arith) (omega arith) (omega arith) (omega arith) (omega arith) (omega arith) (omega arith) (omega arith)
 
 mapped-at : (f : Letter → ℕ) (ls : List Letter) (k : ℕ) → k < length ls → getD (map f ls) k 0 ≡ f (getD ls k letterN)
 mapped-at f [] k h = absurd (not-suc-le-zero h)
@@ -50,7 +50,7 @@ abbrev pub counts : List ℕ
 counts = map (λ l. length (columns l)) order
 
 abbrev pub marks : List ℕ
-marks = 0 ∷ 0x100210 ∷ 0 ∷ 0x1111000 ∷ 0 ∷ 0 ∷ 0 ∷ 0 ∷ 0x111111000 ∷ 0x11110000 ∷ 0x10000 ∷ []
+marks = 0 ∷ 0x100210 ∷ 0 ∷ 0x1111000 ∷ 0 ∷ 0 ∷ 0 ∷ 0 ∷ 0x111111000 ∷ 0x11110000 ∷ 0x10000 ∷ 0 ∷ []
 
 marks-right : marks ≡ map (λ l. marksOf (columns l)) order
 unfolding marksOf
@@ -61,7 +61,7 @@ bytes = map (λ l. lineBytes (columns l)) order
 
 -- each field takes the columns that its mark says
 sized : (l : Letter) → T (allOf isSized (columns l))
-sized = each-letter (λ l. T (allOf isSized (columns l))) tt tt tt tt tt tt tt tt tt tt tt
+sized = each-letter (λ l. T (allOf isSized (columns l))) tt tt tt tt tt tt tt tt tt tt tt tt
 
 module _ (k : ℕ) (h : k < letterCount) where
   pub width-at : getD widths k 0 ≡ width (letterAt k)
@@ -104,16 +104,16 @@ pub rank-at : (k : ℕ) → k < letterCount → rank (letterAt k) ≡ k
 rank-at k h = sym (entry rank k h) ∙ span-at 0 letterCount k h ∙ omega arith
 
 pub width-small : (l : Letter) → width l < 10
-width-small = each-letter (λ l. width l < 10) (omega arith) (omega arith) (omega arith) (omega arith) (omega arith) (omega arith) (omega arith) (omega arith) (omega arith) (omega arith) (omega arith)
+width-small = each-letter (λ l. width l < 10) (omega arith) (omega arith) (omega arith) (omega arith) (omega arith) (omega arith) (omega arith) (omega arith) (omega arith) (omega arith) (omega arith) (omega arith)
 
 -- a line of a letter other than N has more bytes than its row has numbers
 pub width-bytes : (l : Letter) → (rank l ≡ 0 → ⊥) → width l ≤ lineBytes (columns l)
 width-bytes =
     each-letter (λ l. (rank l ≡ 0 → ⊥) → width l ≤ lineBytes (columns l))
-    (λ z. absurd (z refl)) (λ z. omega arith) (λ z. omega arith) (λ z. omega arith) (λ z. omega arith) (λ z. omega arith) (λ z. omega arith) (λ z. omega arith) (λ z. omega arith) (λ z. omega arith) (λ z. omega arith)
+    (λ z. absurd (z refl)) (λ z. omega arith) (λ z. omega arith) (λ z. omega arith) (λ z. omega arith) (λ z. omega arith) (λ z. omega arith) (λ z. omega arith) (λ z. omega arith) (λ z. omega arith) (λ z. omega arith) (λ z. omega arith)
 
 pub bytes-few : (l : Letter) → lineBytes (columns l) < 100
-bytes-few = each-letter (λ l. lineBytes (columns l) < 100) (omega arith) (omega arith) (omega arith) (omega arith) (omega arith) (omega arith) (omega arith) (omega arith) (omega arith) (omega arith) (omega arith)
+bytes-few = each-letter (λ l. lineBytes (columns l) < 100) (omega arith) (omega arith) (omega arith) (omega arith) (omega arith) (omega arith) (omega arith) (omega arith) (omega arith) (omega arith) (omega arith) (omega arith)
 
 -- of every letter but N the row has the numbers of its fields
 pub cell-count : (k : ℕ) → 0 < k → k < letterCount → width (letterAt k) ≡ rowCells (columns (letterAt k))
@@ -125,7 +125,7 @@ row-cells k p h = cells-at k h ∙ sym (width-at k h ∙ cell-count k p h)
 
 -- ---- a line's letter
 
--- the first of letters of ranks i, i + 1, .. to 10
+-- the first of letters of ranks i, i + 1, .. to 11
 first-by : (b : ℕ) (ls : List Letter) (i : ℕ) → map rank ls ≡ span i (length ls) → i + length ls ≡ letterCount
     → rankOf (firstOf (keep (λ l. eqb (letterByte l) b) ls)) ≡ i + indexOf b (map letterByte ls)
 unfolding indexOf
@@ -158,7 +158,7 @@ letter-byte [] l e = absurd (let z : _≡_ {A = ℕ} 0 1 = cc in omega arith)
 letter-byte (b ∷ s) l e = eq-eqb b (letterByte l) (sym (eqb-true (letterByte l) b (passes (λ l. eqb (letterByte l) b) order l e)))
 
 byte-some : (l : Letter) → 0 < letterByte l
-byte-some = each-letter (λ l. 0 < letterByte l) (omega arith) (omega arith) (omega arith) (omega arith) (omega arith) (omega arith) (omega arith) (omega arith) (omega arith) (omega arith) (omega arith)
+byte-some = each-letter (λ l. 0 < letterByte l) (omega arith) (omega arith) (omega arith) (omega arith) (omega arith) (omega arith) (omega arith) (omega arith) (omega arith) (omega arith) (omega arith) (omega arith)
 
 -- a letter stands within the sheet
 pub byte-within : (s : List ℕ) (i : ℕ) (l : Letter) → getD s i 0 ≡ letterByte l → i < length s
@@ -173,7 +173,7 @@ no-zero l e = let h : 0 ≡ letterByte l = eqb-true 0 (letterByte l) e in omega 
 
 known : (l : Letter) (s : List ℕ) → letterOf (letterByte l ∷ s) ≡ some l
 unfolding letterOf
-known l s = each-letter (λ l. letterOf (letterByte l ∷ s) ≡ some l) refl refl refl refl refl refl refl refl refl refl refl l
+known l s = each-letter (λ l. letterOf (letterByte l ∷ s) ≡ some l) refl refl refl refl refl refl refl refl refl refl refl refl l
 
 -- and a line that begins with it is of that letter
 pub byte-letter : (s : List ℕ) (l : Letter) → eqb (getD s 0 0) (letterByte l) ≡ true → letterOf s ≡ some l

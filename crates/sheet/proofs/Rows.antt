@@ -10,7 +10,7 @@ use lib.ListN.{length, getD, drop, length-append}
 use Rattle.as5506.specs.Columns.{letterByte, columns, rowCells}
 use Rattle.as5506.specs.Lists.{putIf, total, each}
 use Rattle.as5506.specs.Sheet.{linesWith, lineName, lineRow, nameBytes, placed, rowsRead, tablesRead}
-use Rattle.as5506.specs.Tables.{Letter, letterN, letterC, letterF, letterX, letterP, letterI, letterT, letterQ, letterU, letterE, letterR, table, width, count}
+use Rattle.as5506.specs.Tables.{Letter, letterN, letterC, letterF, letterX, letterP, letterI, letterT, letterQ, letterU, letterE, letterR, letterM, table, width, count}
 use Rattle.as5506.proofs.Fields.{numbers-length}
 use Rattle.as5506.proofs.Letters.{each-letter, width-some}
 
@@ -66,6 +66,7 @@ whole-rows ls =
     (rows-length letterU (linesWith letterU ls))
     (rows-length letterE (linesWith letterE ls))
     (rows-length letterR (linesWith letterR ls))
+    (rows-length letterM (linesWith letterM ls))
 
 -- THE ROWS OF A TABLE THAT IS READ ARE THE LINES OF ITS LETTER
 pub rows-counted : (ls : List (List ℕ)) (l : Letter) → count (tablesRead ls) l ≡ length (linesWith l ls)

@@ -140,8 +140,8 @@ module _ (lent : Lent) (s : List ℕ) (none : sheetFaults lent s ≡ []) where
 
 -- what is lent, as the code counts it
 pub lent-is : (m : Tables)
-    → lentBy (record { bytes = length (m .bytes); numbers = length (m .n) ∷ length (m .c) ∷ length (m .f) ∷ length (m .x) ∷ length (m .p) ∷ length (m .i) ∷ length (m .t) ∷ length (m .q) ∷ length (m .u) ∷ length (m .e) ∷ length (m .r) ∷ [] }) ≡ lentOf m
-lent-is m = λ i. record { bytes = length (m .bytes); numbers = λ l. each-letter (λ l. getD (length (m .n) ∷ length (m .c) ∷ length (m .f) ∷ length (m .x) ∷ length (m .p) ∷ length (m .i) ∷ length (m .t) ∷ length (m .q) ∷ length (m .u) ∷ length (m .e) ∷ length (m .r) ∷ []) (rank l) 0 ≡ length (table m l)) refl refl refl refl refl refl refl refl refl refl refl l i }
+    → lentBy (record { bytes = length (m .bytes); numbers = length (m .n) ∷ length (m .c) ∷ length (m .f) ∷ length (m .x) ∷ length (m .p) ∷ length (m .i) ∷ length (m .t) ∷ length (m .q) ∷ length (m .u) ∷ length (m .e) ∷ length (m .r) ∷ length (m .m) ∷ [] }) ≡ lentOf m
+lent-is m = λ i. record { bytes = length (m .bytes); numbers = λ l. each-letter (λ l. getD (length (m .n) ∷ length (m .c) ∷ length (m .f) ∷ length (m .x) ∷ length (m .p) ∷ length (m .i) ∷ length (m .t) ∷ length (m .q) ∷ length (m .u) ∷ length (m .e) ∷ length (m .r) ∷ length (m .m) ∷ []) (rank l) 0 ≡ length (table m l)) refl refl refl refl refl refl refl refl refl refl refl refl l i }
 
 -- a sheet that is read has no fault
 pub no-fault : (lent : Lent) (s : List ℕ) (counts : Counts) → Read counts ≡ sheetRead (readSheet lent s) → sheetFaults lent s ≡ []

@@ -8,7 +8,7 @@ use Rattle.as5506.specs.Answers.{Answer, given, refused, told}
 use Rattle.as5506.specs.Before.{readBefore, acceptedBefore, paddedSheet, widened, NoFewer, IndexKept}
 use Rattle.as5506.specs.Lists.{padded}
 use Rattle.as5506.specs.Sheet.{Lent, lentOf, readSheet, tableAfter, bytesAfter}
-use Rattle.as5506.specs.Tables.{Tables, Letter, letterN, letterC, letterF, letterX, letterP, letterI, letterT, letterQ, letterU, letterE, letterR, table, count}
+use Rattle.as5506.specs.Tables.{Tables, Letter, letterN, letterC, letterF, letterX, letterP, letterI, letterT, letterQ, letterU, letterE, letterR, letterM, table, count}
 use Rattle.sheet.specs.declared.Counts.{Counts}
 use Rattle.sheet.specs.declared.SheetRead.{SheetRead}
 use Rattle.sheet.specs.declared.SheetRead.the-variants.{Read, Refused}
@@ -29,6 +29,7 @@ countsOf m =
       u = count m letterU;
       e = count m letterE;
       r = count m letterR;
+      m = count m letterM;
     }
 
 -- the definition's answer as the code hands it over

@@ -35,6 +35,7 @@ pub struct Counts {
     pub u: usize,
     pub e: usize,
     pub r: usize,
+    pub m: usize,
 }
 
 // What a call gives: what was read, or the refusal of the first bad line.
@@ -44,7 +45,7 @@ pub enum SheetRead {
 }
 
 // The fields of a line, by letter. How many there are:
-const FIELDS: [usize; LETTER_COUNT] = [0, 7, 3, 7, 1, 2, 3, 4, 9, 8, 5];
+const FIELDS: [usize; LETTER_COUNT] = [0, 7, 3, 7, 1, 2, 3, 4, 9, 8, 5, 3];
 // A hexadecimal digit for each, the first field lowest: 0 where it must be there, 1 where it may be missing, 2 where it is long and may be missing.
 const MARKS: [usize; LETTER_COUNT] = [
     0,
@@ -58,9 +59,10 @@ const MARKS: [usize; LETTER_COUNT] = [
     0x111111000,
     0x11110000,
     0x10000,
+    0,
 ];
 // The columns that they take together: six each, a long one twenty.
-const COLUMNS: [usize; LETTER_COUNT] = [0, 56, 18, 42, 6, 12, 18, 24, 54, 48, 30];
+const COLUMNS: [usize; LETTER_COUNT] = [0, 56, 18, 42, 6, 12, 18, 24, 54, 48, 30, 18];
 
 // What the caller lends: the bytes of the byte table and the numbers of each letter's table.
 pub struct Room {
@@ -234,6 +236,7 @@ fn counted(seen: Seen) -> Counts
         u: numbers[8] / as5506::U_NUMBERS,
         e: numbers[9] / as5506::E_NUMBERS,
         r: numbers[10] / as5506::R_NUMBERS,
+        m: numbers[11] / as5506::M_NUMBERS,
     }
 }
 
@@ -364,10 +367,11 @@ fn clear_all(
     u: &mut [u32],
     e: &mut [u32],
     r: &mut [u32],
+    m: &mut [u32],
 )
     ensures { λ _. ⌜ Cleared
-        (tablesAt bytes n c f x p i t q u e r)
-        (tablesLeft bytes n c f x p i t q u e r) ⌝ }
+        (tablesAt bytes n c f x p i t q u e r m)
+        (tablesLeft bytes n c f x p i t q u e r m) ⌝ }
 {
     lent::clear_bytes(bytes);
     lent::clear_numbers(n);
@@ -381,6 +385,7 @@ fn clear_all(
     lent::clear_numbers(u);
     lent::clear_numbers(e);
     lent::clear_numbers(r);
+    lent::clear_numbers(m);
 }
 
 // THE READER: the answer, and every lent slice afterwards. The tables are cleared first; a refusal leaves it at that.
@@ -398,11 +403,12 @@ pub fn read_sheet(
     u: &mut [u32],
     e: &mut [u32],
     r: &mut [u32],
+    m: &mut [u32],
 ) -> SheetRead
     ensures { λ z. ⌜ ReadInto
-        (tablesAt bytes n c f x p i t q u e r)
+        (tablesAt bytes n c f x p i t q u e r m)
         (now (sheet .entry)) z
-        (tablesLeft bytes n c f x p i t q u e r) ⌝ }
+        (tablesLeft bytes n c f x p i t q u e r m) ⌝ }
 {
     let room = Room {
         bytes: bytes.len(),
@@ -418,9 +424,10 @@ pub fn read_sheet(
             u.len(),
             e.len(),
             r.len(),
+            m.len(),
         ],
     };
-    clear_all(bytes, n, c, f, x, p, i, t, q, u, e, r);
+    clear_all(bytes, n, c, f, x, p, i, t, q, u, e, r, m);
     let read = check_sheet(sheet, room);
     let SheetRead::Read(_) = read else {
         return read;
@@ -436,6 +443,7 @@ pub fn read_sheet(
     let from_u = put_rows(sheet, from_q, 7, q);
     let from_e = put_rows(sheet, from_u, 8, u);
     let from_r = put_rows(sheet, from_e, 9, e);
-    put_rows(sheet, from_r, 10, r);
+    let from_m = put_rows(sheet, from_r, 10, r);
+    put_rows(sheet, from_m, 11, m);
     read
 }

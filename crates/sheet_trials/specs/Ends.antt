@@ -2,7 +2,7 @@
 use Prim.Native.Nat.{ℕ, _≤_}
 
 -- no part is longer than its slice
-pub record Ends (bytes n c f x p i t q u e r : ℕ) : Type 0 where
+pub record Ends (bytes n c f x p i t q u e r m : ℕ) : Type 0 where
   pub bytes-within : bytes ≤ 16400
   pub n-within : n ≤ 8200
   pub c-within : c ≤ 2700
@@ -15,3 +15,4 @@ pub record Ends (bytes n c f x p i t q u e r : ℕ) : Type 0 where
   pub u-within : u ≤ 2700
   pub e-within : e ≤ 2700
   pub r-within : r ≤ 2700
+  pub m-within : m ≤ 2700

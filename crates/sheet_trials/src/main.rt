@@ -1,5 +1,5 @@
 // Replays the cases of stdin and prints a line for each, which must be that of stdout: the answer in full, and a checksum of every slice as it is
-// afterwards. A case is a line `V` with thirteen fields as in a sheet (the length of the sheet, of the byte table and of the eleven tables that are
+// afterwards. A case is a line `V` with fourteen fields as in a sheet (the length of the sheet, of the byte table and of the twelve tables that are
 // lent), then the sheet's bytes. The lent slices are parts of larger ones, so that the checksums also show what stands behind them.
 ghost use mathlib.Core.Path.{_≡_};
 ghost use Prim.Native.Nat.{_≤_};
@@ -46,6 +46,7 @@ fn print_counts(c: Counts) {
     print_count(c.u);
     print_count(c.e);
     print_count(c.r);
+    print_count(c.m);
 }
 
 fn print_refusal(r: as5506::Refusal) {
@@ -97,6 +98,7 @@ fn print_slices(
     u: &[u32],
     e: &[u32],
     r: &[u32],
+    m: &[u32],
 ) {
     print_number(checksum_bytes(bytes));
     print_number(checksum(n));
@@ -110,6 +112,7 @@ fn print_slices(
     print_number(checksum(u));
     print_number(checksum(e));
     print_number(checksum(r));
+    print_number(checksum(m));
     print(b"\n");
 }
 
@@ -154,8 +157,9 @@ fn replay(
     u_end: usize,
     e_end: usize,
     r_end: usize,
+    m_end: usize,
 )
-    requires { ⌜ Ends «b_end» «n_end» «c_end» «f_end» «x_end» «p_end» «i_end» «t_end» «q_end» «u_end» «e_end» «r_end» ⌝ }
+    requires { ⌜ Ends «b_end» «n_end» «c_end» «f_end» «x_end» «p_end» «i_end» «t_end» «q_end» «u_end» «e_end» «r_end» «m_end» ⌝ }
 {
     let mut bytes = sevens_of_bytes();
     let mut n = sevens_of_names();
@@ -169,6 +173,7 @@ fn replay(
     let mut u = sevens();
     let mut e = sevens();
     let mut r = sevens();
+    let mut m = sevens();
     let z = sheet::read_sheet(
         sheet,
         &mut bytes[..b_end],
@@ -183,13 +188,14 @@ fn replay(
         &mut u[..u_end],
         &mut e[..e_end],
         &mut r[..r_end],
+        &mut m[..m_end],
     );
     print_answer(z);
-    print_slices(&bytes, &n, &c, &f, &x, &p, &i, &t, &q, &u, &e, &r);
+    print_slices(&bytes, &n, &c, &f, &x, &p, &i, &t, &q, &u, &e, &r, &m);
 }
 
 // A case's sheet, with what the case lends.
-fn replay_sheet(sheet: &[u8], lengths: [u32; 12]) {
+fn replay_sheet(sheet: &[u8], lengths: [u32; 13]) {
     replay(
         sheet,
         end_of(lengths[0], BYTES),
@@ -204,6 +210,7 @@ fn replay_sheet(sheet: &[u8], lengths: [u32; 12]) {
         end_of(lengths[9], OTHERS),
         end_of(lengths[10], OTHERS),
         end_of(lengths[11], OTHERS),
+        end_of(lengths[12], OTHERS),
     );
 }
 
@@ -213,7 +220,7 @@ fn next_case() -> bool {
         return false;
     }
     let length = cases::number();
-    let mut lengths = [0u32; 12];
+    let mut lengths = [0u32; 13];
     cases::numbers(&mut lengths);
     cases::byte();
     let mut sheet = [0u8; BYTES];

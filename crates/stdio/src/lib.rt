@@ -1,5 +1,6 @@
-// Standard input and standard output of the programs. Where one of them fails, a line on standard error says so: a sheet that could not be read is
-// no empty sheet, and a list that could not be written is none.
+// Standard input, standard output and the argument of the programs. Where one of them fails, a line on standard error says so: a sheet that could not
+// be read is no empty sheet, and a list that could not be written is none.
+use fields::Field;
 use libc::STDERR_FILENO;
 use libc::STDIN_FILENO;
 use libc::STDOUT_FILENO;
@@ -11,6 +12,13 @@ pub enum Input {
     // So many bytes: all that there are, or as many as found room.
     Read(usize),
     Failed,
+}
+
+// The one argument of a program.
+pub enum Argument {
+    Number(u64),
+    // There is none, there are more, or it is no number.
+    Wrong,
 }
 
 // Reads standard input to its end, or until the slice is full.
@@ -54,4 +62,28 @@ pub fn write_output(program: &[u8], text: &[u8]) {
     if !io::write_all(STDOUT_FILENO, text) {
         say(program, b": standard output could not be written\n");
     }
+}
+
+// The one argument that the program was started with, behind its own name. The largest number has 20 digits; of an argument that finds no room in 32
+// bytes none is taken.
+fn read_argument() -> Argument {
+    if os::arg_count() != 2 {
+        return Argument::Wrong;
+    }
+    let mut digits = [0u8; 32];
+    let got = os::arg(1, &mut digits);
+    match fields::number_in(&digits[..got]) {
+        Field::Value(number) => Argument::Number(number),
+        Field::Dash => Argument::Wrong,
+        Field::Bad => Argument::Wrong,
+    }
+}
+
+// The one argument of the program of this name: a decimal number of 64 bits at most, spelt as in a sheet. Where it is none it says so.
+pub fn number_argument(program: &[u8]) -> Argument {
+    let argument = read_argument();
+    if let Argument::Wrong = argument {
+        say(program, b": one argument is expected, a decimal number\n");
+    }
+    argument
 }

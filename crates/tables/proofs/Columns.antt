@@ -9,7 +9,7 @@ use lib.ListN.{getD}
 use lib.Dec.{T, eqb, leb, ltb, eqb→eq, leb→le, eqb·suc-zero}
 use borrow.Author.Tests.{ne-eqb, le-ltb}
 use Rattle.as5506.specs.Lists.{span, allOf}
-use Rattle.as5506.specs.Tables.{Tables, Letter, letterN, letterC, letterF, letterX, letterP, letterI, letterT, letterQ, letterU, letterE, letterR, table, width, count, present, at, eHolderKind}
+use Rattle.as5506.specs.Tables.{Tables, Letter, letterN, letterC, letterF, letterX, letterP, letterI, letterT, letterQ, letterU, letterE, letterR, letterM, table, width, count, present, at, eHolderKind}
 use Rattle.as5506.specs.Columns.{Meaning, name, rowIn, holder, below, anything, Column, needed, optional, long, fieldCells, columns, rowCells, rank}
 use Rattle.as5506.specs.Refusals.{rowFaults, holderLetter, inRange, goodLong, allows, allowsFrom, badRow as badFields, faults6}
 use Rattle.as5506.proofs.Laws.{and-left, and-right, and-true}
@@ -37,6 +37,7 @@ saysRow letterQ what = false
 saysRow letterU what = false
 saysRow letterE what = false
 saysRow letterR what = false
+saysRow letterM what = false
 
 abbrev digit : ℕ → Bool
 digit character = leb 48 character && leb character 57
@@ -102,6 +103,7 @@ module _ (m : Tables) (i kind flag v : ℕ) where
   row-limit letterU what t = absurd t
   row-limit letterE what t = absurd t
   row-limit letterR what t = absurd t
+  row-limit letterM what t = absurd t
 
   holder-limit : (what : ℕ) → what ≡ 104 → kind ≡ eHolderKind m i → inLimit what ≡ inRange m i holder v
   holder-limit what q e = rw (q, e) (ap (ltb v) (holder-rows m (eHolderKind m i)))
@@ -275,6 +277,7 @@ module _ (m : Tables) (few : (l : Letter) → count m l ≤ 4096) where
   fields-at letterU = table-head m Fields letterU (few letterU) refl (badFields m letterU) (λ i. row-is m letterU i (λ t. absurd t) refl tt)
   fields-at letterE = table-head m Fields letterE (few letterE) refl (badFields m letterE) (λ i. row-is m letterE i (λ t. ap (λ (a : ℕ). getD (m .e) a 0) (sym (add-zero (i * 8)))) refl tt)
   fields-at letterR = table-head m Fields letterR (few letterR) refl (badFields m letterR) (λ i. row-is m letterR i (λ t. absurd t) refl tt)
+  fields-at letterM = table-head m Fields letterM (few letterM) refl (badFields m letterM) (λ i. row-is m letterM i (λ t. absurd t) refl tt)
 
   pub fields-is : checkRule m Fields ≡ checked (faults6 m)
   unfolding checkRule faults6

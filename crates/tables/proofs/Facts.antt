@@ -11,7 +11,7 @@ use lib.ListN.{length}
 use lib.Dec.{T, eqb, ltb, eqb→eq, ltb→lt, nltb→le}
 use borrow.Author.Tests.{eq-eqb, ne-eqb}
 use Rattle.as5506.specs.Lists.{upTo, isNil, each, sameBytes}
-use Rattle.as5506.specs.Tables.{Tables, missing, present, Letter, letterN, letterC, letterF, letterX, letterP, letterI, letterT, letterQ, letterU, letterE, letterR, table, width, count, at, nStart, nLength, nameOf, cCount, cName, cParent, cPackage, cType, cPattern, cPlace, fName, fOwner, fKind, Side, source, destination, xCount, xName, xOwner, xKind, xSub, xFeat, Ref, pName, iPackage, iName, tPackage, tName, tPrivate, qPackage, qType, qImpl, qPrivate, uPackage, uName, uPrivate, uExtends, uInverseOf, eHolderKind, eHolder, eName, eKind, eDirection, eClassifier, rPackage, rWhat, rAlias, rOriginalPackage, rOriginalName}
+use Rattle.as5506.specs.Tables.{Tables, missing, present, Letter, letterN, letterC, letterF, letterX, letterP, letterI, letterT, letterQ, letterU, letterE, letterR, letterM, table, width, count, at, nStart, nLength, nameOf, cCount, cName, cParent, cPackage, cType, cPattern, cPlace, fName, fOwner, fKind, Side, source, destination, xCount, xName, xOwner, xKind, xSub, xFeat, Ref, pName, iPackage, iName, tPackage, tName, tPrivate, qPackage, qType, qImpl, qPrivate, uPackage, uName, uPrivate, uExtends, uInverseOf, eHolderKind, eHolder, eName, eKind, eDirection, eClassifier, rPackage, rWhat, rAlias, rOriginalPackage, rOriginalName, mName, mOwner}
 use Rattle.as5506.specs.Columns.{order, Meaning, name, rowIn, holder, below, anything, Column, needed, optional, long, fieldCells, columns}
 use Rattle.as5506.specs.Names.{goodName}
 use Rattle.as5506.specs.Answers.{Refusal, refusal, row}
@@ -92,6 +92,9 @@ pub record Facts (m : Tables) : Type 0 where
   pub r-alias : (i : ℕ) → i < count m letterR → rAlias m i < count m letterN
   pub r-original-package : (i : ℕ) → i < count m letterR → rOriginalPackage m i < count m letterN
   pub r-original-name : (i : ℕ) → i < count m letterR → MissingOr (rOriginalName m i) (count m letterN)
+  -- M
+  pub m-name : (i : ℕ) → i < count m letterM → mName m i < count m letterN
+  pub m-owner : (i : ℕ) → i < count m letterM → mOwner m i < cCount m
   -- 7: component 0 is there, has no parent, and the others have smaller ones (the root and parents of `Sound`)
   pub component-0 : 0 < cCount m
   pub sound : Sound m
@@ -315,6 +318,8 @@ module _ (m : Tables) (ok : T (accepted m)) where
         r-alias = λ i h. row-facts letterR i h .1 .1 .0;
         r-original-package = λ i h. row-facts letterR i h .1 .1 .1 .0;
         r-original-name = λ i h. row-facts letterR i h .1 .1 .1 .1 .0;
+        m-name = λ i h. row-facts letterM i h .0;
+        m-owner = λ i h. row-facts letterM i h .1 .0;
         component-0 = some-component m ok;
         sound = sound m ok;
         c-key = keys-unique (placeKey m) 16 m letterC sixteen;

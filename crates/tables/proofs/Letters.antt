@@ -6,7 +6,7 @@ use Prim.Native.Nat.{ℕ, _≤_}
 use lib.ListN.{length, getD}
 use borrow.Author.Tests.{le-ltb}
 use Rattle.as5506.specs.Lists.{upTo, putIf, keep, when, each}
-use Rattle.as5506.specs.Tables.{Tables, Letter, letterN, letterC, letterF, letterX, letterP, letterI, letterT, letterQ, letterU, letterE, letterR, table, width, count}
+use Rattle.as5506.specs.Tables.{Tables, Letter, letterN, letterC, letterF, letterX, letterP, letterI, letterT, letterQ, letterU, letterE, letterR, letterM, table, width, count}
 use Rattle.as5506.specs.Columns.{order, rank, letterByte, letterCount}
 use Rattle.as5506.specs.Answers.{row, Refusal, refusal}
 use Rattle.as5506.specs.Refusals.{rowFaults}
@@ -56,6 +56,7 @@ at-letter P a letterQ = a .1 .1 .1 .1 .1 .1 .1 .0
 at-letter P a letterU = a .1 .1 .1 .1 .1 .1 .1 .1 .0
 at-letter P a letterE = a .1 .1 .1 .1 .1 .1 .1 .1 .1 .0
 at-letter P a letterR = a .1 .1 .1 .1 .1 .1 .1 .1 .1 .1 .0
+at-letter P a letterM = a .1 .1 .1 .1 .1 .1 .1 .1 .1 .1 .1 .0
 
 -- what a letter's rank finds
 pub record Ranked (m : Tables) (l : Letter) : Type 0 where
@@ -78,6 +79,7 @@ ranked m letterQ = record { byte = refl; wide = refl; lent = refl; long = refl; 
 ranked m letterU = record { byte = refl; wide = refl; lent = refl; long = refl; once = refl; rowwise = refl }
 ranked m letterE = record { byte = refl; wide = refl; lent = refl; long = refl; once = refl; rowwise = refl }
 ranked m letterR = record { byte = refl; wide = refl; lent = refl; long = refl; once = refl; rowwise = refl }
+ranked m letterM = record { byte = refl; wide = refl; lent = refl; long = refl; once = refl; rowwise = refl }
 
 pub count-is : (m : Tables) (l : Letter) → rowsOf (lengths (tables m)) (rank l) ≡ count m l
 count-is m l = rw (ranked m l .long, ranked m l .wide)

@@ -17,15 +17,15 @@ use Rattle.tables.specs.Tests.{letters, widths, rowsOf, broken, nameBad,
 
 -- which tables a rule asks, a character for each letter: 1 the table as a whole, * each row
 abbrev pub asked : Rule → List ℕ
-asked Whole = bytesOf "11111111111"
-asked Few = bytesOf "***********"
-asked Names = bytesOf "*          "
-asked Fields = bytesOf " **********"
-asked Root = bytesOf " 1         "
-asked Parents = bytesOf " *         "
-asked Places = bytesOf " *         "
-asked Ends = bytesOf "   *    ***"
-asked Keys = bytesOf "    * *** *"
+asked Whole = bytesOf "111111111111"
+asked Few = bytesOf "************"
+asked Names = bytesOf "*           "
+asked Fields = bytesOf " ***********"
+asked Root = bytesOf " 1          "
+asked Parents = bytesOf " *          "
+asked Places = bytesOf " *          "
+asked Ends = bytesOf "   *    *** "
+asked Keys = bytesOf "    * *** * "
 
 -- rows 0 to 4,096 of n
 unfoldable pub capped : ℕ → ℕ
@@ -86,7 +86,7 @@ over f (x ∷ xs) = orElse (f x) (over f xs)
 
 -- the tables by rank
 abbrev pub tables : Tables → List (List ℕ)
-tables m = m .n ∷ m .c ∷ m .f ∷ m .x ∷ m .p ∷ m .i ∷ m .t ∷ m .q ∷ m .u ∷ m .e ∷ m .r ∷ []
+tables m = m .n ∷ m .c ∷ m .f ∷ m .x ∷ m .p ∷ m .i ∷ m .t ∷ m .q ∷ m .u ∷ m .e ∷ m .r ∷ m .m ∷ []
 
 abbrev pub lengths : List (List ℕ) → List ℕ
 lengths [] = []

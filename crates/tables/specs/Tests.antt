@@ -33,6 +33,7 @@ fields =
     ++ bytesOf "U p n 1 n?n?n?n?n?n?"
     ++ bytesOf "E 1 h n 9 2?n?n?n?  "
     ++ bytesOf "R p 2 n n n?        "
+    ++ bytesOf "M n c 1             "
 
 -- KEYS of the code
 abbrev pub keys : List ℕ
@@ -48,6 +49,7 @@ keys =
     ++ bytesOf "U 0=1n  "
     ++ bytesOf "E       "
     ++ bytesOf "R 0=1=2n"
+    ++ bytesOf "M       "
 
 -- where row 4,096 of a table of nine numbers starts; no row that is looked at starts after it
 abbrev pub farthest : ℕ

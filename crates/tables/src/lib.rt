@@ -1,6 +1,6 @@
 // Refusals 10, 6, 7, 16, 8 and 9 of documents 01 and 02: what tables that a caller hands over are refused for, if anything.
 // Each rule goes over all tables in letter order and over the rows of each; the lowest bad row of the first bad table is the refusal's place.
-// A letter goes by its place `k` in the order N C F X P I T Q U E R, 0 to 10; `lens` has the length of each letter's table.
+// A letter goes by its place `k` in the order N C F X P I T Q U E R M, 0 to 11; `lens` has the length of each letter's table.
 use as5506::LETTER_COUNT;
 ghost use mathlib.Core.Path.{_≡_};
 ghost use Prim.Native.Nat.{_≤_, _<_, _+_, _-_};
@@ -29,7 +29,7 @@ const E: usize = 9;
 // What each number of a row is: a letter and a space, then two characters a number. The first says what it is: n a name number, c a row of C, p a row of P,
 // h a row of the holder's table, a digit a number up to it, * any number but missing, and the second is ? where it may be missing. ^ is any number, but 0
 // where the number of the row that the second character names, from 0, is 0.
-const FIELDS: [u8; 220] = *b"N                   \
+const FIELDS: [u8; 240] = *b"N                   \
                              C n c?1 ^2^2n n n?* \
                              F n c 9             \
                              X n c 4 n?n?n?n?    \
@@ -39,11 +39,12 @@ const FIELDS: [u8; 220] = *b"N                   \
                              Q p n n 1           \
                              U p n 1 n?n?n?n?n?n?\
                              E 1 h n 9 2?n?n?n?  \
-                             R p 2 n n n?        ";
+                             R p 2 n n n?        \
+                             M n c 1             ";
 
 // What two rows of a letter may not have in common, its key: a letter and a space, then two characters a part. The first says which number of a row it is,
 // from 0; the second is = where these are compared, n where they are names that are compared folded. Of C the place comes first: it is seldom the same.
-const KEYS: [u8; 88] = *b"N       \
+const KEYS: [u8; 96] = *b"N       \
                           C 8=1=  \
                           F       \
                           X       \
@@ -53,7 +54,8 @@ const KEYS: [u8; 88] = *b"N       \
                           Q 0=1n2n\
                           U 0=1n  \
                           E       \
-                          R 0=1=2n";
+                          R 0=1=2n\
+                          M       ";
 
 // A part of a key: the field of a row, and how it is compared.
 struct Part {
@@ -345,20 +347,20 @@ fn key_taken(bytes: &[u8], n: &[u32], t: &[u32], k: usize, i: usize) -> bool
     false
 }
 
-// Which tables a rule asks, a character for each letter in the order NCFXPITQUER: 1 the table as a whole, * each row.
+// Which tables a rule asks, a character for each letter in the order NCFXPITQUERM: 1 the table as a whole, * each row.
 fn asks(rule: Rule) -> [u8; LETTER_COUNT]
     ensures { λ r. ⌜ r ≡ asked rule ⌝ }
 {
     match rule {
-        Rule::Whole => *b"11111111111",
-        Rule::Few => *b"***********",
-        Rule::Names => *b"*          ",
-        Rule::Fields => *b" **********",
-        Rule::Root => *b" 1         ",
-        Rule::Parents => *b" *         ",
-        Rule::Places => *b" *         ",
-        Rule::Ends => *b"   *    ***",
-        Rule::Keys => *b"    * *** *",
+        Rule::Whole => *b"111111111111",
+        Rule::Few => *b"************",
+        Rule::Names => *b"*           ",
+        Rule::Fields => *b" ***********",
+        Rule::Root => *b" 1          ",
+        Rule::Parents => *b" *          ",
+        Rule::Places => *b" *          ",
+        Rule::Ends => *b"   *    *** ",
+        Rule::Keys => *b"    * *** * ",
     }
 }
 
@@ -487,8 +489,9 @@ fn check_rule(
     u: &[u32],
     e: &[u32],
     r: &[u32],
+    m: &[u32],
 ) -> Checked
-    ensures { λ z. ⌜ z ≡ orElse before (checkRule (tablesAt bytes n c f x p i t q u e r) rule) ⌝ }
+    ensures { λ z. ⌜ z ≡ orElse before (checkRule (tablesAt bytes n c f x p i t q u e r m) rule) ⌝ }
 {
     let lens = [
         n.len(),
@@ -502,6 +505,7 @@ fn check_rule(
         u.len(),
         e.len(),
         r.len(),
+        m.len(),
     ];
     let found = check_table(before, rule, bytes, n, n, lens, 0);
     let found = check_table(found, rule, bytes, n, c, lens, 1);
@@ -513,7 +517,8 @@ fn check_rule(
     let found = check_table(found, rule, bytes, n, q, lens, 7);
     let found = check_table(found, rule, bytes, n, u, lens, 8);
     let found = check_table(found, rule, bytes, n, e, lens, 9);
-    check_table(found, rule, bytes, n, r, lens, 10)
+    let found = check_table(found, rule, bytes, n, r, lens, 10);
+    check_table(found, rule, bytes, n, m, lens, 11)
 }
 
 // What the tables are refused for, if anything: the rules one after the other.
@@ -530,17 +535,18 @@ pub fn check_tables(
     u: &[u32],
     e: &[u32],
     r: &[u32],
+    m: &[u32],
 ) -> Checked
-    ensures { λ z. ⌜ z ≡ checked (faults (tablesAt bytes n c f x p i t q u e r)) ⌝ }
+    ensures { λ z. ⌜ z ≡ checked (faults (tablesAt bytes n c f x p i t q u e r m)) ⌝ }
 {
-    let found = Checked::Accepted;
-    let found = check_rule(found, Rule::Whole, bytes, n, c, f, x, p, i, t, q, u, e, r);
-    let found = check_rule(found, Rule::Few, bytes, n, c, f, x, p, i, t, q, u, e, r);
-    let found = check_rule(found, Rule::Names, bytes, n, c, f, x, p, i, t, q, u, e, r);
-    let found = check_rule(found, Rule::Fields, bytes, n, c, f, x, p, i, t, q, u, e, r);
-    let found = check_rule(found, Rule::Root, bytes, n, c, f, x, p, i, t, q, u, e, r);
-    let found = check_rule(found, Rule::Parents, bytes, n, c, f, x, p, i, t, q, u, e, r);
-    let found = check_rule(found, Rule::Places, bytes, n, c, f, x, p, i, t, q, u, e, r);
-    let found = check_rule(found, Rule::Ends, bytes, n, c, f, x, p, i, t, q, u, e, r);
-    check_rule(found, Rule::Keys, bytes, n, c, f, x, p, i, t, q, u, e, r)
+    let so = Checked::Accepted;
+    let so = check_rule(so, Rule::Whole, bytes, n, c, f, x, p, i, t, q, u, e, r, m);
+    let so = check_rule(so, Rule::Few, bytes, n, c, f, x, p, i, t, q, u, e, r, m);
+    let so = check_rule(so, Rule::Names, bytes, n, c, f, x, p, i, t, q, u, e, r, m);
+    let so = check_rule(so, Rule::Fields, bytes, n, c, f, x, p, i, t, q, u, e, r, m);
+    let so = check_rule(so, Rule::Root, bytes, n, c, f, x, p, i, t, q, u, e, r, m);
+    let so = check_rule(so, Rule::Parents, bytes, n, c, f, x, p, i, t, q, u, e, r, m);
+    let so = check_rule(so, Rule::Places, bytes, n, c, f, x, p, i, t, q, u, e, r, m);
+    let so = check_rule(so, Rule::Ends, bytes, n, c, f, x, p, i, t, q, u, e, r, m);
+    check_rule(so, Rule::Keys, bytes, n, c, f, x, p, i, t, q, u, e, r, m)
 }

@@ -1,6 +1,6 @@
-// Replays the cases of stdin on `tables::check_tables` and prints a line for each, which must be that of stdout. A case is a line `V` with 23 fields
-// as in a sheet: the length of the byte table, and of each of the eleven tables how many numbers it has and how many of them are given. The bytes are the next
-// line, and the numbers that are given the eleven lines behind it, each with its letter in front. Those that are not given are 0.
+// Replays the cases of stdin on `tables::check_tables` and prints a line for each, which must be that of stdout. A case is a line `V` with 25 fields
+// as in a sheet: the length of the byte table, and of each of the twelve tables how many numbers it has and how many of them are given. The bytes are the next
+// line, and the numbers that are given the twelve lines behind it, each with its letter in front. Those that are not given are 0.
 use libc::STDOUT_FILENO;
 use tables::Checked;
 
@@ -45,10 +45,10 @@ fn print_answer(z: Checked) {
 }
 
 // Where each table starts in the store, table k going up to the start of table k + 1.
-fn starts_of(counts: [u32; 22]) -> [usize; 12] {
-    let mut starts = [0usize; 12];
+fn starts_of(counts: [u32; 24]) -> [usize; 13] {
+    let mut starts = [0usize; 13];
     let mut k: usize = 0;
-    while k < 11 {
+    while k < 12 {
         starts[k + 1] = behind(starts[k], counts[2 * k]);
         k += 1;
     }
@@ -69,9 +69,9 @@ fn read_table(store: &mut [u32], start: usize, given: u32) {
 }
 
 // Reads all tables.
-fn read_tables(store: &mut [u32], starts: [usize; 12], counts: [u32; 22]) {
+fn read_tables(store: &mut [u32], starts: [usize; 13], counts: [u32; 24]) {
     let mut k: usize = 0;
-    while k < 11 {
+    while k < 12 {
         read_table(store, starts[k], counts[2 * k + 1]);
         k += 1;
     }
@@ -88,8 +88,8 @@ fn table_from(store: &[u32], from: usize, to: usize) -> &[u32] {
     &store[from..to]
 }
 
-// The answer for the byte table and the eleven tables in the store.
-fn answer_for(bytes: &[u8], store: &[u32], starts: [usize; 12]) -> Checked {
+// The answer for the byte table and the twelve tables in the store.
+fn answer_for(bytes: &[u8], store: &[u32], starts: [usize; 13]) -> Checked {
     let n = table_from(store, starts[0], starts[1]);
     let c = table_from(store, starts[1], starts[2]);
     let f = table_from(store, starts[2], starts[3]);
@@ -101,7 +101,8 @@ fn answer_for(bytes: &[u8], store: &[u32], starts: [usize; 12]) -> Checked {
     let u = table_from(store, starts[8], starts[9]);
     let e = table_from(store, starts[9], starts[10]);
     let r = table_from(store, starts[10], starts[11]);
-    tables::check_tables(bytes, n, c, f, x, p, i, t, q, u, e, r)
+    let m = table_from(store, starts[11], starts[12]);
+    tables::check_tables(bytes, n, c, f, x, p, i, t, q, u, e, r, m)
 }
 
 // Reads a case and replays it; false where there is none.
@@ -110,7 +111,7 @@ fn next_case() -> bool {
         return false;
     }
     let length = cases::number();
-    let mut counts = [0u32; 22];
+    let mut counts = [0u32; 24];
     cases::numbers(&mut counts);
     cases::byte();
     let mut bytes = [0u8; BYTES];

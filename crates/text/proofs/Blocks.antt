@@ -154,6 +154,12 @@ pub counts-pieces : (a b : ℕ) → numberLine (bytesOf "Z") (a ∷ b ∷ []) �
 unfolding numberLine
 counts-pieces a b = simp append-assoc
 
+-- the pieces that a selection is printed in
+pub selection-pieces : (rows name : List ℕ) → numberLine (bytesOf "M") rows ++ textLine (bytesOf "=") name
+    ≡ bytesOf "M" ++ each column rows ++ bytesOf "\n" ++ (bytesOf "= " ++ name ++ bytesOf "\n")
+unfolding numberLine textLine
+selection-pieces rows name = refl
+
 -- the pieces that the list is printed in
 pub list-pieces : (bytes n c x traced group names : List ℕ) (j k : ℕ) (diags groupDiags : List Diag)
     → listOf (wiringIn bytes n c x) (rowsBack (wiringIn bytes n c x) j traced) (groupRowsBack k group names) diags groupDiags

@@ -53,12 +53,12 @@ pub fn put_row(
     put_between(b"> ", destination, b"\n", text, left)
 }
 
-// Prints the last line: how many rows each listing has.
-pub fn put_counts(traced: usize, group: usize, text: &mut [u8], used: usize) -> usize
-    ensures { λ z. ⌜ Added (numberLine (bytesOf "Z") (traced ∷ group ∷ [])) (now (text .entry)) used (now (text .exit)) z ⌝ }
+// Prints `Z` and two numbers: of a list how many rows each listing has.
+pub fn put_counts(first: usize, second: usize, text: &mut [u8], used: usize) -> usize
+    ensures { λ z. ⌜ Added (numberLine (bytesOf "Z") (first ∷ second ∷ [])) (now (text .entry)) used (now (text .exit)) z ⌝ }
 {
     let marked = lent::append_bytes(text, used, b"Z");
-    let first = decimal::put_column(traced, text, marked);
-    let second = decimal::put_column(group, text, first);
-    lent::append_bytes(text, second, b"\n")
+    let begun = decimal::put_column(first, text, marked);
+    let counted = decimal::put_column(second, text, begun);
+    lent::append_bytes(text, counted, b"\n")
 }

@@ -17,7 +17,7 @@ pub struct Diagnostic {
 /// Hands a name for the table of each letter, in the order of the letters, to a macro.
 macro_rules! with_letters {
     ($to:ident! $($rest:tt)*) => {
-        $to! { [n c f x p i t q u e r] $($rest)* }
+        $to! { [n c f x p i t q u e r m] $($rest)* }
     };
 }
 
@@ -122,6 +122,16 @@ over_tables!(conlist_list_connections(
     names_length: usize,
     group_diagnostics: *mut u32,
     group_diagnostics_length: usize,
+    told: *mut u64
+));
+
+over_tables!(conlist_count_selections(told: *mut u64));
+over_tables!(conlist_select_modes(
+    rows: *mut u32,
+    rows_length: usize,
+    name: *mut u8,
+    name_length: usize,
+    number: u64,
     told: *mut u64
 ));
 
@@ -318,6 +328,33 @@ pub fn list_connections_with_records(
             outputs.group_diagnostics.len(),
             group_records.as_mut_ptr(),
             group_records.len(),
+            told.as_mut_ptr()
+        )
+    };
+    told
+}
+
+/// 0, the number of selections and 1 where the list was cut, else 0; or a refusal's number, place and letter.
+pub fn count_selections(tables: &Tables) -> [u64; 3] {
+    let mut told = [u64::MAX; 3];
+    // SAFETY: as above.
+    unsafe { call!(conlist_count_selections, tables, told.as_mut_ptr()) };
+    told
+}
+
+/// 0, the rows and the bytes of the name, or a refusal's number, place and letter.
+pub fn select_modes(tables: &Tables, rows: &mut [u32], name: &mut [u8], number: u64) -> [u64; 3] {
+    let mut told = [u64::MAX; 3];
+    // SAFETY: as above.
+    unsafe {
+        call!(
+            conlist_select_modes,
+            tables,
+            rows.as_mut_ptr(),
+            rows.len(),
+            name.as_mut_ptr(),
+            name.len(),
+            number,
             told.as_mut_ptr()
         )
     };

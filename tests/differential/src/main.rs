@@ -1,6 +1,9 @@
 //! `differential [COUNT] [FIRST]`: compares the proved library with the original on the stored vectors and on COUNT generated
 //! models, and holds it to refusals on tables that are spoilt. A fifth of the generated models has to be one that the original lists
-//! otherwise where children come in the order of their rows.
+//! otherwise where children come in the order of their rows; a tenth has to have modes, and of one in a hundred the selections of modes
+//! have to be cut.
+//! `differential --modes [COUNT] [FIRST]`: compares nothing but selections of modes, on COUNT models that are generated for that. All of
+//! them have to have modes, and a tenth has to be cut.
 //! `differential --stream`: holds it to the texts of a stream of cases on standard input.
 //!
 //! Each model is handed over as a sheet and as tables, with outputs that are exactly full, one number too short, a little too long
@@ -13,6 +16,7 @@ mod group;
 mod lent;
 mod library;
 mod listed;
+mod modes;
 mod records;
 mod tables;
 mod text;
@@ -80,11 +84,15 @@ struct Met {
     /// Generated models, and those of them that the original lists otherwise with children in the order of their rows.
     generated: usize,
     otherwise_by_row: usize,
+    /// Generated models with modes, and those of them whose selections are cut.
+    generated_modal: usize,
+    generated_cut: usize,
     traced: traced::Met,
     expansion: expansion::Met,
     group: group::Met,
     both: both::Met,
     records: records::Met,
+    modes: modes::Met,
     text: text::Met,
     unaccepted: unaccepted::Met,
 }
@@ -102,6 +110,7 @@ impl Met {
             .and_then(|()| group::compare(&sheet, renames, &mut self.group))
             .and_then(|()| both::compare(&sheet, &mut self.both))
             .and_then(|()| records::compare(&sheet, &mut self.records))
+            .and_then(|()| modes::compare(&sheet, &mut self.modes))
             .and_then(|()| damaged::read_again(&case.sheet, &sheet))
             .and_then(|()| {
                 let options = Options {
@@ -119,10 +128,13 @@ impl Met {
         }
     }
 
-    /// Compares a generated model, and counts whether the places of its children decide anything.
+    /// Compares a generated model, and counts whether it has modes and whether the places of its children decide anything.
     fn compare_generated(&mut self, case: &Case) {
+        let before = self.modes;
         self.compare(case, Renames::Text);
         self.generated += 1;
+        self.generated_modal += self.modes.with_modes - before.with_modes;
+        self.generated_cut += self.modes.cut - before.cut;
         if let Some(sheet) = Sheet::accepted(&case.sheet) {
             let otherwise = places::decide(&sheet, Renames::Text);
             self.otherwise_by_row += usize::from(otherwise);
@@ -133,8 +145,13 @@ impl Met {
         let (traced, expansion) = (&self.traced, &self.expansion);
         let (group, text) = (&self.group, &self.text);
         println!(
-            "{} models, {} differ; of {} generated ones the original lists {} otherwise with children by row",
-            self.models, self.differing, self.generated, self.otherwise_by_row,
+            "{} models, {} differ; of {} generated ones the original lists {} otherwise with children by row, {} have modes, {} are cut",
+            self.models,
+            self.differing,
+            self.generated,
+            self.otherwise_by_row,
+            self.generated_modal,
+            self.generated_cut,
         );
         println!(
             "traced listing: {} rows, {} diagnostics; {} calls, {} refused 11, {} refused 12, {} models without end for the original",
@@ -169,21 +186,28 @@ impl Met {
             "array indices: {} models in the traced and {} in the group listing with other bits as well; {} tables refused for their numbers",
             traced.other_indices, group.other_indices, self.unaccepted.indices,
         );
+        self.modes.print();
         println!(
             "conlist: {} sheets, {} of them refused, {} bytes of text; {} calls",
             text.sheets, text.refused, text.bytes, text.calls,
         );
         println!(
-            "tables not accepted: {}, refused {REFUSALS_OF_TABLES:?}: {:?}; {} calls",
-            self.unaccepted.tables, self.unaccepted.refused, self.unaccepted.calls,
+            "tables not accepted: {}, refused {REFUSALS_OF_TABLES:?}: {:?}, {} of them for a mode; {} calls",
+            self.unaccepted.tables,
+            self.unaccepted.refused,
+            self.unaccepted.modes,
+            self.unaccepted.calls,
         );
     }
 
-    /// Nothing differs, nothing was left out, and places decide on a fifth of the generated models.
+    /// Nothing differs, nothing was left out, places decide on a fifth of the generated models, a tenth has modes, and one in a hundred
+    /// is cut.
     fn passes(&self) -> bool {
         let (traced, expansion) = (&self.traced, &self.expansion);
         self.differing == 0
             && 5 * self.otherwise_by_row >= self.generated
+            && 10 * self.generated_modal >= self.generated
+            && 100 * self.generated_cut >= self.generated
             && traced.rows > 0
             && traced.diagnostics > 0
             && traced.endless > 0
@@ -194,6 +218,8 @@ impl Met {
             && traced.other_indices > 0
             && self.group.other_indices > 0
             && self.unaccepted.indices > 0
+            && self.unaccepted.modes > 0
+            && self.modes.is_whole()
             && self.records.records > 0
             && self.records.refused_12 > 0
             && self.text.refused > 0
@@ -224,29 +250,74 @@ fn known_texts() -> ExitCode {
     }
 }
 
-fn main() -> ExitCode {
-    if std::env::args().skip(1).eq(["--stream"]) {
-        return known_texts();
-    }
-    let numbers: Option<Vec<u64>> = std::env::args()
-        .skip(1)
-        .map(|word| word.parse().ok())
-        .collect();
-    let (count, first) = match numbers.as_deref() {
-        Some([]) => (1000, 1),
-        Some([count]) => (*count, 1),
-        Some([count, first]) => (*count, *first),
-        _ => {
-            eprintln!("usage: differential [COUNT] [FIRST], or differential --stream < CASES");
-            return ExitCode::from(2);
+/// Selections of modes alone.
+fn modes_alone(count: u64, first: u64) -> ExitCode {
+    let (mut met, mut differing) = (modes::Met::default(), 0);
+    for seed in first..first + count {
+        let case = case(Sort::Modal, seed);
+        let sheet = Sheet::accepted(&case.sheet).expect("accepted");
+        if let Err(what) = modes::compare(&sheet, &mut met) {
+            println!("DIFFERS {}: {what}", case.label);
+            differing += 1;
         }
+    }
+    let generated = met;
+    if let Err(what) = modes::compare_large(&mut met) {
+        println!("DIFFERS {what}");
+        differing += 1;
+    }
+    met.print();
+    println!("{} models, {differing} differ", met.models);
+    let modal = generated.with_modes == generated.models && 10 * generated.cut >= generated.models;
+    if differing == 0 && modal && met.is_whole() {
+        ExitCode::SUCCESS
+    } else {
+        ExitCode::FAILURE
+    }
+}
+
+/// COUNT and FIRST, if these are all words that are left.
+fn count_and_first(words: &[String]) -> Option<(u64, u64)> {
+    let numbers: Option<Vec<u64>> = words.iter().map(|word| word.parse().ok()).collect();
+    match numbers?[..] {
+        [] => Some((1000, 1)),
+        [count] => Some((count, 1)),
+        [count, first] => Some((count, first)),
+        _ => None,
+    }
+}
+
+fn main() -> ExitCode {
+    let words: Vec<String> = std::env::args().skip(1).collect();
+    let (run, numbers) = match words.split_first() {
+        Some((option, rest)) if option.starts_with("--") => (option.as_str(), rest),
+        _ => ("", &words[..]),
     };
+    match (run, count_and_first(numbers)) {
+        ("", Some((count, first))) => all(count, first),
+        ("--modes", Some((count, first))) => modes_alone(count, first),
+        ("--stream", _) if numbers.is_empty() => known_texts(),
+        _ => {
+            eprintln!(
+                "usage: differential [--modes] [COUNT] [FIRST], or differential --stream < CASES"
+            );
+            ExitCode::from(2)
+        }
+    }
+}
+
+/// Every call, on stored and on generated models.
+fn all(count: u64, first: u64) -> ExitCode {
     let mut met = Met::default();
     for (case, renames) in stored() {
         met.compare(&case, renames);
     }
     for seed in first..first + count {
         met.compare_generated(&case(Sort::Accepted, seed));
+    }
+    if let Err(what) = modes::compare_large(&mut met.modes) {
+        println!("DIFFERS {what}");
+        met.differing += 1;
     }
     let mut told = damaged::Met::default();
     for case in differences() {

@@ -1,6 +1,6 @@
 //! The tables of a model as a caller lends them.
 
-use oracle::letters::{LETTERS, ROW_LETTERS, Sheet, component, name, rank};
+use oracle::letters::{LETTERS, ROW_LETTERS, Sheet, component, mode, name, rank};
 use oracle::sheet::NAME_ROWS;
 
 /// A missing field. An array index that is missing has zeros.
@@ -50,10 +50,20 @@ impl Tables {
         tables
     }
 
+    /// The table of a letter, to be changed.
+    pub fn table(&mut self, letter: u8) -> &mut Vec<u32> {
+        &mut self.letters[rank(letter).expect("a letter")]
+    }
+
     /// The rows of C, to be changed.
     pub fn components(&mut self) -> Vec<&mut [u32]> {
-        let rank = rank(b'C').expect("a letter");
-        let rows = self.letters[rank].chunks_mut(component::NUMBERS);
+        let rows = self.table(b'C').chunks_mut(component::NUMBERS);
+        rows.collect()
+    }
+
+    /// The rows of M, to be changed.
+    pub fn modes(&mut self) -> Vec<&mut [u32]> {
+        let rows = self.table(b'M').chunks_mut(mode::NUMBERS);
         rows.collect()
     }
 

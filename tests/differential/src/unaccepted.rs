@@ -1,12 +1,13 @@
 //! Tables that are not accepted: the checks and every listing give the same refusal, leave zeros in their outputs and their
 //! inputs as they were.
 
-use oracle::letters::{LETTERS, component, name, row_numbers};
+use oracle::letters::{LETTERS, component, mode, name, row_numbers};
 use oracle::listing::REFUSALS_OF_TABLES;
 use oracle::sheet::{NAME_BYTES, Sheet};
 
 use crate::lent::Lent;
 use crate::library::{self, Outputs};
+use crate::modes;
 use crate::records;
 use crate::tables::{LOW, MISSING, PRESENT, Tables};
 use crate::{DIAGNOSTIC_NUMBERS, ROW_NUMBERS};
@@ -22,13 +23,15 @@ pub struct Met {
     pub refused: [usize; REFUSALS_OF_TABLES.len()],
     /// Tables in which the numbers of an array index are wrong.
     pub indices: usize,
+    /// Tables in which a row of M is wrong.
+    pub modes: usize,
 }
 
 /// A refusal's number, place and letter.
 pub type Refusal = [u64; 3];
 
 /// Tables of a model that are spoilt at one place or two, by `seed`, with the refusal that they earn: 10 in its three ways, a missing
-/// place and equal places, and an array index of numbers that none has.
+/// place and equal places, an array index of numbers that none has, and a mode of a name, an owner or a flag that there is not.
 pub fn compare(sheet: &Sheet, seed: usize, met: &mut Met) -> Result<(), String> {
     let tables = Tables::of(sheet);
     let rank = seed % LETTERS.len();
@@ -77,7 +80,8 @@ pub fn compare(sheet: &Sheet, seed: usize, met: &mut Met) -> Result<(), String> 
         refused(&named, [10, row as u64, b'N'.into()], met)?;
     }
     places(sheet, &tables, seed, met)?;
-    indices(&tables, seed, met)
+    indices(&tables, seed, met)?;
+    wrong_mode(sheet, &tables, seed, met)
 }
 
 /// A component without a place, which no sheet has; two children of one component with the same place, and both without one.
@@ -139,6 +143,32 @@ fn indices(tables: &Tables, seed: usize, met: &mut Met) -> Result<(), String> {
     Ok(())
 }
 
+/// A mode whose name, owner or flag is past its end or missing, and perhaps a later one as well. It is found before a root that has a
+/// parent, and behind a table of M that has no whole number of rows.
+fn wrong_mode(sheet: &Sheet, tables: &Tables, seed: usize, met: &mut Met) -> Result<(), String> {
+    let mut spoilt = tables.clone();
+    // a model without modes gets one, with the first name, of the root
+    if sheet.modes.is_empty() {
+        spoilt.table(b'M').extend([0; mode::NUMBERS]);
+    }
+    let (column, end) = [
+        (mode::NAME, sheet.names.len() as u32),
+        (mode::OWNER, sheet.components.len() as u32),
+        (mode::INITIAL, 2),
+    ][seed % 3];
+    let mut modes = spoilt.modes();
+    let row = seed / 3 % modes.len();
+    let later = row + seed % (modes.len() - row);
+    modes[later][column] = MISSING;
+    modes[row][column] = [end, end + 1, MISSING - 1, MISSING][seed % 4];
+    met.modes += 1;
+    refused(&spoilt, [6, row as u64, b'M'.into()], met)?;
+    spoilt.components()[0][component::PARENT] = 0;
+    refused(&spoilt, [6, row as u64, b'M'.into()], met)?;
+    spoilt.table(b'M').extend(vec![0; 1 + seed % 2]);
+    refused(&spoilt, [10, 0, b'M'.into()], met)
+}
+
 fn spoil(table: &mut Vec<u32>, width: usize) {
     if width > 1 {
         table.push(0);
@@ -150,7 +180,7 @@ pub fn refused(tables: &Tables, refusal: Refusal, met: &mut Met) -> Result<(), S
     met.tables += 1;
     let place = REFUSALS_OF_TABLES.iter().position(|&own| own == refusal[0]);
     met.refused[place.expect("a refusal of tables")] += 1;
-    met.calls += 8;
+    met.calls += 11;
     let before = tables.clone();
     expect("check_tables", library::check_tables(tables), refusal)?;
 
@@ -180,6 +210,7 @@ pub fn refused(tables: &Tables, refusal: Refusal, met: &mut Met) -> Result<(), S
 
     both(tables, refusal)?;
     records::refused(tables, refusal)?;
+    modes::not_accepted(tables, refusal)?;
     if *tables == before {
         Ok(())
     } else {

@@ -1,12 +1,14 @@
 //! Accepted sheets: a model of some profile, its rows in another order, its
 //! children in yet another by their places, its array elements with indices of
-//! every length, sometimes filled up to the sizes that `conlist` lends.
+//! every length, often with modes, sometimes filled up to the sizes that
+//! `conlist` lends.
 
 use oracle::letters::{Field, Meaning, ROW_LETTERS, Sheet, columns};
 use oracle::model::Renames;
 use oracle::sheet::{NAME_BYTES, NAME_ROWS, SHEET_BYTES, TABLE_ROWS};
 use oracle::{MOST_VISITS, endpoint};
 
+use crate::Sort;
 use crate::draft::Draft;
 
 /// A kind of model: how often, what it is called, how it is made.
@@ -40,15 +42,26 @@ const WILD_PROFILES: &[Profile] = &[
     (2, "resolution", Draft::resolution),
 ];
 
+/// The profiles in which nothing but modes counts.
+const MODAL_PROFILES: &[Profile] = &[
+    (9, "modes", Draft::modal_tree),
+    (1, "joined name limit", Draft::joined_name_limit),
+];
+
 /// More comparisons of features than this, and the original takes long.
 const MOST_COMPARISONS: u64 = 2_000_000;
 
 /// An accepted sheet, and the name of its profile. Tries with numbers made from
 /// the seed, until a sheet has the right size and the original is quick on it.
-pub fn accepted(seed: u64, wild: bool) -> (Vec<u8>, &'static str) {
-    let profile = weighted(seed, if wild { WILD_PROFILES } else { PROFILES });
+pub fn accepted(seed: u64, sort: Sort) -> (Vec<u8>, &'static str) {
+    let profiles = match sort {
+        Sort::Wild => WILD_PROFILES,
+        Sort::Modal => MODAL_PROFILES,
+        _ => PROFILES,
+    };
+    let profile = weighted(seed, profiles);
     for attempt in 0..1000 {
-        let sheet = attempted(seed, attempt, wild, profile);
+        let sheet = attempted(seed, attempt, sort, profile);
         if let Some(tables) = Sheet::accepted(&sheet)
             && is_quick(&tables)
         {
@@ -62,12 +75,13 @@ pub fn accepted(seed: u64, wild: bool) -> (Vec<u8>, &'static str) {
 pub fn attempted_of(seed: u64, attempt: u64, profile: &str) -> Vec<u8> {
     let mut profiles = PROFILES.iter();
     let found = profiles.find(|(_, name, _)| *name == profile);
-    attempted(seed, attempt, false, *found.expect("the name of a profile"))
+    let profile = *found.expect("the name of a profile");
+    attempted(seed, attempt, Sort::Accepted, profile)
 }
 
-fn attempted(seed: u64, attempt: u64, wild: bool, (_, _, make): Profile) -> Vec<u8> {
+fn attempted(seed: u64, attempt: u64, sort: Sort, (_, _, make): Profile) -> Vec<u8> {
     let number = seed.wrapping_mul(1000).wrapping_add(attempt);
-    let mut draft = Draft::new(number, wild);
+    let mut draft = Draft::new(number, sort == Sort::Wild);
     if draft.random.chance(20) {
         draft.name("unused");
     }
@@ -76,6 +90,7 @@ fn attempted(seed: u64, attempt: u64, wild: bool, (_, _, make): Profile) -> Vec<
     reorder(&mut draft);
     draft.place_components();
     draft.index_components();
+    draft.add_modes(sort == Sort::Modal);
     fill_up(&mut draft);
     draft.sheet.bytes()
 }

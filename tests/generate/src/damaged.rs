@@ -14,7 +14,7 @@ use std::ops::Range;
 
 use oracle::letters::{
     Column, Field, LETTERS, Meaning, ROW_LETTERS, blank, column_at, columns, component, connection,
-    declared_feature, group_type, line_length, rank, rename,
+    declared_feature, group_type, line_length, mode, rank, rename,
 };
 use oracle::listing::refusal_line;
 use oracle::sheet::{KEYS, NAME_BYTES, NAME_ROWS, SHEET_BYTES, TABLE_ROWS, bound, bytes_of};
@@ -43,6 +43,10 @@ const DAMAGES: &[(&str, Damage)] = &[
         Damage::Bytes(last_line_without_lf),
     ),
     ("3 letter out of order", Damage::Lines(letter_out_of_order)),
+    (
+        "3 mode before a rename",
+        Damage::Lines(mode_before_a_rename),
+    ),
     ("4 length of the line", Damage::Lines(length_of_the_line)),
     ("4 field is no number", Damage::Lines(field_is_no_number)),
     ("4 leading zero", Damage::Lines(leading_zero)),
@@ -71,11 +75,13 @@ const DAMAGES: &[(&str, Damage)] = &[
         "4 index of six columns",
         Damage::Lines(index_of_six_columns),
     ),
+    ("4 mode too short", Damage::Lines(mode_too_short)),
     ("4 N without its space", Damage::Lines(name_without_space)),
     ("4 name length", Damage::Lines(name_length)),
     ("4 name byte", Damage::Lines(name_byte)),
     ("5 N rows", Damage::Lines(too_many_names)),
     ("5 rows", Damage::Lines(too_many_rows)),
+    ("5 modes", Damage::Lines(too_many_modes)),
     ("6 name number", Damage::Tables(name_past_its_table)),
     ("6 component row", Damage::Tables(component_past_its_table)),
     ("6 package row", Damage::Tables(package_past_its_table)),
@@ -85,6 +91,9 @@ const DAMAGES: &[(&str, Damage)] = &[
     ("6 holder kind", Damage::Tables(holder_kind_past_its_range)),
     ("6 direction", Damage::Tables(direction_past_its_range)),
     ("6 what", Damage::Tables(what_past_its_range)),
+    ("6 name of a mode", Damage::Tables(name_of_a_mode)),
+    ("6 owner of a mode", Damage::Tables(owner_of_a_mode)),
+    ("6 initial of a mode", Damage::Tables(initial_of_a_mode)),
     ("7 no component", Damage::Tables(no_component)),
     ("7 root has a parent", Damage::Tables(root_has_a_parent)),
     ("7 parent missing", Damage::Tables(parent_missing)),
@@ -289,6 +298,11 @@ fn every_letter(draft: &mut Draft) {
     }
     draft.place_components();
     draft.index_components();
+    for _ in 0..draft.random.range(2, 4) {
+        let name = draft.random.pick(&[one, other, position]);
+        let owner = draft.random.below(draft.sheet.components.len());
+        draft.mode(name, owner as u32);
+    }
     for &letter in ROW_LETTERS {
         if draft.sheet.rows(letter).is_empty() {
             draft.sheet.push(letter, &blank(letter));
@@ -345,6 +359,11 @@ fn some_row_line(random: &mut Random, lines: &[Line]) -> Option<usize> {
     })
 }
 
+/// The place of a line with this letter and something behind it, if there is one.
+fn some_line_of(random: &mut Random, lines: &[Line], letter: u8) -> Option<usize> {
+    some_line(random, lines, |line| line.len() > 1 && line[0] == letter)
+}
+
 /// The place of a line with a name still in it, if there is one.
 fn some_name_line(random: &mut Random, lines: &[Line]) -> Option<usize> {
     some_line(random, lines, |line| line.len() > 2 && line[0] == b'N')
@@ -391,6 +410,21 @@ fn letter_out_of_order(random: &mut Random, lines: &mut Vec<Line>) {
         line.pop();
     }
     lines.insert(late + 1, line);
+}
+
+/// Puts a mode before one of the renames, one that is there or one more.
+fn mode_before_a_rename(random: &mut Random, lines: &mut Vec<Line>) {
+    let (Some(mode), Some(rename)) = (
+        some_line_of(random, lines, b'M'),
+        some_line_of(random, lines, b'R'),
+    ) else {
+        return;
+    };
+    let line = match rename < mode && random.chance(50) {
+        true => lines.remove(mode),
+        false => lines[mode].clone(),
+    };
+    lines.insert(rename, line);
 }
 
 fn length_of_the_line(random: &mut Random, lines: &mut Vec<Line>) {
@@ -639,6 +673,21 @@ fn index_of_six_columns(random: &mut Random, lines: &mut Vec<Line>) {
     }
 }
 
+/// Cuts off the last field of a mode or more, or some of its characters.
+fn mode_too_short(random: &mut Random, lines: &mut Vec<Line>) {
+    let Some(place) = some_line_of(random, lines, b'M') else {
+        return;
+    };
+    let starts = mode::COLUMNS.iter().map(|column| column.characters().start);
+    let starts: Vec<usize> = starts.collect();
+    let line = &mut lines[place];
+    let length = match random.chance(60) {
+        true => random.pick(&starts),
+        false => random.range(1, line_length(b'M') - 1),
+    };
+    line.truncate(length);
+}
+
 fn name_without_space(random: &mut Random, lines: &mut Vec<Line>) {
     let Some(place) = some_name_line(random, lines) else {
         return;
@@ -690,9 +739,19 @@ fn too_many_names(random: &mut Random, lines: &mut Vec<Line>) {
 }
 
 fn too_many_rows(random: &mut Random, lines: &mut Vec<Line>) {
-    let Some(place) = some_row_line(random, lines) else {
-        return;
-    };
+    if let Some(place) = some_row_line(random, lines) {
+        too_many_like(random, lines, place);
+    }
+}
+
+fn too_many_modes(random: &mut Random, lines: &mut Vec<Line>) {
+    if let Some(place) = some_line_of(random, lines, b'M') {
+        too_many_like(random, lines, place);
+    }
+}
+
+/// Puts so many lines like this one in front of it that its letter has too many.
+fn too_many_like(random: &mut Random, lines: &mut Vec<Line>, place: usize) {
     let row = lines[place].clone();
     let rows = lines.iter().filter(|line| line.first() == row.first());
     let wanted = TABLE_ROWS + random.pick(&[1, 1, 2, 9]);
@@ -707,10 +766,10 @@ fn too_many_rows(random: &mut Random, lines: &mut Vec<Line>) {
 
 // Damages of the tables.
 
-/// Puts a number past its bound into a random field with such a meaning.
-fn past(draft: &mut Draft, wanted: impl Fn(Meaning) -> bool) {
+/// Puts a number past its bound into a random field with such a meaning, in a row of one of these letters.
+fn past(draft: &mut Draft, letters: &[u8], wanted: impl Fn(Meaning) -> bool) {
     let mut places = Vec::new();
-    for &letter in ROW_LETTERS {
+    for &letter in letters {
         for (row, fields) in draft.sheet.rows(letter).iter().enumerate() {
             for column in columns(letter) {
                 if wanted(column.meaning)
@@ -734,25 +793,26 @@ fn past(draft: &mut Draft, wanted: impl Fn(Meaning) -> bool) {
 }
 
 fn name_past_its_table(draft: &mut Draft) {
-    past(draft, |meaning| meaning == Meaning::Name);
+    past(draft, ROW_LETTERS, |meaning| meaning == Meaning::Name);
 }
 
 fn component_past_its_table(draft: &mut Draft) {
-    past(draft, |meaning| meaning == Meaning::Row(b'C'));
+    past(draft, ROW_LETTERS, |meaning| meaning == Meaning::Row(b'C'));
 }
 
 fn package_past_its_table(draft: &mut Draft) {
-    past(draft, |meaning| meaning == Meaning::Row(b'P'));
+    past(draft, ROW_LETTERS, |meaning| meaning == Meaning::Row(b'P'));
 }
 
 fn holder_past_its_table(draft: &mut Draft) {
-    past(draft, |meaning| meaning == Meaning::Holder);
+    past(draft, ROW_LETTERS, |meaning| meaning == Meaning::Holder);
 }
 
 /// The same for what the table of letters calls a kind, a flag and so on.
 fn past_its_range(draft: &mut Draft, word: &str) {
     past(
         draft,
+        ROW_LETTERS,
         |meaning| matches!(meaning, Meaning::Below(called, _) if called == word),
     );
 }
@@ -775,6 +835,20 @@ fn direction_past_its_range(draft: &mut Draft) {
 
 fn what_past_its_range(draft: &mut Draft) {
     past_its_range(draft, "what");
+}
+
+fn name_of_a_mode(draft: &mut Draft) {
+    past(draft, b"M", |meaning| meaning == Meaning::Name);
+}
+
+fn owner_of_a_mode(draft: &mut Draft) {
+    past(draft, b"M", |meaning| meaning == Meaning::Row(b'C'));
+}
+
+fn initial_of_a_mode(draft: &mut Draft) {
+    past(draft, b"M", |meaning| {
+        matches!(meaning, Meaning::Below("flag", _))
+    });
 }
 
 fn no_component(draft: &mut Draft) {

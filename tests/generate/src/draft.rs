@@ -3,7 +3,7 @@
 
 use oracle::letters::{
     Field, Reference, Sheet, component, component_type, connection, declared_feature, feature,
-    group_type, implementation, import, package, rename,
+    group_type, implementation, import, mode, package, rename,
 };
 use oracle::sheet::{NAME_ROWS, TABLE_ROWS};
 
@@ -17,6 +17,9 @@ pub const FEATURE_GROUP: u32 = 8;
 /// The kind of a feature group connection among the connection kinds.
 pub const GROUP_CONNECTION: u32 = 2;
 
+/// Makes another seed of a seed, which no sheet has.
+const MODES: u64 = u64::MAX / 3;
+
 /// What holds a declared feature.
 #[derive(Clone, Copy)]
 pub enum Holder {
@@ -26,6 +29,8 @@ pub enum Holder {
 
 pub struct Draft {
     pub random: Random,
+    /// The choices of modes, so that all else in a sheet is what it would be without them.
+    pub mode_random: Random,
     pub sheet: Sheet,
     /// Also names that the original's text form of a rename loses.
     pub wild: bool,
@@ -35,6 +40,7 @@ impl Draft {
     pub fn new(seed: u64, wild: bool) -> Self {
         Draft {
             random: Random::new(seed),
+            mode_random: Random::new(seed ^ MODES),
             sheet: Sheet::default(),
             wild,
         }
@@ -335,6 +341,18 @@ impl Draft {
                 (rename::ALIAS, alias),
                 (rename::ORIGINAL_PACKAGE, original[0]),
                 (rename::ORIGINAL_NAME, original[1]),
+            ]));
+        }
+    }
+
+    /// Adds a mode, which is an initial one or not.
+    pub fn mode(&mut self, name: Field, owner: u32) {
+        if self.sheet.modes.len() < TABLE_ROWS {
+            let initial = self.random.below(2) as u32;
+            self.sheet.modes.push(mode::row([
+                (mode::NAME, name),
+                (mode::OWNER, Some(owner)),
+                (mode::INITIAL, Some(initial)),
             ]));
         }
     }

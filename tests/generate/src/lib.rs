@@ -1,7 +1,7 @@
 //! Seeded sheets for comparing readers and listings: the same seed gives the
 //! same sheet, as long as the sheet has this form.
 //!
-//! Accepted sheets are dense in what the rules of document 01 are about;
+//! Accepted sheets are dense in what the rules of documents 01 and 02 are about;
 //! damaged sheets earn every refusal that a sheet can reach.
 
 mod accepted;
@@ -9,6 +9,7 @@ mod damaged;
 mod draft;
 mod groups;
 mod indices;
+mod modes;
 mod places;
 mod random;
 mod resolving;
@@ -24,6 +25,8 @@ pub enum Sort {
     Accepted,
     /// Accepted, with names that the original's text form of a rename loses.
     Wild,
+    /// Accepted, all of them with modes and little else.
+    Modal,
     /// Refused: most as sheets, some by their listings.
     Damaged,
 }
@@ -32,12 +35,16 @@ pub enum Sort {
 pub fn case(sort: Sort, seed: u64) -> Case {
     let (sheet, label) = match sort {
         Sort::Accepted => {
-            let (sheet, profile) = accepted::accepted(seed, false);
+            let (sheet, profile) = accepted::accepted(seed, sort);
             (sheet, format!("accepted {seed} {profile}"))
         }
         Sort::Wild => {
-            let (sheet, profile) = accepted::accepted(seed, true);
+            let (sheet, profile) = accepted::accepted(seed, sort);
             (sheet, format!("wild {seed} {profile}"))
+        }
+        Sort::Modal => {
+            let (sheet, profile) = accepted::accepted(seed, sort);
+            (sheet, format!("modal {seed} {profile}"))
         }
         Sort::Damaged => {
             let (sheet, damage) = damaged::damaged(seed);

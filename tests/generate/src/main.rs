@@ -7,11 +7,12 @@ use std::process::ExitCode;
 use generate::{Sort, case};
 
 const USAGE: &str = "\
-usage: generate FIRST COUNT [--damaged | --wild] [--stream | --out DIR]
+usage: generate FIRST COUNT [--damaged | --wild | --modal] [--stream | --out DIR]
 
 The sheets of the seeds FIRST, FIRST + 1, ..., COUNT of them.
   --damaged  sheets that earn a refusal
   --wild     accepted sheets with names that the original's text form of a rename loses
+  --modal    accepted sheets with modes and little else
   --stream   to standard output, as a stream of cases without texts (as without an option)
   --out DIR  each to a file of its own, DIR/SEED.sheet";
 
@@ -52,6 +53,7 @@ fn arguments() -> Option<Arguments> {
         match word.as_str() {
             "--damaged" => arguments.sort = Sort::Damaged,
             "--wild" => arguments.sort = Sort::Wild,
+            "--modal" => arguments.sort = Sort::Modal,
             "--stream" => arguments.directory = None,
             "--out" => arguments.directory = Some(words.next()?.into()),
             _ => return None,

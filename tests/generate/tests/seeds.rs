@@ -1,13 +1,16 @@
 //! Generated sheets are what they are said to be, the original answers them, and
 //! a seed gives the sheet that is stored of it.
 
+use std::collections::HashSet;
 use std::fs;
 
 use generate::{Sort, case};
-use oracle::letters::array_index;
+use oracle::letters::{Field, array_index, mode};
+use oracle::listing::refusal_line;
 use oracle::model::Renames;
+use oracle::modes::{self, Selection, Selections};
 use oracle::places;
-use oracle::sheet::Sheet;
+use oracle::sheet::{Sheet, TABLE_ROWS};
 use oracle::stream::{self, Case};
 use oracle::{NoAnswer, Options, conlist};
 
@@ -92,6 +95,82 @@ fn array_indices_are_of_every_length() {
     for ((kind, _), met) in KINDS.iter().zip(met) {
         assert!(50 * met >= seeds().count(), "{kind}: {met}");
     }
+}
+
+/// What is to be met among the modes of sheets.
+#[derive(Debug, Default)]
+struct Modal {
+    sheets: usize,
+    mixed: usize,
+    cut_at_the_last: usize,
+    cut_before_the_last: usize,
+    exactly_ten_thousand: usize,
+    equal_names: usize,
+    whole_tables: usize,
+}
+
+impl Modal {
+    fn of(sort: Sort) -> Modal {
+        let mut met = Modal::default();
+        for seed in seeds() {
+            let sheet = Sheet::accepted(&case(sort, seed).sheet).expect("accepted");
+            if !sheet.modes.is_empty() {
+                met.count(&sheet);
+            }
+        }
+        met
+    }
+
+    fn count(&mut self, sheet: &Sheet) {
+        let Selections { list, cut } = modes::run(sheet);
+        let owners: Vec<Field> = sheet.modes.iter().map(|row| row[mode::OWNER]).collect();
+        let modal: HashSet<&Field> = owners.iter().collect();
+        let Selection { rows, .. } = list.last().expect("a selection");
+        let at_the_last = rows.len() == modal.len();
+        let names: HashSet<&str> = list.iter().map(|own| own.name.as_str()).collect();
+        self.sheets += 1;
+        self.mixed += usize::from(!owners.is_sorted());
+        self.cut_at_the_last += usize::from(cut && at_the_last);
+        self.cut_before_the_last += usize::from(cut && !at_the_last);
+        self.exactly_ten_thousand += usize::from(!cut && list.len() == 10_000);
+        self.equal_names += usize::from(names.len() < list.len());
+        self.whole_tables += usize::from(sheet.modes.len() == TABLE_ROWS);
+    }
+}
+
+/// A third of the accepted sheets has modes, and each thing that there is to meet among them comes in one sheet of a hundred or more.
+#[test]
+fn modes_of_accepted_sheets() {
+    let met = Modal::of(Sort::Accepted);
+    let all = seeds().count();
+    assert!(all / 4 <= met.sheets && met.sheets <= all / 2, "{met:?}");
+    assert!(met.sheets / 2 <= met.mixed, "{met:?}");
+    for met_by in [
+        met.cut_at_the_last,
+        met.cut_before_the_last,
+        met.exactly_ten_thousand,
+        met.equal_names,
+        met.whole_tables,
+    ] {
+        assert!(100 * met_by >= all, "{met:?}");
+    }
+}
+
+/// All sheets that are made for their modes have some; a tenth is cut, and some joined names are too long for `mode`.
+#[test]
+fn modes_of_modal_sheets() {
+    let met = Modal::of(Sort::Modal);
+    let all = seeds().count();
+    assert_eq!(met.sheets, all);
+    let cut = met.cut_at_the_last + met.cut_before_the_last;
+    assert!(10 * cut >= all, "{met:?}");
+    let sheets = seeds().map(|seed| case(Sort::Modal, seed).sheet);
+    let too_long = sheets.filter(|sheet| {
+        let sheet = Sheet::accepted(sheet).expect("accepted");
+        let text = modes::selection_text(&sheet, 0, Options::default());
+        text == refusal_line(14)
+    });
+    assert!(100 * too_long.count() >= all);
 }
 
 #[test]

@@ -237,6 +237,12 @@ letters! {
         ORIGINAL_PACKAGE: needed(Name),
         ORIGINAL_NAME: optional(Name),
     }
+    /// M: modes.
+    b'M' mode in modes {
+        NAME: needed(Name),
+        OWNER: needed(Row(b'C')),
+        INITIAL: needed(Below("flag", 2)),
+    }
 }
 
 /// N: names. Its line has no columns; its row says where in the byte table a

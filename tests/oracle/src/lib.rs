@@ -1,15 +1,17 @@
-//! What `conlist` is to print for an accepted sheet, from the original Rust.
+//! What the programs are to print for an accepted sheet, from the original Rust.
 //!
-//! The rows, their order, the messages and path names are the original's own:
+//! Of `conlist` the rows, their order, the messages and path names are the original's own:
 //! `compute_semantic_connections`, then `expand_feature_group_connections`, on
 //! one instance. The four numbers of a diagnostic and the refusals 11 to 15 are
-//! not in the original; they are added here as document 01 says.
+//! not in the original; they are added here as document 01 says. Of `modes` and
+//! `mode` the selections are the original's `compute_soms`.
 
 pub mod endpoint;
 pub mod group;
 pub mod letters;
 pub mod listing;
 pub mod model;
+pub mod modes;
 pub mod places;
 pub mod resolve;
 pub mod sheet;

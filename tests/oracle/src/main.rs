@@ -8,11 +8,11 @@ use oracle::listing::put_numbers;
 use oracle::model::Renames;
 use oracle::resolve::{self, Found};
 use oracle::sheet::Sheet;
-use oracle::stream;
 use oracle::{NoAnswer, Options, conlist};
+use oracle::{modes, stream};
 
 const USAGE: &str = "\
-usage: oracle [--exact-renames] [--unlimited] [--visits | --expand | --resolve | --stream] < sheet
+usage: oracle [--exact-renames] [--unlimited] [--visits | --expand | --resolve | --modes | --mode NUMBER] [--stream] < sheet
 
 Without an option: what conlist is to print, by the original unchanged.
   --exact-renames  renames as pairs of names, not as the original's text Pkg::Type
@@ -22,6 +22,8 @@ Without an option: what conlist is to print, by the original unchanged.
   --resolve        W: asking package, a space and the letter of the reference, its row,
                    its place (0 extends, 1 inverse_of, 2 classifier or component type),
                    found (0 nothing, 1 T, 2 Q, 3 U), the row found
+  --modes          Z: how many selections of modes there are, and 1 where the list was cut
+  --mode NUMBER    M: the rows of the selection with this number; then `= ` and the joined name
   --stream         reads a stream of cases and writes it with the texts; without one
                    where the sheet is not accepted
 
@@ -36,11 +38,18 @@ enum Output {
     Visits,
     Expand,
     Resolve,
-    Stream,
+    Modes,
+    Mode(u64),
+}
+
+struct Arguments {
+    output: Output,
+    options: Options,
+    stream: bool,
 }
 
 fn main() -> ExitCode {
-    let Some((output, options)) = arguments() else {
+    let Some(arguments) = arguments() else {
         eprintln!("{USAGE}");
         return ExitCode::from(2);
     };
@@ -49,7 +58,11 @@ fn main() -> ExitCode {
         eprintln!("oracle: standard input: {error}");
         return ExitCode::from(2);
     }
-    match answer(output, options, &input) {
+    let answer = match arguments.stream {
+        true => answered_stream(&arguments, &input),
+        false => text(&arguments, &input).map(String::into_bytes),
+    };
+    match answer {
         Ok(text) => match io::stdout().write_all(&text) {
             Ok(()) => ExitCode::SUCCESS,
             Err(_) => ExitCode::FAILURE,
@@ -65,34 +78,41 @@ fn main() -> ExitCode {
     }
 }
 
-fn arguments() -> Option<(Output, Options)> {
-    let mut output = Output::Conlist;
-    let mut options = Options::default();
-    for argument in std::env::args().skip(1) {
-        match argument.as_str() {
-            "--exact-renames" => options.renames = Renames::Exact,
-            "--unlimited" => options.unlimited = true,
-            "--visits" => output = Output::Visits,
-            "--expand" => output = Output::Expand,
-            "--resolve" => output = Output::Resolve,
-            "--stream" => output = Output::Stream,
+fn arguments() -> Option<Arguments> {
+    let mut arguments = Arguments {
+        output: Output::Conlist,
+        options: Options::default(),
+        stream: false,
+    };
+    let mut words = std::env::args().skip(1);
+    while let Some(word) = words.next() {
+        match word.as_str() {
+            "--exact-renames" => arguments.options.renames = Renames::Exact,
+            "--unlimited" => arguments.options.unlimited = true,
+            "--visits" => arguments.output = Output::Visits,
+            "--expand" => arguments.output = Output::Expand,
+            "--resolve" => arguments.output = Output::Resolve,
+            "--modes" => arguments.output = Output::Modes,
+            "--mode" => arguments.output = Output::Mode(words.next()?.parse().ok()?),
+            "--stream" => arguments.stream = true,
             _ => return None,
         }
     }
-    Some((output, options))
+    Some(arguments)
 }
 
-fn answer(output: Output, options: Options, input: &[u8]) -> Result<Vec<u8>, NoAnswer> {
+/// The answer for one sheet.
+fn text(arguments: &Arguments, input: &[u8]) -> Result<String, NoAnswer> {
     let sheet = || Sheet::accepted(input).ok_or(NoAnswer::NotAccepted);
-    let renames = options.renames;
-    let text = match output {
-        Output::Conlist => conlist(input, options)?,
-        Output::Visits => visits(&sheet()?, renames)?,
-        Output::Expand => expansions(&sheet()?, renames)?,
-        Output::Resolve => resolutions(&sheet()?, renames),
-        Output::Stream => return answered_stream(input, options),
-    };
-    Ok(text.into_bytes())
+    let options = arguments.options;
+    match arguments.output {
+        Output::Conlist => conlist(input, options),
+        Output::Visits => visits(&sheet()?, options.renames),
+        Output::Expand => expansions(&sheet()?, options.renames),
+        Output::Resolve => Ok(resolutions(&sheet()?, options.renames)),
+        Output::Modes => Ok(modes::count_text(&sheet()?)),
+        Output::Mode(number) => Ok(modes::selection_text(&sheet()?, number, options)),
+    }
 }
 
 fn visits(sheet: &Sheet, renames: Renames) -> Result<String, NoAnswer> {
@@ -141,14 +161,14 @@ fn resolutions(sheet: &Sheet, renames: Renames) -> String {
     text
 }
 
-fn answered_stream(input: &[u8], options: Options) -> Result<Vec<u8>, NoAnswer> {
+fn answered_stream(arguments: &Arguments, input: &[u8]) -> Result<Vec<u8>, NoAnswer> {
     let cases = stream::read(input).map_err(|error| {
         eprintln!("oracle: {error}");
         NoAnswer::NotAccepted
     })?;
     let mut output = Vec::new();
     for mut case in cases {
-        case.text = match conlist(&case.sheet, options) {
+        case.text = match text(arguments, &case.sheet) {
             Ok(text) => text.into_bytes(),
             Err(NoAnswer::NotAccepted) => Vec::new(),
             Err(NoAnswer::NotEnding) => return Err(NoAnswer::NotEnding),

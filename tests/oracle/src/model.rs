@@ -1,6 +1,6 @@
 //! The original's instance and scope, built from the tables of a sheet.
 //!
-//! A feature, connection or import list is all rows that name the owner,
+//! A feature, connection, mode or import list is all rows that name the owner,
 //! ascending; a child list has them in the order of their places. There is one
 //! item tree, so an arena index is a row.
 
@@ -8,7 +8,8 @@ use std::sync::Arc;
 
 use la_arena::{Arena, Idx, RawIdx};
 use spar_hir_def::instance::{
-    ComponentInstance, ConnectionEnd, ConnectionInstance, FeatureInstance, SystemInstance,
+    ComponentInstance, ConnectionEnd, ConnectionInstance, FeatureInstance, ModeInstance,
+    SystemInstance,
 };
 use spar_hir_def::item_tree::{
     ComponentCategory, ComponentImplItem, ComponentTypeItem, ConnectionKind, Direction, Feature,
@@ -21,7 +22,7 @@ use spar_hir_def::resolver::{CiName, GlobalScope};
 
 use crate::letters::{
     Field, Reference, Sheet, array_index, component, component_type, connection, declared_feature,
-    ends, feature, group_type, implementation, import, package, reference, rename,
+    ends, feature, group_type, implementation, import, mode, package, reference, rename,
 };
 
 /// How the renames of classifiers and feature groups come into the scope.
@@ -298,7 +299,7 @@ fn put_exact_renames(scope: &mut GlobalScope, sheet: &Sheet) {
     }
 }
 
-/// The instance of the C, F and X rows.
+/// The instance of the C, F, X and M rows.
 pub fn instance(sheet: &Sheet) -> SystemInstance {
     instance_with(sheet, |_| true)
 }
@@ -342,6 +343,13 @@ fn instance_with(sheet: &Sheet, keep: impl Fn(usize) -> bool) -> SystemInstance 
             src: connection_end(sheet, src, src_feature),
             dst: connection_end(sheet, dst, dst_feature),
             in_modes: vec![],
+        });
+    }
+    for fields in &sheet.modes {
+        instance.mode_instances.alloc(ModeInstance {
+            name: name(sheet, fields[mode::NAME]),
+            is_initial: fields[mode::INITIAL] == Some(1),
+            owner: index(fields[mode::OWNER].expect("an owner")),
         });
     }
     instance
@@ -390,7 +398,7 @@ fn add_component(
         features: rows_where(&sheet.features, |other| other[feature::OWNER] == own),
         connections: rows_where(connections, |other| other[connection::OWNER] == own),
         flows: vec![],
-        modes: vec![],
+        modes: rows_where(&sheet.modes, |other| other[mode::OWNER] == own),
         mode_transitions: vec![],
         array_index: array_index(fields),
         in_modes: vec![],

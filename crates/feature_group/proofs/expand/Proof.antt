@@ -31,10 +31,10 @@ enum-known-reason c = search needs
 
 -- places: the way back from where an answer stands to what it uses
 abbrev Start·returns : tie.After-known-told → tie.Start
-Start·returns c = c .before .before .before .before .before .before .before .before .before .before .before .before .before .before .before .before .before
+Start·returns c = c .before .before .before .before .before .before .before .before .before .before .before .before .before .before .before .before .before .before
 
 abbrev Start·link-groups-requires : tie.After-inverses → tie.Start
-Start·link-groups-requires c = c .before .before .before .before .before .before .before .before .before .before .before .before .before .before .before .before .before .before .before
+Start·link-groups-requires c = c .before .before .before .before .before .before .before .before .before .before .before .before .before .before .before .before .before .before .before .before
 
 abbrev Start·link-requires : tie.After-inverses2 → tie.Start
 Start·link-requires c = Start·link-groups-requires (c .before .before .before .before)
@@ -50,7 +50,7 @@ Start·returns-2 c = Start·link-requires (c .before .before .before .before .be
 returns : tie.Need-returns
 returns c =
     let a = Start·returns c .args in
-    let m = tablesOf (a .bytes .now) (a .n .now) (a .c .now) (a .f .now) (a .x .now) (a .p .now) (a .i .now) (a .t .now) (a .q .now) (a .u .now) (a .e .now) (a .r .now) in
+    let m = tablesOf (a .bytes .now) (a .n .now) (a .c .now) (a .f .now) (a .x .now) (a .p .now) (a .i .now) (a .t .now) (a .q .now) (a .u .now) (a .e .now) (a .r .now) (a .m .now) in
     tables-refused m (a .from) (a .type-name) (a .inverse) (a .out .now) _ _ (c .before .before .before .check-tables .ensures) (c .before .reason .given .1) _
 
 enum-told : tie.Need-enum-told
@@ -68,13 +68,13 @@ slice-aggregate-link-groups-3 c = search needs
 link-groups-requires : tie.Need-link-groups-requires
 link-groups-requires c κs =
     let a = Start·link-groups-requires c .args in
-    let m = tablesOf (a .bytes .now) (a .n .now) (a .c .now) (a .f .now) (a .x .now) (a .p .now) (a .i .now) (a .t .now) (a .q .now) (a .u .now) (a .e .now) (a .r .now) in
+    let m = tablesOf (a .bytes .now) (a .n .now) (a .c .now) (a .f .now) (a .x .now) (a .p .now) (a .i .now) (a .t .now) (a .q .now) (a .u .now) (a .e .now) (a .r .now) (a .m .now) in
     facts m (accepted-is m _ (c .before .before .before .before .before .check-tables .ensures) (c .before .before .before .enum-told .given .1)) .few letterU
 
 link-requires : tie.Need-link-requires
 link-requires c κs =
     let a = Start·link-requires c .args in
-    let m = tablesOf (a .bytes .now) (a .n .now) (a .c .now) (a .f .now) (a .x .now) (a .p .now) (a .i .now) (a .t .now) (a .q .now) (a .u .now) (a .e .now) (a .r .now) in
+    let m = tablesOf (a .bytes .now) (a .n .now) (a .c .now) (a .f .now) (a .x .now) (a .p .now) (a .i .now) (a .t .now) (a .q .now) (a .u .now) (a .e .now) (a .r .now) (a .m .now) in
     let ok = accepted-is m _ (c .before .before .before .before .before .before .before .before .before .check-tables .ensures) (c .before .before .before .before .before .before .before .enum-told .given .1) in
     facts m ok .few letterU
 
@@ -96,7 +96,7 @@ same-length c = search needs
 returns-2 : tie.Need-returns-2
 returns-2 c =
     let a = Start·returns-2 c .args in
-    let m = tablesOf (a .bytes .now) (a .n .now) (a .c .now) (a .f .now) (a .x .now) (a .p .now) (a .i .now) (a .t .now) (a .q .now) (a .u .now) (a .e .now) (a .r .now) in
+    let m = tablesOf (a .bytes .now) (a .n .now) (a .c .now) (a .f .now) (a .x .now) (a .p .now) (a .i .now) (a .t .now) (a .q .now) (a .u .now) (a .e .now) (a .r .now) (a .m .now) in
     let ok = accepted-is m _ (check-tables·returns-2 c .check-tables .ensures) (c .before .before .before .before .before .before .before .before .before .before .before .before .before .before .before .enum-told .given .1) in
     let g = c .before .before .before .before .before .before .before .before .before .before .before .link-groups in
     let l = g .last .1 .1 .1 .1 .1 .1 .1 .1 .1 in

@@ -30,10 +30,10 @@ abbrev clear·returns : tie.After-known-told → tie.After-clear
 clear·returns c = c .before .before .before .before .before .before .before .before .before .before
 
 abbrev Start·returns : tie.After-known-told → tie.Start
-Start·returns c = clear·returns c .before .before .before .before .before .before .before .before .before .before .before .before .before .before .before .before .before .before .before
+Start·returns c = clear·returns c .before .before .before .before .before .before .before .before .before .before .before .before .before .before .before .before .before .before .before .before
 
 abbrev Start·list-accepted-requires : tie.After-list-accepted-arg3 → tie.Start
-Start·list-accepted-requires c = c .before .before .before .before .before .before .before .before .before .before .before .before .before .before .before .before .before .before .before .before .before .before .before .before .before .before .before .before .before .before .before
+Start·list-accepted-requires c = c .before .before .before .before .before .before .before .before .before .before .before .before .before .before .before .before .before .before .before .before .before .before .before .before .before .before .before .before .before .before .before .before
 
 abbrev list-accepted·returns-2 : tie.After-enum-told2 → tie.After-list-accepted
 list-accepted·returns-2 c = c .before .before .before .before .before .before .before .before
@@ -60,14 +60,14 @@ abbrev clear·returns-3 : tie.After-slice-known12 → tie.After-clear
 clear·returns-3 c = check-tables·returns-3 c .before .before .before .before .before .before .before
 
 abbrev Start·returns-3 : tie.After-slice-known12 → tie.Start
-Start·returns-3 c = clear·returns-3 c .before .before .before .before .before .before .before .before .before .before .before .before .before .before .before .before .before .before .before
+Start·returns-3 c = Start·list-accepted-requires (c .before .before .before .before .before .before .before .before .before .before .before .before .before .before .before .before .before .before .before)
 
 -- end of places
 
 returns : tie.Need-returns
 returns c =
     let a = Start·returns c .args in
-    let m = tablesOf (a .bytes .now) (a .n .now) (a .c .now) (a .f .now) (a .x .now) (a .p .now) (a .i .now) (a .t .now) (a .q .now) (a .u .now) (a .e .now) (a .r .now) in
+    let m = tablesOf (a .bytes .now) (a .n .now) (a .c .now) (a .f .now) (a .x .now) (a .p .now) (a .i .now) (a .t .now) (a .q .now) (a .u .now) (a .e .now) (a .r .now) (a .m .now) in
     tables-refused m (a .rows .now) (a .names .now) (a .diagnostics .now) _ _ _ (clear·returns c .clear .ensures .0) (clear·returns c .clear .ensures .1 .0) (clear·returns c .clear .ensures .1 .1) _ _ (c .before .before .before .check-tables .ensures) (c .before .reason .given .1)
 
 enum-told : tie.Need-enum-told
@@ -76,7 +76,7 @@ enum-told c = search needs
 list-accepted-requires : tie.Need-list-accepted-requires
 list-accepted-requires c κs =
     let a = Start·list-accepted-requires c .args in
-    let m = tablesOf (a .bytes .now) (a .n .now) (a .c .now) (a .f .now) (a .x .now) (a .p .now) (a .i .now) (a .t .now) (a .q .now) (a .u .now) (a .e .now) (a .r .now) in
+    let m = tablesOf (a .bytes .now) (a .n .now) (a .c .now) (a .f .now) (a .x .now) (a .p .now) (a .i .now) (a .t .now) (a .q .now) (a .u .now) (a .e .now) (a .r .now) (a .m .now) in
     record { ok = accepted-is m _ (c .before .before .before .before .before .check-tables .ensures) (c .before .before .before .enum-told .given .1) }
 
 enum-told-2 : tie.Need-enum-told-2
@@ -100,14 +100,14 @@ same-length-6 c = search needs
 returns-2 : tie.Need-returns-2
 returns-2 c =
     let a = Start·returns-2 c .args in
-    let m = tablesOf (a .bytes .now) (a .n .now) (a .c .now) (a .f .now) (a .x .now) (a .p .now) (a .i .now) (a .t .now) (a .q .now) (a .u .now) (a .e .now) (a .r .now) in
+    let m = tablesOf (a .bytes .now) (a .n .now) (a .c .now) (a .f .now) (a .x .now) (a .p .now) (a .i .now) (a .t .now) (a .q .now) (a .u .now) (a .e .now) (a .r .now) (a .m .now) in
     let z = clear·returns-2 c .clear in
     let w = list-accepted·returns-2 c .list-accepted in
-    let l = w .last .1 .1 .1 .1 .1 .1 .1 .1 .1 .1 .1 .1 in
+    let l = w .last .1 .1 .1 .1 .1 .1 .1 .1 .1 .1 .1 .1 .1 in
     given-call m (a .rows .now) (a .names .now) (a .diagnostics .now) (z .last .0) (z .last .1 .0) (z .last .1 .1 .0) (z .ensures .0) (z .ensures .1 .0) (z .ensures .1 .1) (accepted-is m _ (c .before .before .before .before .before .before .before .before .before .before .before .before .before .before .check-tables .ensures) (c .before .before .before .before .before .before .before .before .before .before .before .before .enum-told .given .1)) (w .result) (w .ensures .0) (l .0) (l .1 .0) (l .1 .1 .0) _ _ (c .enum-told2 .given .1) (w .ensures .1 .0) (w .ensures .1 .1 .0) (w .ensures .1 .1 .1 .0)
 
 same-length-7 : tie.Need-same-length-7
-same-length-7 c = clear2·returns-3 c .clear2 .kept .0 ∙ list-accepted·returns-3 c .list-accepted .kept .1 .1 .1 .1 .1 .1 .1 .1 .1 .1 .1 .1 .0 ∙ clear·returns-3 c .clear .kept .0
+same-length-7 c = clear2·returns-3 c .clear2 .kept .0 ∙ list-accepted·returns-3 c .list-accepted .kept .1 .1 .1 .1 .1 .1 .1 .1 .1 .1 .1 .1 .1 .0 ∙ clear·returns-3 c .clear .kept .0
 
 same-length-8 : tie.Need-same-length-8
 same-length-8 c = search needs
@@ -118,11 +118,11 @@ same-length-9 c = search needs
 returns-3 : tie.Need-returns-3
 returns-3 c =
     let a = Start·returns-3 c .args in
-    let m = tablesOf (a .bytes .now) (a .n .now) (a .c .now) (a .f .now) (a .x .now) (a .p .now) (a .i .now) (a .t .now) (a .q .now) (a .u .now) (a .e .now) (a .r .now) in
+    let m = tablesOf (a .bytes .now) (a .n .now) (a .c .now) (a .f .now) (a .x .now) (a .p .now) (a .i .now) (a .t .now) (a .q .now) (a .u .now) (a .e .now) (a .r .now) (a .m .now) in
     let z = clear·returns-3 c .clear in
     let w = list-accepted·returns-3 c .list-accepted in
-    let l = w .last .1 .1 .1 .1 .1 .1 .1 .1 .1 .1 .1 .1 in
-    let s = w .kept .1 .1 .1 .1 .1 .1 .1 .1 .1 .1 .1 .1 in
+    let l = w .last .1 .1 .1 .1 .1 .1 .1 .1 .1 .1 .1 .1 .1 in
+    let s = w .kept .1 .1 .1 .1 .1 .1 .1 .1 .1 .1 .1 .1 .1 in
     let y = clear2·returns-3 c .clear2 in
     refused-call m (a .rows .now) (a .names .now) (a .diagnostics .now) (z .last .0) (z .last .1 .0) (z .last .1 .1 .0) (z .ensures .0) (z .ensures .1 .0) (z .ensures .1 .1) (accepted-is m _ (check-tables·returns-3 c .check-tables .ensures) (enum-told·returns-3 c .enum-told .given .1)) (w .result) (w .ensures .0) (l .0) (l .1 .0) (l .1 .1 .0) _ (c .before .before .before .before .before .before .before .before .before .before .enum-told3 .given .1) (s .0) (s .1 .0) (s .1 .1 .0) (y .last .0) (y .last .1 .0) (y .last .1 .1 .0) (y .ensures .0) (y .ensures .1 .0) (y .ensures .1 .1)
 

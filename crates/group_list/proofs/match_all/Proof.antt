@@ -9,7 +9,7 @@ use Rattle.group_list.proofs.match_all.Tie as tie
 
 match-small-requires : tie.Need-match-small-requires
 match-small-requires c κs =
-    let s = c .before .before .before .before .before .before .before .before .before .before .before .before .before .before .before .before .before .before .before in
+    let s = c .before .before .before .before .before .before .before .before .before .before .before .before .before .before .before .before .before .before .before .before in
     (s .pre, (c .before .before .before .before .if1 .taken, leb-true (length (s .args .u .now) / width letterU) 96 (c .before .before .before .if2 .taken), leb-true (length (s .args .e .now) / width letterE) 96 (c .before .before .if3 .taken)))
 
 same-length : tie.Need-same-length

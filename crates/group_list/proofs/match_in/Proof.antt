@@ -21,7 +21,7 @@ CL = (link-groups-reads.Asked, link-groups-reads.Learnt, match-connections-reads
 abbrev model : lts.Start CL reads.Pre reads.Post → Tables
 model s =
     tablesOf (s .args .bytes .now) (s .args .n .now) (s .args .c .now) (s .args .f .now) (s .args .x .now) (s .args .p .now) (s .args .i .now) (s .args .t .now)
-    (s .args .q .now) (s .args .u .now) (s .args .e .now) (s .args .r .now)
+    (s .args .q .now) (s .args .u .now) (s .args .e .now) (s .args .r .now) (s .args .m .now)
 
 -- each row has a place for its link
 links-fit : (s : lts.Start CL reads.Pre reads.Post) → LinksFit (s .args .u .now) (s .args .e .now) (s .args .nested .now) (s .args .extends .now) (s .args .inverse .now)
@@ -31,7 +31,7 @@ links-fit s =
 
 -- places: the way back from where an answer stands to what it uses
 abbrev Start·link-groups-requires : tie.After-link-groups-arg3 → tie.Start
-Start·link-groups-requires c = c .before .before .before .before .before .before .before .before .before .before .before .before .before .before .before .before .before .before .before .before .before .before .before
+Start·link-groups-requires c = c .before .before .before .before .before .before .before .before .before .before .before .before .before .before .before .before .before .before .before .before .before .before .before .before
 
 abbrev Start·mul-places : tie.After-slice-known11 → tie.Start
 Start·mul-places c = Start·link-groups-requires (c .before .before .before .before .before .before .before)

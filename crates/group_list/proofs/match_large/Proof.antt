@@ -16,7 +16,7 @@ CL = (match-in-reads.Asked, match-in-reads.Learnt)
 abbrev model : lts.Start CL reads.Pre reads.Post → Tables
 model s =
     tablesOf (s .args .bytes .now) (s .args .n .now) (s .args .c .now) (s .args .f .now) (s .args .x .now) (s .args .p .now) (s .args .i .now) (s .args .t .now)
-    (s .args .q .now) (s .args .u .now) (s .args .e .now) (s .args .r .now)
+    (s .args .q .now) (s .args .u .now) (s .args .e .now) (s .args .r .now) (s .args .m .now)
 
 slice-aggregate-match-in : tie.Need-slice-aggregate-match-in
 slice-aggregate-match-in c = search needs
@@ -38,7 +38,7 @@ slice-aggregate-match-in-6 c = search needs
 
 match-in-requires : tie.Need-match-in-requires
 match-in-requires c κs =
-    let s = c .before .before .before .before .before .before .before .before .before .before .before .before .before .before .before .before .before .before .before .before .before .before in
+    let s = c .before .before .before .before .before .before .before .before .before .before .before .before .before .before .before .before .before .before .before .before .before .before .before in
     let few = facts (model s) (s .pre) .few in
     record {
       ok = s .pre;

@@ -24,7 +24,7 @@ slice-aggregate-match-in-6 c = search needs
 
 match-in-requires : tie.Need-match-in-requires
 match-in-requires c κs =
-    let s = c .before .before .before .before .before .before .before .before .before .before .before .before .before .before .before .before .before .before .before .before .before .before in
+    let s = c .before .before .before .before .before .before .before .before .before .before .before .before .before .before .before .before .before .before .before .before .before .before .before in
     let few = s .pre .1 in
     record { ok = s .pre .0; fits-nested = few .2; fits-extends = few .1; fits-inverse = few .1; names = few .0; room = omega arith; levels = omega (arith, few .1) }
 

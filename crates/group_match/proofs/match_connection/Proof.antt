@@ -36,7 +36,7 @@ CL = (
 abbrev model : lts.Start CL reads.Pre reads.Post → Tables
 model s =
     tablesOf (s .args .bytes .now) (s .args .n .now) (s .args .c .now) (s .args .f .now) (s .args .x .now) (s .args .p .now) (s .args .i .now) (s .args .t .now)
-    (s .args .q .now) (s .args .u .now) (s .args .e .now) (s .args .r .now)
+    (s .args .q .now) (s .args .u .now) (s .args .e .now) (s .args .r .now) (s .args .m .now)
 
 -- the tables of links
 abbrev groups : lts.Start CL reads.Pre reads.Post → Groups
@@ -47,16 +47,16 @@ is-group-connection-requires c κs = tt
 
 -- places: the way back from where an answer stands to what it uses
 abbrev Start·returns : tie.Then1 → tie.Start
-Start·returns c = c .before .before .before .before .before .before .before .before .before .before .before .before .before .before .before .before .before .before .before .before .before .before
+Start·returns c = c .before .before .before .before .before .before .before .before .before .before .before .before .before .before .before .before .before .before .before .before .before .before .before
 
 abbrev Start·returns-2 : tie.After-enum-told → tie.Start
-Start·returns-2 c = c .before .before .before .before .before .before .before .before .before .before .before .before .before .before .before .before .before .before .before .before .before .before .before .before .before
+Start·returns-2 c = c .before .before .before .before .before .before .before .before .before .before .before .before .before .before .before .before .before .before .before .before .before .before .before .before .before .before
 
 abbrev Start·returns-3 : tie.After-enum-told2 → tie.Start
-Start·returns-3 c = c .before .before .before .before .before .before .before .before .before .before .before .before .before .before .before .before .before .before .before .before .before .before .before .before .before .before .before .before .before
+Start·returns-3 c = c .before .before .before .before .before .before .before .before .before .before .before .before .before .before .before .before .before .before .before .before .before .before .before .before .before .before .before .before .before .before
 
 abbrev Start·feature-of-requires : tie.After-known-told2 → tie.Start
-Start·feature-of-requires c = c .before .before .before .before .before .before .before .before .before .before .before .before .before .before .before .before .before .before .before .before .before .before .before .before .before .before .before .before .before .before
+Start·feature-of-requires c = c .before .before .before .before .before .before .before .before .before .before .before .before .before .before .before .before .before .before .before .before .before .before .before .before .before .before .before .before .before .before .before
 
 abbrev Start·group-link-requires : tie.After-feature-of → tie.Start
 Start·group-link-requires c = Start·feature-of-requires (c .before)

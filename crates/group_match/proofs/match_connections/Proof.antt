@@ -11,18 +11,18 @@ use Rattle.group_match.proofs.match_connections.Statement.{statement}
 use Rattle.group_match.proofs.match_connections.Tie as tie
 
 abbrev Inv-loop : tie.InvT-loop
-Inv-loop bytes n c f x p i t q u e r nested extends inverses kept₀ memo₀ calm₀ rows₀ notes₀ count tally₀ row₀ kept memo calm rows notes tally row =
-    (length kept ≡ length kept₀) × (length memo ≡ length memo₀) × (length calm ≡ length calm₀) × Goes (tablesOf bytes n c f x p i t q u e r) rows₀ notes₀ rows notes tally row
+Inv-loop bytes n c f x p i t q u e r m nested extends inverses kept₀ memo₀ calm₀ rows₀ notes₀ count tally₀ row₀ kept memo calm rows notes tally row =
+    (length kept ≡ length kept₀) × (length memo ≡ length memo₀) × (length calm ≡ length calm₀) × Goes (tablesOf bytes n c f x p i t q u e r m) rows₀ notes₀ rows notes tally row
 
 abbrev μ-loop : tie.MeasureT-loop
-μ-loop bytes n c f x p i t q u e r nested extends inverses kept₀ memo₀ calm₀ rows₀ notes₀ count tally₀ row₀ kept memo calm rows notes tally row = count - row
+μ-loop bytes n c f x p i t q u e r m nested extends inverses kept₀ memo₀ calm₀ rows₀ notes₀ count tally₀ row₀ kept memo calm rows notes tally row = count - row
 
 loop-holds : tie.Need-loop-holds Inv-loop μ-loop
 loop-holds c = (refl, refl, refl, goes-start _ _ _)
 
 -- places: the way back from where an answer stands to what it uses
 abbrev Start·match-connection-requires : tie.After-match-connection-arg5 Inv-loop μ-loop → tie.Start Inv-loop μ-loop
-Start·match-connection-requires c = c .before .before .before .before .before .before .before .before .before .before .before .before .before .before .before .before .before .before .before .before .before .before .before .before .before .before .before
+Start·match-connection-requires c = c .before .before .before .before .before .before .before .before .before .before .before .before .before .before .before .before .before .before .before .before .before .before .before .before .before .before .before .before
 
 abbrev match-connection·returns : tie.After-enum-told Inv-loop μ-loop → tie.After-match-connection Inv-loop μ-loop
 match-connection·returns c = c .before .before .before .before .before .before .before .before .before .before .before .before
@@ -54,25 +54,25 @@ enum-told : tie.Need-enum-told Inv-loop μ-loop
 enum-told c = search needs
 
 same-length : tie.Need-same-length Inv-loop μ-loop
-same-length c = match-connection·returns c .match-connection .kept .1 .1 .1 .1 .1 .1 .1 .1 .1 .1 .1 .1 .1 .1 .1 .0 ∙ At-loop·returns c .loop .inv .0
+same-length c = match-connection·returns c .match-connection .kept .1 .1 .1 .1 .1 .1 .1 .1 .1 .1 .1 .1 .1 .1 .1 .1 .0 ∙ At-loop·returns c .loop .inv .0
 
 same-length-2 : tie.Need-same-length-2 Inv-loop μ-loop
-same-length-2 c = match-connection·returns c .match-connection .kept .1 .1 .1 .1 .1 .1 .1 .1 .1 .1 .1 .1 .1 .1 .1 .1 .0 ∙ At-loop·returns c .loop .inv .1
+same-length-2 c = match-connection·returns c .match-connection .kept .1 .1 .1 .1 .1 .1 .1 .1 .1 .1 .1 .1 .1 .1 .1 .1 .1 .0 ∙ At-loop·returns c .loop .inv .1
 
 same-length-3 : tie.Need-same-length-3 Inv-loop μ-loop
-same-length-3 c = match-connection·returns c .match-connection .kept .1 .1 .1 .1 .1 .1 .1 .1 .1 .1 .1 .1 .1 .1 .1 .1 .1 .0 ∙ At-loop·returns c .loop .inv .2
+same-length-3 c = match-connection·returns c .match-connection .kept .1 .1 .1 .1 .1 .1 .1 .1 .1 .1 .1 .1 .1 .1 .1 .1 .1 .1 .0 ∙ At-loop·returns c .loop .inv .2
 
 same-length-4 : tie.Need-same-length-4 Inv-loop μ-loop
-same-length-4 c = match-connection·returns c .match-connection .kept .1 .1 .1 .1 .1 .1 .1 .1 .1 .1 .1 .1 .1 .1 .1 .1 .1 .1 .0 ∙ At-loop·returns c .loop .inv .3 .rows-size
+same-length-4 c = match-connection·returns c .match-connection .kept .1 .1 .1 .1 .1 .1 .1 .1 .1 .1 .1 .1 .1 .1 .1 .1 .1 .1 .1 .0 ∙ At-loop·returns c .loop .inv .3 .rows-size
 
 same-length-5 : tie.Need-same-length-5 Inv-loop μ-loop
-same-length-5 c = match-connection·returns c .match-connection .kept .1 .1 .1 .1 .1 .1 .1 .1 .1 .1 .1 .1 .1 .1 .1 .1 .1 .1 .1 .0 ∙ At-loop·returns c .loop .inv .3 .notes-size
+same-length-5 c = match-connection·returns c .match-connection .kept .1 .1 .1 .1 .1 .1 .1 .1 .1 .1 .1 .1 .1 .1 .1 .1 .1 .1 .1 .1 .0 ∙ At-loop·returns c .loop .inv .3 .notes-size
 
 returns : tie.Need-returns Inv-loop μ-loop
 unfolding listsOf
 returns c =
     let r = match-connection·returns c .match-connection in
-    goes-over _ _ _ _ _ _ _ (At-loop·returns c .loop .inv .3) (In-loop·returns c .loop-test .taken) (r .result) (r .last .1 .1 .1 .1 .1 .1 .1 .1 .1 .1 .1 .1 .1 .1 .1 .1 .1 .1 .0) (r .last .1 .1 .1 .1 .1 .1 .1 .1 .1 .1 .1 .1 .1 .1 .1 .1 .1 .1 .1 .0) (r .ensures) (c .enum-told .given .1)
+    goes-over _ _ _ _ _ _ _ (At-loop·returns c .loop .inv .3) (In-loop·returns c .loop-test .taken) (r .result) (r .last .1 .1 .1 .1 .1 .1 .1 .1 .1 .1 .1 .1 .1 .1 .1 .1 .1 .1 .1 .0) (r .last .1 .1 .1 .1 .1 .1 .1 .1 .1 .1 .1 .1 .1 .1 .1 .1 .1 .1 .1 .1 .0) (r .ensures) (c .enum-told .given .1)
 
 enum-known-then : tie.Need-enum-known-then Inv-loop μ-loop
 enum-known-then c = search needs
@@ -88,10 +88,10 @@ loop-again c =
     let g = At-loop·loop-again c .loop in
     let r = c .before .before .before .before .before .before .before .before .before .before .before .before .before .match-connection in
     let t = c .before .then .given in (
-      _∙_ {b = length (g .kept)} (r .kept .1 .1 .1 .1 .1 .1 .1 .1 .1 .1 .1 .1 .1 .1 .1 .0) (g .inv .0),
-      _∙_ {b = length (g .memo)} (r .kept .1 .1 .1 .1 .1 .1 .1 .1 .1 .1 .1 .1 .1 .1 .1 .1 .0) (g .inv .1),
-      _∙_ {b = length (g .calm)} (r .kept .1 .1 .1 .1 .1 .1 .1 .1 .1 .1 .1 .1 .1 .1 .1 .1 .1 .0) (g .inv .2),
-      goes-turn _ _ _ _ _ _ _ (g .inv .3) (In-loop·loop-again c .loop-test .taken) (r .result) (r .last .1 .1 .1 .1 .1 .1 .1 .1 .1 .1 .1 .1 .1 .1 .1 .1 .1 .1 .0) (r .last .1 .1 .1 .1 .1 .1 .1 .1 .1 .1 .1 .1 .1 .1 .1 .1 .1 .1 .1 .0) (r .ensures) (t .0 .0) (t .1) (r .kept .1 .1 .1 .1 .1 .1 .1 .1 .1 .1 .1 .1 .1 .1 .1 .1 .1 .1 .0) (r .kept .1 .1 .1 .1 .1 .1 .1 .1 .1 .1 .1 .1 .1 .1 .1 .1 .1 .1 .1 .0),
+      _∙_ {b = length (g .kept)} (r .kept .1 .1 .1 .1 .1 .1 .1 .1 .1 .1 .1 .1 .1 .1 .1 .1 .0) (g .inv .0),
+      _∙_ {b = length (g .memo)} (r .kept .1 .1 .1 .1 .1 .1 .1 .1 .1 .1 .1 .1 .1 .1 .1 .1 .1 .0) (g .inv .1),
+      _∙_ {b = length (g .calm)} (r .kept .1 .1 .1 .1 .1 .1 .1 .1 .1 .1 .1 .1 .1 .1 .1 .1 .1 .1 .0) (g .inv .2),
+      goes-turn _ _ _ _ _ _ _ (g .inv .3) (In-loop·loop-again c .loop-test .taken) (r .result) (r .last .1 .1 .1 .1 .1 .1 .1 .1 .1 .1 .1 .1 .1 .1 .1 .1 .1 .1 .1 .0) (r .last .1 .1 .1 .1 .1 .1 .1 .1 .1 .1 .1 .1 .1 .1 .1 .1 .1 .1 .1 .1 .0) (r .ensures) (t .0 .0) (t .1) (r .kept .1 .1 .1 .1 .1 .1 .1 .1 .1 .1 .1 .1 .1 .1 .1 .1 .1 .1 .1 .0) (r .kept .1 .1 .1 .1 .1 .1 .1 .1 .1 .1 .1 .1 .1 .1 .1 .1 .1 .1 .1 .1 .0),
     )
 
 same-length-6 : tie.Need-same-length-6 Inv-loop μ-loop

@@ -8,7 +8,7 @@ use Rattle.instance.proofs.list.Tie as tie
 
 -- the tables that the call is lent
 abbrev model : tie.Start → Tables
-model s = tablesOf (s .args .bytes .now) (s .args .n .now) (s .args .c .now) (s .args .f .now) (s .args .x .now) (s .args .p .now) (s .args .i .now) (s .args .t .now) (s .args .q .now) (s .args .u .now) (s .args .e .now) (s .args .r .now)
+model s = tablesOf (s .args .bytes .now) (s .args .n .now) (s .args .c .now) (s .args .f .now) (s .args .x .now) (s .args .p .now) (s .args .i .now) (s .args .t .now) (s .args .q .now) (s .args .u .now) (s .args .e .now) (s .args .r .now) (s .args .m .now)
 
 check-tables-requires : tie.Need-check-tables-requires
 check-tables-requires c κs = search needs
@@ -18,10 +18,10 @@ enum-known-reason c = search needs
 
 -- places: the way back from where an answer stands to what it uses
 abbrev Start·returns : tie.After-known-told → tie.Start
-Start·returns c = c .before .before .before .before .before .before .before .before .before .before .before .before .before .before .before .before .before .before
+Start·returns c = c .before .before .before .before .before .before .before .before .before .before .before .before .before .before .before .before .before .before .before
 
 abbrev Start·trace-connections-requires : tie.After-trace-connections-arg → tie.Start
-Start·trace-connections-requires c = c .before .before .before .before .before .before .before .before .before .before .before .before .before .before .before .before .before .before
+Start·trace-connections-requires c = c .before .before .before .before .before .before .before .before .before .before .before .before .before .before .before .before .before .before .before
 
 abbrev Start·returns-2 : tie.After-unplaced → tie.Start
 Start·returns-2 c = Start·trace-connections-requires (c .before .before .before .before .before .before)

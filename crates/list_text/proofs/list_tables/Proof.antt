@@ -13,16 +13,16 @@ use Rattle.list_text.proofs.list_tables.Tie as tie
 
 -- the call's start, from behind the listings
 abbrev begin : tie.After-list-connections → tie.Start
-begin c = c .before .before .before .before .before .before .before .before .before .before .before .before .before .before .before .before .before .before .before
+begin c = c .before .before .before .before .before .before .before .before .before .before .before .before .before .before .before .before .before .before .before .before
 
 -- the tables, and what the listings leave in their outputs
 abbrev tables : tie.After-list-connections → Tables
 tables c =
     let a = begin c .args in
-    tablesOf (a .bytes .now) (a .n .now) (a .c .now) (a .f .now) (a .x .now) (a .p .now) (a .i .now) (a .t .now) (a .q .now) (a .u .now) (a .e .now) (a .r .now)
+    tablesOf (a .bytes .now) (a .n .now) (a .c .now) (a .f .now) (a .x .now) (a .p .now) (a .i .now) (a .t .now) (a .q .now) (a .u .now) (a .e .now) (a .r .now) (a .m .now)
 
 abbrev left : tie.After-list-connections → Outputs
-left c = let l = c .list-connections .last in outputs (l .1 .1 .1 .1 .1 .1 .1 .1 .1 .1 .1 .1 .0) (l .1 .1 .1 .1 .1 .1 .1 .1 .1 .1 .1 .1 .1 .0) (l .1 .1 .1 .1 .1 .1 .1 .1 .1 .1 .1 .1 .1 .1 .0) (l .1 .1 .1 .1 .1 .1 .1 .1 .1 .1 .1 .1 .1 .1 .1 .0) (l .1 .1 .1 .1 .1 .1 .1 .1 .1 .1 .1 .1 .1 .1 .1 .1 .0)
+left c = let l = c .list-connections .last in outputs (l .1 .1 .1 .1 .1 .1 .1 .1 .1 .1 .1 .1 .1 .0) (l .1 .1 .1 .1 .1 .1 .1 .1 .1 .1 .1 .1 .1 .1 .0) (l .1 .1 .1 .1 .1 .1 .1 .1 .1 .1 .1 .1 .1 .1 .1 .0) (l .1 .1 .1 .1 .1 .1 .1 .1 .1 .1 .1 .1 .1 .1 .1 .1 .0) (l .1 .1 .1 .1 .1 .1 .1 .1 .1 .1 .1 .1 .1 .1 .1 .1 .1 .0)
 
 slice-aggregate-list-connections : tie.Need-slice-aggregate-list-connections
 slice-aggregate-list-connections c = search needs
@@ -72,10 +72,10 @@ print-both-requires c κs =
     let z = p .list-connections in
     let b = counts-within (tables p) noOutputs (z .result) (left p) (z .ensures) _ _ _ _ (c .before .before .before .before .before .before .before .k .given .1) in
     record {
-      traced = omega (arith, b .rows, z .kept .1 .1 .1 .1 .1 .1 .1 .1 .1 .1 .1 .1 .0);
-      group = omega (arith, b .group-rows, z .kept .1 .1 .1 .1 .1 .1 .1 .1 .1 .1 .1 .1 .1 .1 .0);
-      diagnostics = omega (arith, b .diags, z .kept .1 .1 .1 .1 .1 .1 .1 .1 .1 .1 .1 .1 .1 .0);
-      group-diagnostics = omega (arith, b .group-diags, z .kept .1 .1 .1 .1 .1 .1 .1 .1 .1 .1 .1 .1 .1 .1 .1 .1 .0);
+      traced = omega (arith, b .rows, z .kept .1 .1 .1 .1 .1 .1 .1 .1 .1 .1 .1 .1 .1 .0);
+      group = omega (arith, b .group-rows, z .kept .1 .1 .1 .1 .1 .1 .1 .1 .1 .1 .1 .1 .1 .1 .1 .0);
+      diagnostics = omega (arith, b .diags, z .kept .1 .1 .1 .1 .1 .1 .1 .1 .1 .1 .1 .1 .1 .1 .0);
+      group-diagnostics = omega (arith, b .group-diags, z .kept .1 .1 .1 .1 .1 .1 .1 .1 .1 .1 .1 .1 .1 .1 .1 .1 .1 .0);
     }
 
 same-length : tie.Need-same-length

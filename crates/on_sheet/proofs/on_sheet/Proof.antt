@@ -5,28 +5,21 @@ use native.Mathlib.Omega.{arith}
 use borrow.Author.Needs.{needs}
 use lib.Seq.{length-take-le}
 use lib.ListN.{length}
-use Rattle.as5506.specs.Tables.{Tables, tablesOf, Letter, letterN, letterC, letterF, letterX, letterP, letterI, letterT, letterQ, letterU, letterE, letterR, table, width}
+use Rattle.as5506.specs.Tables.{Tables, tablesOf, Letter, letterN, letterC, letterF, letterX, letterP, letterI, letterT, letterQ, letterU, letterE, letterR, letterM, table, width}
 use Rattle.shown.proofs.Fits.{shown-as}
 use Rattle.on_sheet.proofs.Tables.{counted, rows-within, rows-small, bytes-within, text-read, text-refused}
 use Rattle.on_sheet.proofs.on_sheet.Statement.{statement}
 use Rattle.on_sheet.proofs.on_sheet.Tie as tie
 
--- the call's start, from behind the reader
-abbrev begin : tie.After-read-sheet → tie.Start
-begin r = r .before .before .before .before .before .before .before .before .before .before .before .before .before .before .before
-
--- the slices as the reader leaves them
-abbrev left : tie.After-read-sheet → Tables
-left r =
-    let l = r .read-sheet .last in
-    tablesOf (l .1 .0) (l .1 .1 .0) (l .1 .1 .1 .0) (l .1 .1 .1 .1 .0) (l .1 .1 .1 .1 .1 .0) (l .1 .1 .1 .1 .1 .1 .0) (l .1 .1 .1 .1 .1 .1 .1 .0) (l .1 .1 .1 .1 .1 .1 .1 .1 .0) (l .1 .1 .1 .1 .1 .1 .1 .1 .1 .0) (l .1 .1 .1 .1 .1 .1 .1 .1 .1 .1 .0) (l .1 .1 .1 .1 .1 .1 .1 .1 .1 .1 .1 .0) (l .1 .1 .1 .1 .1 .1 .1 .1 .1 .1 .1 .1 .0)
-
 -- places: the way back from where an answer stands to what it uses
+abbrev Start·begin : tie.After-read-sheet → tie.Start
+Start·begin c = c .before .before .before .before .before .before .before .before .before .before .before .before .before .before .before .before
+
 abbrev read-sheet·after : tie.After-k → tie.After-read-sheet
-read-sheet·after c = c .before .before .before .before .before .before .before .before .before .before .before .before .before .before
+read-sheet·after c = c .before .before .before .before .before .before .before .before .before .before .before .before .before .before .before
 
 abbrev read-sheet·returns : tie.After-slice-known2 → tie.After-read-sheet
-read-sheet·returns c = c .before .before .before .before .before .before .before .before .before .before .before .before .before .before .before .before .before .before .before
+read-sheet·returns c = c .before .before .before .before .before .before .before .before .before .before .before .before .before .before .before .before .before .before .before .before
 
 abbrev k·array-share-prefix-i : tie.After-struct-known6 → tie.After-k
 k·array-share-prefix-i c = c .before .before .before .before .before .before .before .before .before .before .before .before .before
@@ -61,13 +54,29 @@ k·array-share-prefix-r c = k·slice-aggregate-do-task-11 (c .before)
 abbrev k·slice-aggregate-do-task-12 : tie.After-r3 → tie.After-k
 k·slice-aggregate-do-task-12 c = k·array-share-prefix-r (c .before)
 
+abbrev k·array-share-prefix-m : tie.After-struct-known12 → tie.After-k
+k·array-share-prefix-m c = k·slice-aggregate-do-task-12 (c .before)
+
+abbrev k·slice-aggregate-do-task-13 : tie.After-m3 → tie.After-k
+k·slice-aggregate-do-task-13 c = k·array-share-prefix-m (c .before)
+
 abbrev k·returns-2 : tie.After-slice-known3 → tie.After-k
-k·returns-2 c = k·slice-aggregate-do-task-12 (c .before .before .before .before)
+k·returns-2 c = k·slice-aggregate-do-task-13 (c .before .before .before .before)
 
 abbrev read-sheet·returns-2 : tie.After-slice-known3 → tie.After-read-sheet
-read-sheet·returns-2 c = k·returns-2 c .before .before .before .before .before .before .before .before .before .before .before .before .before .before
+read-sheet·returns-2 c = k·returns-2 c .before .before .before .before .before .before .before .before .before .before .before .before .before .before .before
 
 -- end of places
+
+-- the call's start, from behind the reader
+abbrev begin : tie.After-read-sheet → tie.Start
+begin r = Start·begin r
+
+-- the slices as the reader leaves them
+abbrev left : tie.After-read-sheet → Tables
+left r =
+    let l = r .read-sheet .last in
+    tablesOf (l .1 .0) (l .1 .1 .0) (l .1 .1 .1 .0) (l .1 .1 .1 .1 .0) (l .1 .1 .1 .1 .1 .0) (l .1 .1 .1 .1 .1 .1 .0) (l .1 .1 .1 .1 .1 .1 .1 .0) (l .1 .1 .1 .1 .1 .1 .1 .1 .0) (l .1 .1 .1 .1 .1 .1 .1 .1 .1 .0) (l .1 .1 .1 .1 .1 .1 .1 .1 .1 .1 .0) (l .1 .1 .1 .1 .1 .1 .1 .1 .1 .1 .1 .0) (l .1 .1 .1 .1 .1 .1 .1 .1 .1 .1 .1 .1 .0) (l .1 .1 .1 .1 .1 .1 .1 .1 .1 .1 .1 .1 .1 .0)
 
 -- the slices after the reader, from where they are handed on
 abbrev after : tie.After-k → Tables
@@ -118,6 +127,9 @@ slice-aggregate-read-sheet-11 c = search needs
 
 slice-aggregate-read-sheet-12 : tie.Need-slice-aggregate-read-sheet-12
 slice-aggregate-read-sheet-12 c = search needs
+
+slice-aggregate-read-sheet-13 : tie.Need-slice-aggregate-read-sheet-13
+slice-aggregate-read-sheet-13 c = search needs
 
 read-sheet-requires : tie.Need-read-sheet-requires
 read-sheet-requires c κs = tt
@@ -236,6 +248,15 @@ array-share-prefix-r c = within (k·array-share-prefix-r c) letterR
 slice-aggregate-do-task-12 : tie.Need-slice-aggregate-do-task-12
 slice-aggregate-do-task-12 c = sym (length-take-le _ _ (within (k·slice-aggregate-do-task-12 c) letterR))
 
+mul-m : tie.Need-mul-m
+mul-m c = omega (arith, small (k·array-share-prefix-m c) letterM)
+
+array-share-prefix-m : tie.Need-array-share-prefix-m
+array-share-prefix-m c = within (k·array-share-prefix-m c) letterM
+
+slice-aggregate-do-task-13 : tie.Need-slice-aggregate-do-task-13
+slice-aggregate-do-task-13 c = sym (length-take-le _ _ (within (k·slice-aggregate-do-task-13 c) letterM))
+
 do-task-requires : tie.Need-do-task-requires
 do-task-requires c κs = tt
 
@@ -250,14 +271,14 @@ returns c =
     shown-as _ _ (a .text .now) (a .text .now) (t .result) (t .last .1 .0) (text-refused (a .sheet .now) (r .read-sheet .result) (left r) (r .read-sheet .ensures) (a .task) (length (a .text .now)) _ (c .before .before .before .before .before .reason .given .1)) refl (t .ensures)
 
 same-length-2 : tie.Need-same-length-2
-same-length-2 c = c .before .before .do-task .kept .1 .1 .1 .1 .1 .1 .1 .1 .1 .1 .1 .1 .1 .0
+same-length-2 c = c .before .before .do-task .kept .1 .1 .1 .1 .1 .1 .1 .1 .1 .1 .1 .1 .1 .1 .0
 
 returns-2 : tie.Need-returns-2
 returns-2 c =
     let r = read-sheet·returns-2 c in
     let a = begin r .args in
     let t = c .before .before .do-task in
-    shown-as _ _ (a .text .now) (a .text .now) (t .result) (t .last .1 .1 .1 .1 .1 .1 .1 .1 .1 .1 .1 .1 .1 .0) (text-read (a .sheet .now) (r .read-sheet .result) (left r) (r .read-sheet .ensures) _ (k·returns-2 c .k .given .1) (a .task) (length (a .text .now))) refl (t .ensures)
+    shown-as _ _ (a .text .now) (a .text .now) (t .result) (t .last .1 .1 .1 .1 .1 .1 .1 .1 .1 .1 .1 .1 .1 .1 .0) (text-read (a .sheet .now) (r .read-sheet .result) (left r) (r .read-sheet .ensures) _ (k·returns-2 c .k .given .1) (a .task) (length (a .text .now))) refl (t .ensures)
 
 pub on-sheet-spec : {M : Type 1} → statement M
 on-sheet-spec =
@@ -275,6 +296,7 @@ on-sheet-spec =
     slice-aggregate-read-sheet-10
     slice-aggregate-read-sheet-11
     slice-aggregate-read-sheet-12
+    slice-aggregate-read-sheet-13
     read-sheet-requires
     enum-known-reason
     tell-requires
@@ -314,6 +336,9 @@ on-sheet-spec =
     mul-r
     array-share-prefix-r
     slice-aggregate-do-task-12
+    mul-m
+    array-share-prefix-m
+    slice-aggregate-do-task-13
     do-task-requires
     same-length
     returns

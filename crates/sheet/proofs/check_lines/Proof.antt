@@ -43,7 +43,7 @@ loop-holds : tie.Need-loop-holds Inv-loop μ-loop
 loop-holds c =
     record {
       before = [];
-      counted = counted-none _ refl refl (each-letter _ refl refl refl refl refl refl refl refl refl refl refl);
+      counted = counted-none _ refl refl (each-letter _ refl refl refl refl refl refl refl refl refl refl refl refl);
       within = search needs;
       small = omega (arith, names-none);
       few = λ l. rw (none-with l) (omega (arith, zero-mul (width l)));

@@ -40,41 +40,47 @@ clear-numbers-requires-10 c κs = tt
 clear-numbers-requires-11 : tie.Need-clear-numbers-requires-11
 clear-numbers-requires-11 c κs = tt
 
--- from the end to each call
-abbrev at-r : tie.After-slice-known24 → tie.After-clear-numbers11
-at-r c = c .before .before
+clear-numbers-requires-12 : tie.Need-clear-numbers-requires-12
+clear-numbers-requires-12 c κs = tt
 
-abbrev at-e : tie.After-slice-known24 → tie.After-clear-numbers10
+-- from the end to each call
+abbrev at-m : tie.After-slice-known26 → tie.After-clear-numbers12
+at-m c = c .before .before
+
+abbrev at-r : tie.After-slice-known26 → tie.After-clear-numbers11
+at-r c = at-m c .before .before .before .before
+
+abbrev at-e : tie.After-slice-known26 → tie.After-clear-numbers10
 at-e c = at-r c .before .before .before .before
 
-abbrev at-u : tie.After-slice-known24 → tie.After-clear-numbers9
+abbrev at-u : tie.After-slice-known26 → tie.After-clear-numbers9
 at-u c = at-e c .before .before .before .before
 
-abbrev at-q : tie.After-slice-known24 → tie.After-clear-numbers8
+abbrev at-q : tie.After-slice-known26 → tie.After-clear-numbers8
 at-q c = at-u c .before .before .before .before
 
-abbrev at-t : tie.After-slice-known24 → tie.After-clear-numbers7
+abbrev at-t : tie.After-slice-known26 → tie.After-clear-numbers7
 at-t c = at-q c .before .before .before .before
 
-abbrev at-i : tie.After-slice-known24 → tie.After-clear-numbers6
+abbrev at-i : tie.After-slice-known26 → tie.After-clear-numbers6
 at-i c = at-t c .before .before .before .before
 
-abbrev at-p : tie.After-slice-known24 → tie.After-clear-numbers5
+abbrev at-p : tie.After-slice-known26 → tie.After-clear-numbers5
 at-p c = at-i c .before .before .before .before
 
-abbrev at-x : tie.After-slice-known24 → tie.After-clear-numbers4
+abbrev at-x : tie.After-slice-known26 → tie.After-clear-numbers4
 at-x c = at-p c .before .before .before .before
 
-abbrev at-f : tie.After-slice-known24 → tie.After-clear-numbers3
+abbrev at-f : tie.After-slice-known26 → tie.After-clear-numbers3
 at-f c = at-x c .before .before .before .before
 
-abbrev at-c : tie.After-slice-known24 → tie.After-clear-numbers2
+abbrev at-c : tie.After-slice-known26 → tie.After-clear-numbers2
 at-c c = at-f c .before .before .before .before
 
-abbrev at-n : tie.After-slice-known24 → tie.After-clear-numbers
+abbrev at-n : tie.After-slice-known26 → tie.After-clear-numbers
 at-n c = at-c c .before .before .before .before
 
-abbrev at-bytes : tie.After-slice-known24 → tie.After-clear-bytes
+abbrev at-bytes : tie.After-slice-known26 → tie.After-clear-bytes
 at-bytes c = at-n c .before .before .before .before
 
 returns : tie.Need-returns
@@ -92,44 +98,48 @@ returns c =
           (at-q c .clear-numbers8 .ensures)
           (at-u c .clear-numbers9 .ensures)
           (at-e c .clear-numbers10 .ensures)
-          (at-r c .clear-numbers11 .ensures);
+          (at-r c .clear-numbers11 .ensures)
+          (at-m c .clear-numbers12 .ensures);
     }
 
 same-length : tie.Need-same-length
-same-length c = search needs
+same-length c = at-bytes c .clear-bytes .kept .0
 
 same-length-2 : tie.Need-same-length-2
-same-length-2 c = search needs
+same-length-2 c = at-n c .clear-numbers .kept .0
 
 same-length-3 : tie.Need-same-length-3
-same-length-3 c = search needs
+same-length-3 c = at-c c .clear-numbers2 .kept .0
 
 same-length-4 : tie.Need-same-length-4
-same-length-4 c = search needs
+same-length-4 c = at-f c .clear-numbers3 .kept .0
 
 same-length-5 : tie.Need-same-length-5
-same-length-5 c = search needs
+same-length-5 c = at-x c .clear-numbers4 .kept .0
 
 same-length-6 : tie.Need-same-length-6
-same-length-6 c = search needs
+same-length-6 c = at-p c .clear-numbers5 .kept .0
 
 same-length-7 : tie.Need-same-length-7
-same-length-7 c = search needs
+same-length-7 c = at-i c .clear-numbers6 .kept .0
 
 same-length-8 : tie.Need-same-length-8
-same-length-8 c = search needs
+same-length-8 c = at-t c .clear-numbers7 .kept .0
 
 same-length-9 : tie.Need-same-length-9
-same-length-9 c = search needs
+same-length-9 c = at-q c .clear-numbers8 .kept .0
 
 same-length-10 : tie.Need-same-length-10
-same-length-10 c = search needs
+same-length-10 c = at-u c .clear-numbers9 .kept .0
 
 same-length-11 : tie.Need-same-length-11
-same-length-11 c = search needs
+same-length-11 c = at-e c .clear-numbers10 .kept .0
 
 same-length-12 : tie.Need-same-length-12
-same-length-12 c = search needs
+same-length-12 c = at-r c .clear-numbers11 .kept .0
+
+same-length-13 : tie.Need-same-length-13
+same-length-13 c = at-m c .clear-numbers12 .kept .0
 
 pub clear-all-spec : {M : Type 1} → statement M
 clear-all-spec =
@@ -147,6 +157,7 @@ clear-all-spec =
     clear-numbers-requires-9
     clear-numbers-requires-10
     clear-numbers-requires-11
+    clear-numbers-requires-12
     same-length
     same-length-2
     same-length-3
@@ -159,4 +170,5 @@ clear-all-spec =
     same-length-10
     same-length-11
     same-length-12
+    same-length-13
     returns)

@@ -38,8 +38,11 @@ array-read-t41 c = search needs
 array-read-t45 : tie.Need-array-read-t45
 array-read-t45 c = search needs
 
+array-read-t49 : tie.Need-array-read-t49
+array-read-t49 c = search needs
+
 returns : tie.Need-returns
-returns c = λ before counted. counted-rows (c .before .args .seen) before counted _ refl refl refl refl refl refl refl refl refl refl refl refl
+returns c = λ before counted. counted-rows (c .before .args .seen) before counted _ refl refl refl refl refl refl refl refl refl refl refl refl refl
 
 pub counted-spec : {M : Type 1} → statement M
 counted-spec =
@@ -56,4 +59,5 @@ counted-spec =
     array-read-t37
     array-read-t41
     array-read-t45
+    array-read-t49
     returns)

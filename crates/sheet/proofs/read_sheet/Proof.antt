@@ -9,7 +9,7 @@ use borrow.Author.Needs.{needs}
 use lib.ListN.{length}
 use lib.Seq.{sets}
 use Rattle.as5506.specs.Sheet.{linesOf, Lent, lentOf, sheetFaults, tablesRead, readSheet}
-use Rattle.as5506.specs.Tables.{Tables, tablesOf, Letter, letterN, letterC, letterF, letterX, letterP, letterI, letterT, letterQ, letterU, letterE, letterR, table}
+use Rattle.as5506.specs.Tables.{Tables, tablesOf, Letter, letterN, letterC, letterF, letterX, letterP, letterI, letterT, letterQ, letterU, letterE, letterR, letterM, table}
 use Rattle.as5506.proofs.Letters.{each-letter}
 use Rattle.sheet.proofs.Whole.{sheet-short, sheet-in-order, lent-is, no-fault, refused-into, cleared-fits, cleared-bytes, read-into}
 use Rattle.sheet.proofs.read_sheet.Statement.{statement}
@@ -19,11 +19,19 @@ use Rattle.sheet.proofs.read_sheet.Tie as tie
 
 -- ---- places: where the tables are cleared, where the sheet is checked, and each call that writes
 
+-- from the clearing back to where all slices are known, and to the start
+abbrev known : tie.After-clear-all → tie.After-slice-known13
+known c = c .before .before .before .before .before .before .before .before .before .before .before .before .before .before
+
 abbrev start : tie.After-clear-all → tie.Start
-start c = c .before .before .before .before .before .before .before .before .before .before .before .before .before .before .before .before .before .before .before .before .before .before .before .before .before .before
+start c = known c .before .before .before .before .before .before .before .before .before .before .before .before .before .before
+
+-- from the check back to where half of the slices have come back, and to the clearing
+abbrev half : tie.After-check-sheet → tie.After-p
+half c = c .before .before .before .before .before .before .before .before .before .before .before .before .before .before .before .before
 
 abbrev clearing : tie.After-check-sheet → tie.After-clear-all
-clearing c = c .before .before .before .before .before .before .before .before .before .before .before .before .before .before .before .before .before .before .before .before .before .before .before .before .before
+clearing c = half c .before .before .before .before .before .before .before .before .before .before .before
 
 -- from the place before each call to where the answer is known to be no refusal
 abbrev read-bytes : tie.After-put-names-arg → tie.After-enum-told
@@ -62,56 +70,62 @@ read-e c = read-u (c .before .before .before .before)
 abbrev read-r : tie.After-put-rows-arg10 → tie.After-enum-told
 read-r c = read-e (c .before .before .before .before)
 
--- from the end to each call
-abbrev wrote-r : tie.After-slice-known36 → tie.After-put-rows10
-wrote-r c = c .before .before
+abbrev read-m : tie.After-put-rows-arg11 → tie.After-enum-told
+read-m c = read-r (c .before .before .before .before)
 
-abbrev wrote-e : tie.After-slice-known36 → tie.After-put-rows9
+-- from the end to each call
+abbrev wrote-m : tie.After-slice-known39 → tie.After-put-rows11
+wrote-m c = c .before .before
+
+abbrev wrote-r : tie.After-slice-known39 → tie.After-put-rows10
+wrote-r c = wrote-m c .before .before .before .before
+
+abbrev wrote-e : tie.After-slice-known39 → tie.After-put-rows9
 wrote-e c = wrote-r c .before .before .before .before
 
-abbrev wrote-u : tie.After-slice-known36 → tie.After-put-rows8
+abbrev wrote-u : tie.After-slice-known39 → tie.After-put-rows8
 wrote-u c = wrote-e c .before .before .before .before
 
-abbrev wrote-q : tie.After-slice-known36 → tie.After-put-rows7
+abbrev wrote-q : tie.After-slice-known39 → tie.After-put-rows7
 wrote-q c = wrote-u c .before .before .before .before
 
-abbrev wrote-t : tie.After-slice-known36 → tie.After-put-rows6
+abbrev wrote-t : tie.After-slice-known39 → tie.After-put-rows6
 wrote-t c = wrote-q c .before .before .before .before
 
-abbrev wrote-i : tie.After-slice-known36 → tie.After-put-rows5
+abbrev wrote-i : tie.After-slice-known39 → tie.After-put-rows5
 wrote-i c = wrote-t c .before .before .before .before
 
-abbrev wrote-p : tie.After-slice-known36 → tie.After-put-rows4
+abbrev wrote-p : tie.After-slice-known39 → tie.After-put-rows4
 wrote-p c = wrote-i c .before .before .before .before
 
-abbrev wrote-x : tie.After-slice-known36 → tie.After-put-rows3
+abbrev wrote-x : tie.After-slice-known39 → tie.After-put-rows3
 wrote-x c = wrote-p c .before .before .before .before
 
-abbrev wrote-f : tie.After-slice-known36 → tie.After-put-rows2
+abbrev wrote-f : tie.After-slice-known39 → tie.After-put-rows2
 wrote-f c = wrote-x c .before .before .before .before
 
-abbrev wrote-c : tie.After-slice-known36 → tie.After-put-rows
+abbrev wrote-c : tie.After-slice-known39 → tie.After-put-rows
 wrote-c c = wrote-f c .before .before .before .before
 
-abbrev wrote-n : tie.After-slice-known36 → tie.After-put-name-rows
+abbrev wrote-n : tie.After-slice-known39 → tie.After-put-name-rows
 wrote-n c = wrote-c c .before .before .before .before
 
-abbrev wrote-bytes : tie.After-slice-known36 → tie.After-put-names
+abbrev wrote-bytes : tie.After-slice-known39 → tie.After-put-names
 wrote-bytes c = wrote-n c .before .before .before .before
 
-abbrev wrote : tie.After-slice-known36 → tie.After-enum-told
+abbrev wrote : tie.After-slice-known39 → tie.After-enum-told
 wrote c = wrote-bytes c .before .before
 
 -- ---- the tables as they are lent, as they are cleared and as they are at the end
 
 abbrev lent : tie.After-clear-all → Tables
-lent c = let a = start c .args in tablesOf (a .bytes .now) (a .n .now) (a .c .now) (a .f .now) (a .x .now) (a .p .now) (a .i .now) (a .t .now) (a .q .now) (a .u .now) (a .e .now) (a .r .now)
+lent c = let a = start c .args in tablesOf (a .bytes .now) (a .n .now) (a .c .now) (a .f .now) (a .x .now) (a .p .now) (a .i .now) (a .t .now) (a .q .now) (a .u .now) (a .e .now) (a .r .now) (a .m .now)
 
 abbrev cleared : tie.After-clear-all → Tables
-cleared c = let l = c .clear-all .last in tablesOf (l .0) (l .1 .0) (l .1 .1 .0) (l .1 .1 .1 .0) (l .1 .1 .1 .1 .0) (l .1 .1 .1 .1 .1 .0) (l .1 .1 .1 .1 .1 .1 .0) (l .1 .1 .1 .1 .1 .1 .1 .0) (l .1 .1 .1 .1 .1 .1 .1 .1 .0) (l .1 .1 .1 .1 .1 .1 .1 .1 .1 .0) (l .1 .1 .1 .1 .1 .1 .1 .1 .1 .1 .0) (l .1 .1 .1 .1 .1 .1 .1 .1 .1 .1 .1 .0)
+cleared c = let l = c .clear-all .last in tablesOf (l .0) (l .1 .0) (l .1 .1 .0) (l .1 .1 .1 .0) (l .1 .1 .1 .1 .0) (l .1 .1 .1 .1 .1 .0) (l .1 .1 .1 .1 .1 .1 .0) (l .1 .1 .1 .1 .1 .1 .1 .0) (l .1 .1 .1 .1 .1 .1 .1 .1 .0) (l .1 .1 .1 .1 .1 .1 .1 .1 .1 .0) (l .1 .1 .1 .1 .1 .1 .1 .1 .1 .1 .0) (l .1 .1 .1 .1 .1 .1 .1 .1 .1 .1 .1 .0) (l .1 .1 .1 .1 .1 .1 .1 .1 .1 .1 .1 .1 .0)
 
-abbrev after : tie.After-slice-known36 → Tables
-after c = tablesOf (wrote-bytes c .put-names .last .1 .0) (wrote-n c .put-name-rows .last .1 .0) (wrote-c c .put-rows .last .1 .1 .1 .0) (wrote-f c .put-rows2 .last .1 .1 .1 .0) (wrote-x c .put-rows3 .last .1 .1 .1 .0) (wrote-p c .put-rows4 .last .1 .1 .1 .0) (wrote-i c .put-rows5 .last .1 .1 .1 .0) (wrote-t c .put-rows6 .last .1 .1 .1 .0) (wrote-q c .put-rows7 .last .1 .1 .1 .0) (wrote-u c .put-rows8 .last .1 .1 .1 .0) (wrote-e c .put-rows9 .last .1 .1 .1 .0) (wrote-r c .put-rows10 .last .1 .1 .1 .0)
+abbrev after : tie.After-slice-known39 → Tables
+after c = tablesOf (wrote-bytes c .put-names .last .1 .0) (wrote-n c .put-name-rows .last .1 .0) (wrote-c c .put-rows .last .1 .1 .1 .0) (wrote-f c .put-rows2 .last .1 .1 .1 .0) (wrote-x c .put-rows3 .last .1 .1 .1 .0) (wrote-p c .put-rows4 .last .1 .1 .1 .0) (wrote-i c .put-rows5 .last .1 .1 .1 .0) (wrote-t c .put-rows6 .last .1 .1 .1 .0) (wrote-q c .put-rows7 .last .1 .1 .1 .0) (wrote-u c .put-rows8 .last .1 .1 .1 .0) (wrote-e c .put-rows9 .last .1 .1 .1 .0) (wrote-r c .put-rows10 .last .1 .1 .1 .0) (wrote-m c .put-rows11 .last .1 .1 .1 .0)
 
 abbrev sheet : tie.After-clear-all → List ℕ
 sheet c = start c .args .sheet .now
@@ -196,6 +210,10 @@ put-rows-requires-10 : tie.Need-put-rows-requires-10
 unfolding tablesRead
 put-rows-requires-10 c κs = let r = read-r c in (omega arith, omega arith, c .before .before .before .put-rows9 .ensures .0, room r letterR)
 
+put-rows-requires-11 : tie.Need-put-rows-requires-11
+unfolding tablesRead
+put-rows-requires-11 c κs = let r = read-m c in (omega arith, omega arith, c .before .before .before .put-rows10 .ensures .0, room r letterM)
+
 -- ---- every slice keeps its length
 
 same-length : tie.Need-same-length
@@ -235,40 +253,46 @@ same-length-12 : tie.Need-same-length-12
 same-length-12 c = clearing (c .before .before) .clear-all .kept .1 .1 .1 .1 .1 .1 .1 .1 .1 .1 .1 .0
 
 same-length-13 : tie.Need-same-length-13
-same-length-13 c = wrote-bytes c .put-names .kept .1 .0 ∙ clearing (wrote c .before .before) .clear-all .kept .0
+same-length-13 c = clearing (c .before .before) .clear-all .kept .1 .1 .1 .1 .1 .1 .1 .1 .1 .1 .1 .1 .0
 
 same-length-14 : tie.Need-same-length-14
-same-length-14 c = wrote-n c .put-name-rows .kept .1 .0 ∙ clearing (wrote c .before .before) .clear-all .kept .1 .0
+same-length-14 c = wrote-bytes c .put-names .kept .1 .0 ∙ clearing (wrote c .before .before) .clear-all .kept .0
 
 same-length-15 : tie.Need-same-length-15
-same-length-15 c = wrote-c c .put-rows .kept .1 .1 .1 .0 ∙ clearing (wrote c .before .before) .clear-all .kept .1 .1 .0
+same-length-15 c = wrote-n c .put-name-rows .kept .1 .0 ∙ clearing (wrote c .before .before) .clear-all .kept .1 .0
 
 same-length-16 : tie.Need-same-length-16
-same-length-16 c = wrote-f c .put-rows2 .kept .1 .1 .1 .0 ∙ clearing (wrote c .before .before) .clear-all .kept .1 .1 .1 .0
+same-length-16 c = wrote-c c .put-rows .kept .1 .1 .1 .0 ∙ clearing (wrote c .before .before) .clear-all .kept .1 .1 .0
 
 same-length-17 : tie.Need-same-length-17
-same-length-17 c = wrote-x c .put-rows3 .kept .1 .1 .1 .0 ∙ clearing (wrote c .before .before) .clear-all .kept .1 .1 .1 .1 .0
+same-length-17 c = wrote-f c .put-rows2 .kept .1 .1 .1 .0 ∙ clearing (wrote c .before .before) .clear-all .kept .1 .1 .1 .0
 
 same-length-18 : tie.Need-same-length-18
-same-length-18 c = wrote-p c .put-rows4 .kept .1 .1 .1 .0 ∙ clearing (wrote c .before .before) .clear-all .kept .1 .1 .1 .1 .1 .0
+same-length-18 c = wrote-x c .put-rows3 .kept .1 .1 .1 .0 ∙ clearing (wrote c .before .before) .clear-all .kept .1 .1 .1 .1 .0
 
 same-length-19 : tie.Need-same-length-19
-same-length-19 c = wrote-i c .put-rows5 .kept .1 .1 .1 .0 ∙ clearing (wrote c .before .before) .clear-all .kept .1 .1 .1 .1 .1 .1 .0
+same-length-19 c = wrote-p c .put-rows4 .kept .1 .1 .1 .0 ∙ clearing (wrote c .before .before) .clear-all .kept .1 .1 .1 .1 .1 .0
 
 same-length-20 : tie.Need-same-length-20
-same-length-20 c = wrote-t c .put-rows6 .kept .1 .1 .1 .0 ∙ clearing (wrote c .before .before) .clear-all .kept .1 .1 .1 .1 .1 .1 .1 .0
+same-length-20 c = wrote-i c .put-rows5 .kept .1 .1 .1 .0 ∙ clearing (wrote c .before .before) .clear-all .kept .1 .1 .1 .1 .1 .1 .0
 
 same-length-21 : tie.Need-same-length-21
-same-length-21 c = wrote-q c .put-rows7 .kept .1 .1 .1 .0 ∙ clearing (wrote c .before .before) .clear-all .kept .1 .1 .1 .1 .1 .1 .1 .1 .0
+same-length-21 c = wrote-t c .put-rows6 .kept .1 .1 .1 .0 ∙ clearing (wrote c .before .before) .clear-all .kept .1 .1 .1 .1 .1 .1 .1 .0
 
 same-length-22 : tie.Need-same-length-22
-same-length-22 c = wrote-u c .put-rows8 .kept .1 .1 .1 .0 ∙ clearing (wrote c .before .before) .clear-all .kept .1 .1 .1 .1 .1 .1 .1 .1 .1 .0
+same-length-22 c = wrote-q c .put-rows7 .kept .1 .1 .1 .0 ∙ clearing (wrote c .before .before) .clear-all .kept .1 .1 .1 .1 .1 .1 .1 .1 .0
 
 same-length-23 : tie.Need-same-length-23
-same-length-23 c = wrote-e c .put-rows9 .kept .1 .1 .1 .0 ∙ clearing (wrote c .before .before) .clear-all .kept .1 .1 .1 .1 .1 .1 .1 .1 .1 .1 .0
+same-length-23 c = wrote-u c .put-rows8 .kept .1 .1 .1 .0 ∙ clearing (wrote c .before .before) .clear-all .kept .1 .1 .1 .1 .1 .1 .1 .1 .1 .0
 
 same-length-24 : tie.Need-same-length-24
-same-length-24 c = wrote-r c .put-rows10 .kept .1 .1 .1 .0 ∙ clearing (wrote c .before .before) .clear-all .kept .1 .1 .1 .1 .1 .1 .1 .1 .1 .1 .1 .0
+same-length-24 c = wrote-e c .put-rows9 .kept .1 .1 .1 .0 ∙ clearing (wrote c .before .before) .clear-all .kept .1 .1 .1 .1 .1 .1 .1 .1 .1 .1 .0
+
+same-length-25 : tie.Need-same-length-25
+same-length-25 c = wrote-r c .put-rows10 .kept .1 .1 .1 .0 ∙ clearing (wrote c .before .before) .clear-all .kept .1 .1 .1 .1 .1 .1 .1 .1 .1 .1 .1 .0
+
+same-length-26 : tie.Need-same-length-26
+same-length-26 c = wrote-m c .put-rows11 .kept .1 .1 .1 .0 ∙ clearing (wrote c .before .before) .clear-all .kept .1 .1 .1 .1 .1 .1 .1 .1 .1 .1 .1 .1 .0
 
 -- ---- the two ends
 
@@ -296,7 +320,8 @@ returns-2 c =
     (wrote-q c .put-rows7 .ensures .1)
     (wrote-u c .put-rows8 .ensures .1)
     (wrote-e c .put-rows9 .ensures .1)
-    (wrote-r c .put-rows10 .ensures .1))
+    (wrote-r c .put-rows10 .ensures .1)
+    (wrote-m c .put-rows11 .ensures .1))
 
 pub read-sheet-spec : {M : Type 1} → statement M
 read-sheet-spec =
@@ -318,6 +343,7 @@ read-sheet-spec =
     same-length-10
     same-length-11
     same-length-12
+    same-length-13
     returns
     put-names-requires
     put-name-rows-requires
@@ -331,7 +357,7 @@ read-sheet-spec =
     put-rows-requires-8
     put-rows-requires-9
     put-rows-requires-10
-    same-length-13
+    put-rows-requires-11
     same-length-14
     same-length-15
     same-length-16
@@ -343,4 +369,6 @@ read-sheet-spec =
     same-length-22
     same-length-23
     same-length-24
+    same-length-25
+    same-length-26
     returns-2)

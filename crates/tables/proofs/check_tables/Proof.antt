@@ -15,7 +15,7 @@ use Rattle.tables.proofs.check_tables.Tie as tie
 abbrev lent : tie.Start → Tables
 lent s =
     tablesOf (s .args .bytes .now) (s .args .n .now) (s .args .c .now) (s .args .f .now) (s .args .x .now) (s .args .p .now)
-    (s .args .i .now) (s .args .t .now) (s .args .q .now) (s .args .u .now) (s .args .e .now) (s .args .r .now)
+    (s .args .i .now) (s .args .t .now) (s .args .q .now) (s .args .u .now) (s .args .e .now) (s .args .r .now) (s .args .m .now)
 
 check-rule-requires : tie.Need-check-rule-requires
 check-rule-requires c κs = search needs
@@ -47,7 +47,7 @@ check-rule-requires-9 c κs = search needs
 returns : tie.Need-returns
 unfolding checkAll
 returns c =
-    let m = lent (c .before .before .before .before .before .before .before .before .before .before .before .before .before .before .before .before .before .before .before .before .before) in
+    let m = lent (c .before .before .before .before .before .before .before .before .before .before .before .before .before .before .before .before .before .before .before .before .before .before) in
     let f = checkRule m in
     over-done f (c .check-rule9 .result)
     ∙ over-next f Keys ([]) (c .before .check-rule8 .result) _ (c .check-rule9 .ensures)

@@ -1,4 +1,4 @@
--- `tables_trials::read_tables`: there are eleven tables, and the store keeps its length. Assumes nothing.
+-- `tables_trials::read_tables`: there are twelve tables, and the store keeps its length. Assumes nothing.
 use mathlib.Core.Path.{_≡_}
 use Prim.Native.Nat.{_-_}
 use lib.ListN.{length}
@@ -10,7 +10,7 @@ abbrev Inv-loop : tie.InvT-loop
 Inv-loop store₀ starts counts k₀ store k = length store ≡ length store₀
 
 abbrev μ-loop : tie.MeasureT-loop
-μ-loop store₀ starts counts k₀ store k = 11 - k
+μ-loop store₀ starts counts k₀ store k = 12 - k
 
 loop-holds : tie.Need-loop-holds Inv-loop μ-loop
 loop-holds c = search needs

@@ -1,4 +1,4 @@
--- `tables_trials::starts_of`: there are twelve places. Assumes nothing.
+-- `tables_trials::starts_of`: there are thirteen places. Assumes nothing.
 use Prim.Native.Nat.{_-_}
 use borrow.Author.Needs.{needs}
 use Rattle.tables_trials.proofs.starts_of.Statement.{statement}
@@ -8,7 +8,7 @@ abbrev Inv-loop : tie.InvT-loop
 Inv-loop counts starts₀ k₀ starts k = Unit {0}
 
 abbrev μ-loop : tie.MeasureT-loop
-μ-loop counts starts₀ k₀ starts k = 11 - k
+μ-loop counts starts₀ k₀ starts k = 12 - k
 
 loop-holds : tie.Need-loop-holds Inv-loop μ-loop
 loop-holds c = search needs

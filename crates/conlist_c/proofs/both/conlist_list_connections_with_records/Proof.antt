@@ -79,25 +79,26 @@ stayed =
     ⨾ stay-dropped (shrSliceOf (9 ∷ []) tt (plain (λ _. u32))) yes
     ⨾ stay-dropped (shrSliceOf (10 ∷ []) tt (plain (λ _. u32))) yes
     ⨾ stay-dropped (shrSliceOf (11 ∷ []) tt (plain (λ _. u32))) yes
-    ⨾ gave-slice (12 ∷ []) tt (plain (λ _. u32))
-    ⨾ stay-slice (13 ∷ []) tt (plain (λ _. u32))
-    ⨾ gave-slice (14 ∷ []) tt (plain (λ _. T.the-row))
-    ⨾ gave-slice (15 ∷ []) tt (plain (λ _. u32))
-    ⨾ gave-slice (16 ∷ []) tt (plain (λ _. u8))
-    ⨾ stay-slice (17 ∷ []) tt (plain (λ _. u32))
-    ⨾ gave-slice (18 ∷ []) tt (plain (λ _. T.the-row))
-    ⨾ gave-ref (19 ∷ []) tt (arrayOf (plain (λ _. u64)) 5)
+    ⨾ stay-dropped (shrSliceOf (12 ∷ []) tt (plain (λ _. u32))) yes
+    ⨾ gave-slice (13 ∷ []) tt (plain (λ _. u32))
+    ⨾ stay-slice (14 ∷ []) tt (plain (λ _. u32))
+    ⨾ gave-slice (15 ∷ []) tt (plain (λ _. T.the-row))
+    ⨾ gave-slice (16 ∷ []) tt (plain (λ _. u32))
+    ⨾ gave-slice (17 ∷ []) tt (plain (λ _. u8))
+    ⨾ stay-slice (18 ∷ []) tt (plain (λ _. u32))
+    ⨾ gave-slice (19 ∷ []) tt (plain (λ _. T.the-row))
+    ⨾ gave-ref (20 ∷ []) tt (arrayOf (plain (λ _. u64)) 5)
     ⨾ tt
 
 -- what `list_for` leaves
-record Left (bytes n c f x p i t q u e r rows numbers group-rows names group-numbers told : RefT (List ℕ)) (out group-out : RefT (List Diagnostic)) : Type 0 where
+record Left (bytes n c f x p i t q u e r m rows numbers group-rows names group-numbers told : RefT (List ℕ)) (out group-out : RefT (List Diagnostic)) : Type 0 where
   rows′ : List ℕ
   numbers′ : List ℕ
   group-rows′ : List ℕ
   names′ : List ℕ
   group-numbers′ : List ℕ
   told′ : List ℕ
-  ensures : BothTold (bothFor (tablesLent bytes n c f x p i t q u e r) (outputs (now rows) (now numbers) (now group-rows) (now names) (now group-numbers)) (length (now out)) (length (now group-out))) (tablesLent bytes n c f x p i t q u e r) (outputs (now rows) (now numbers) (now group-rows) (now names) (now group-numbers)) told′ (outputs rows′ numbers′ group-rows′ names′ group-numbers′)
+  ensures : BothTold (bothFor (tablesLent bytes n c f x p i t q u e r m) (outputs (now rows) (now numbers) (now group-rows) (now names) (now group-numbers)) (length (now out)) (length (now group-out))) (tablesLent bytes n c f x p i t q u e r m) (outputs (now rows) (now numbers) (now group-rows) (now names) (now group-numbers)) told′ (outputs rows′ numbers′ group-rows′ names′ group-numbers′)
   rows-same : length rows′ ≡ length (now rows)
   numbers-same : length numbers′ ≡ length (now numbers)
   group-rows-same : length group-rows′ ≡ length (now group-rows)
@@ -109,39 +110,40 @@ abbrev Inner : {M : Type 1} (𝓤 : URA M) (H : Heap 𝓤) (A : Atoms 𝓤) (mem
 Inner 𝓤 H A mem run = tripleOf 𝓤 H A inner.signature (inner.spec 𝓤 H A mem run)
 
 module _ {M : Type 1} (𝓤 : URA M) (H : Heap 𝓤) (A : Atoms 𝓤) (W : Given 𝓤 H A) (mem : Memory → SProp 𝓤) (run : Routine → Fun 𝓤)
-    (κ-bytes κ-n κ-c κ-f κ-x κ-p κ-i κ-t κ-q κ-u κ-e κ-r κ-rows κ-numbers κ-out κ-group-rows κ-names κ-group-numbers κ-group-out κ-told : Lft)
-    (q-bytes q-n q-c q-f q-x q-p q-i q-t q-q q-u q-e q-r q-rows q-numbers q-out q-group-rows q-names q-group-numbers q-group-out q-told : Share)
-    (bytes n c f x p i t q u e r rows numbers : RefT (List ℕ)) (out : RefT (List Diagnostic)) (group-rows names group-numbers : RefT (List ℕ))
+    (κ-bytes κ-n κ-c κ-f κ-x κ-p κ-i κ-t κ-q κ-u κ-e κ-r κ-m κ-rows κ-numbers κ-out κ-group-rows κ-names κ-group-numbers κ-group-out κ-told : Lft)
+    (q-bytes q-n q-c q-f q-x q-p q-i q-t q-q q-u q-e q-r q-m q-rows q-numbers q-out q-group-rows q-names q-group-numbers q-group-out q-told : Share)
+    (bytes n c f x p i t q u e r m rows numbers : RefT (List ℕ)) (out : RefT (List Diagnostic)) (group-rows names group-numbers : RefT (List ℕ))
     (group-out : RefT (List Diagnostic)) (told : RefT (List ℕ)) (room-bytes : Room u8 (length (now bytes))) (room-n : Room u32 (length (now n)))
     (room-c : Room u32 (length (now c))) (room-f : Room u32 (length (now f))) (room-x : Room u32 (length (now x)))
     (room-p : Room u32 (length (now p))) (room-i : Room u32 (length (now i))) (room-t : Room u32 (length (now t)))
     (room-q : Room u32 (length (now q))) (room-u : Room u32 (length (now u))) (room-e : Room u32 (length (now e)))
-    (room-r : Room u32 (length (now r))) (room-rows : Room u32 (length (now rows))) (room-numbers : Room u32 (length (now numbers)))
-    (room-out : Room T.the-row (length (now out))) (room-group-rows : Room u32 (length (now group-rows))) (room-names : Room u8 (length (now names)))
+    (room-r : Room u32 (length (now r))) (room-m : Room u32 (length (now m))) (room-rows : Room u32 (length (now rows)))
+    (room-numbers : Room u32 (length (now numbers))) (room-out : Room T.the-row (length (now out)))
+    (room-group-rows : Room u32 (length (now group-rows))) (room-names : Room u8 (length (now names)))
     (room-group-numbers : Room u32 (length (now group-numbers))) (room-group-out : Room T.the-row (length (now group-out))) where
-  abbrev κs : Lfts 20
-  κs = (κ-bytes, (κ-n, (κ-c, (κ-f, (κ-x, (κ-p, (κ-i, (κ-t, (κ-q, (κ-u, (κ-e, (κ-r, (κ-rows, (κ-numbers, (κ-out, (κ-group-rows, (κ-names, (κ-group-numbers, (κ-group-out, (κ-told, tt))))))))))))))))))))
+  abbrev κs : Lfts 21
+  κs = (κ-bytes, (κ-n, (κ-c, (κ-f, (κ-x, (κ-p, (κ-i, (κ-t, (κ-q, (κ-u, (κ-e, (κ-r, (κ-m, (κ-rows, (κ-numbers, (κ-out, (κ-group-rows, (κ-names, (κ-group-numbers, (κ-group-out, (κ-told, tt)))))))))))))))))))))
 
-  abbrev qs : Shares 20
-  qs = (q-bytes, (q-n, (q-c, (q-f, (q-x, (q-p, (q-i, (q-t, (q-q, (q-u, (q-e, (q-r, (q-rows, (q-numbers, (q-out, (q-group-rows, (q-names, (q-group-numbers, (q-group-out, (q-told, tt))))))))))))))))))))
+  abbrev qs : Shares 21
+  qs = (q-bytes, (q-n, (q-c, (q-f, (q-x, (q-p, (q-i, (q-t, (q-q, (q-u, (q-e, (q-r, (q-m, (q-rows, (q-numbers, (q-out, (q-group-rows, (q-names, (q-group-numbers, (q-group-out, (q-told, tt)))))))))))))))))))))
 
   abbrev args : Args it.signature κs
-  args = (bytes, (n, (c, (f, (x, (p, (i, (t, (q, (u, (e, (r, (rows, (numbers, (out, (group-rows, (names, (group-numbers, (group-out, (told, tt))))))))))))))))))))
+  args = (bytes, (n, (c, (f, (x, (p, (i, (t, (q, (u, (e, (r, (m, (rows, (numbers, (out, (group-rows, (names, (group-numbers, (group-out, (told, tt)))))))))))))))))))))
 
   abbrev vals : Vals it.signature κs
-  vals = (slice bytes ∷ [], (slice n ∷ [], (slice c ∷ [], (slice f ∷ [], (slice x ∷ [], (slice p ∷ [], (slice i ∷ [], (slice t ∷ [], (slice q ∷ [], (slice u ∷ [], (slice e ∷ [], (slice r ∷ [], (slice rows ∷ [], (slice numbers ∷ [], (slice out ∷ [], (slice group-rows ∷ [], (slice names ∷ [], (slice group-numbers ∷ [], (slice group-out ∷ [], (pointer told ∷ [], tt))))))))))))))))))))
+  vals = (slice bytes ∷ [], (slice n ∷ [], (slice c ∷ [], (slice f ∷ [], (slice x ∷ [], (slice p ∷ [], (slice i ∷ [], (slice t ∷ [], (slice q ∷ [], (slice u ∷ [], (slice e ∷ [], (slice r ∷ [], (slice m ∷ [], (slice rows ∷ [], (slice numbers ∷ [], (slice out ∷ [], (slice group-rows ∷ [], (slice names ∷ [], (slice group-numbers ∷ [], (slice group-out ∷ [], (pointer told ∷ [], tt)))))))))))))))))))))
 
   abbrev Post : Val → SProp 𝓤
   Post = walkOf 𝓤 H A it.ended stayed (it.clauses 𝓤 H A mem run) .post ((κs, qs, tt, args, vals), tt)
 
   abbrev Leaves : Type 0
-  Leaves = Left bytes n c f x p i t q u e r rows numbers group-rows names group-numbers told out group-out
+  Leaves = Left bytes n c f x p i t q u e r m rows numbers group-rows names group-numbers told out group-out
 
   -- the tokens, and what the parameters own
   abbrev tokens : List (Item 𝓤)
   tokens = ‵ (flft κ-bytes q-bytes) ∷ ‵ (flft κ-n q-n) ∷ ‵ (flft κ-c q-c) ∷ ‵ (flft κ-f q-f) ∷ ‵ (flft κ-x q-x) ∷ ‵ (flft κ-p q-p) ∷
-      ‵ (flft κ-i q-i) ∷ ‵ (flft κ-t q-t) ∷ ‵ (flft κ-q q-q) ∷ ‵ (flft κ-u q-u) ∷ ‵ (flft κ-e q-e) ∷ ‵ (flft κ-r q-r) ∷ ‵ (flft κ-rows q-rows) ∷
-      ‵ (flft κ-numbers q-numbers) ∷ ‵ (flft κ-out q-out) ∷ ‵ (flft κ-group-rows q-group-rows) ∷ ‵ (flft κ-names q-names) ∷
+      ‵ (flft κ-i q-i) ∷ ‵ (flft κ-t q-t) ∷ ‵ (flft κ-q q-q) ∷ ‵ (flft κ-u q-u) ∷ ‵ (flft κ-e q-e) ∷ ‵ (flft κ-r q-r) ∷ ‵ (flft κ-m q-m) ∷
+      ‵ (flft κ-rows q-rows) ∷ ‵ (flft κ-numbers q-numbers) ∷ ‵ (flft κ-out q-out) ∷ ‵ (flft κ-group-rows q-group-rows) ∷ ‵ (flft κ-names q-names) ∷
       ‵ (flft κ-group-numbers q-group-numbers) ∷ ‵ (flft κ-group-out q-group-out) ∷ ‵ (flft κ-told q-told) ∷ ‵ ftrue ∷ []
 
   abbrev owns : List (Item 𝓤)
@@ -151,34 +153,34 @@ module _ {M : Type 1} (𝓤 : URA M) (H : Heap 𝓤) (A : Atoms 𝓤) (W : Given
       ‵ (ShrSlice (named 6) κ-i u32 .own i (slice i ∷ [])) ∷ ‵ (ShrSlice (named 7) κ-t u32 .own t (slice t ∷ [])) ∷
       ‵ (ShrSlice (named 8) κ-q u32 .own q (slice q ∷ [])) ∷ ‵ (ShrSlice (named 9) κ-u u32 .own u (slice u ∷ [])) ∷
       ‵ (ShrSlice (named 10) κ-e u32 .own e (slice e ∷ [])) ∷ ‵ (ShrSlice (named 11) κ-r u32 .own r (slice r ∷ [])) ∷
-      ‵ (MutSlice (named 12) κ-rows u32 .own rows (slice rows ∷ [])) ∷ ‵ (MutSlice (named 13) κ-numbers u32 .own numbers (slice numbers ∷ [])) ∷
-      ‵ (MutSlice (named 14) κ-out T.the-row .own out (slice out ∷ [])) ∷
-      ‵ (MutSlice (named 15) κ-group-rows u32 .own group-rows (slice group-rows ∷ [])) ∷
-      ‵ (MutSlice (named 16) κ-names u8 .own names (slice names ∷ [])) ∷
-      ‵ (MutSlice (named 17) κ-group-numbers u32 .own group-numbers (slice group-numbers ∷ [])) ∷
-      ‵ (MutSlice (named 18) κ-group-out T.the-row .own group-out (slice group-out ∷ [])) ∷
-      ‵ (MutRef (named 19) κ-told (Array u64 tt 5) .own told (pointer told ∷ [])) ∷ ‵ ftrue ∷ []
+      ‵ (ShrSlice (named 12) κ-m u32 .own m (slice m ∷ [])) ∷ ‵ (MutSlice (named 13) κ-rows u32 .own rows (slice rows ∷ [])) ∷
+      ‵ (MutSlice (named 14) κ-numbers u32 .own numbers (slice numbers ∷ [])) ∷ ‵ (MutSlice (named 15) κ-out T.the-row .own out (slice out ∷ [])) ∷
+      ‵ (MutSlice (named 16) κ-group-rows u32 .own group-rows (slice group-rows ∷ [])) ∷
+      ‵ (MutSlice (named 17) κ-names u8 .own names (slice names ∷ [])) ∷
+      ‵ (MutSlice (named 18) κ-group-numbers u32 .own group-numbers (slice group-numbers ∷ [])) ∷
+      ‵ (MutSlice (named 19) κ-group-out T.the-row .own group-out (slice group-out ∷ [])) ∷
+      ‵ (MutRef (named 20) κ-told (Array u64 tt 5) .own told (pointer told ∷ [])) ∷ ‵ ftrue ∷ []
 
   -- the call of `list_for`: the lifetime and the name under which each slice is lent again
   module _ (ν-numbers : ℕ) (δ-numbers : GName) (ν-group-numbers : ℕ) (δ-group-numbers : GName) where
-    abbrev inner-κs : Lfts 18
-    inner-κs = (κ-bytes, (κ-n, (κ-c, (κ-f, (κ-x, (κ-p, (κ-i, (κ-t, (κ-q, (κ-u, (κ-e, (κ-r, (κ-rows, ((ν-numbers ∷ []), (κ-group-rows, (κ-names, ((ν-group-numbers ∷ []), (κ-told, tt))))))))))))))))))
+    abbrev inner-κs : Lfts 19
+    inner-κs = (κ-bytes, (κ-n, (κ-c, (κ-f, (κ-x, (κ-p, (κ-i, (κ-t, (κ-q, (κ-u, (κ-e, (κ-r, (κ-m, (κ-rows, ((ν-numbers ∷ []), (κ-group-rows, (κ-names, ((ν-group-numbers ∷ []), (κ-told, tt)))))))))))))))))))
 
-    abbrev inner-qs : Shares 18
-    inner-qs = (q-bytes, (q-n, (q-c, (q-f, (q-x, (q-p, (q-i, (q-t, (q-q, (q-u, (q-e, (q-r, (q-rows, (fullShare, (q-group-rows, (q-names, (fullShare, (q-told, tt))))))))))))))))))
+    abbrev inner-qs : Shares 19
+    inner-qs = (q-bytes, (q-n, (q-c, (q-f, (q-x, (q-p, (q-i, (q-t, (q-q, (q-u, (q-e, (q-r, (q-m, (q-rows, (fullShare, (q-group-rows, (q-names, (fullShare, (q-told, tt)))))))))))))))))))
 
     abbrev inner-args : Args inner.signature inner-κs
-    inner-args = (bytes, (n, (c, (f, (x, (p, (i, (t, (q, (u, (e, (r, (rows, (at numbers δ-numbers (now numbers), (group-rows, (names, (at group-numbers δ-group-numbers (now group-numbers), (length (now out), (length (now group-out), (told, tt))))))))))))))))))))
+    inner-args = (bytes, (n, (c, (f, (x, (p, (i, (t, (q, (u, (e, (r, (m, (rows, (at numbers δ-numbers (now numbers), (group-rows, (names, (at group-numbers δ-group-numbers (now group-numbers), (length (now out), (length (now group-out), (told, tt)))))))))))))))))))))
 
     abbrev to-inner : Inner 𝓤 H A mem run .Ghost
-    to-inner = ((inner-κs, inner-qs, tt, inner-args, (slice bytes ∷ [], (slice n ∷ [], (slice c ∷ [], (slice f ∷ [], (slice x ∷ [], (slice p ∷ [], (slice i ∷ [], (slice t ∷ [], (slice q ∷ [], (slice u ∷ [], (slice e ∷ [], (slice r ∷ [], (slice rows ∷ [], (slice numbers ∷ [], (slice group-rows ∷ [], (slice names ∷ [], (slice group-numbers ∷ [], (vint w64 (length (now out)) ∷ [], (vint w64 (length (now group-out)) ∷ [], (pointer told ∷ [], tt))))))))))))))))))))), tt)
+    to-inner = ((inner-κs, inner-qs, tt, inner-args, (slice bytes ∷ [], (slice n ∷ [], (slice c ∷ [], (slice f ∷ [], (slice x ∷ [], (slice p ∷ [], (slice i ∷ [], (slice t ∷ [], (slice q ∷ [], (slice u ∷ [], (slice e ∷ [], (slice r ∷ [], (slice m ∷ [], (slice rows ∷ [], (slice numbers ∷ [], (slice group-rows ∷ [], (slice names ∷ [], (slice group-numbers ∷ [], (vint w64 (length (now out)) ∷ [], (vint w64 (length (now group-out)) ∷ [], (pointer told ∷ [], tt)))))))))))))))))))))), tt)
 
     -- what is kept meanwhile
     abbrev kept : List (Item 𝓤)
     kept = ‵ (LentAgain u32 κ-numbers (ν-numbers ∷ []) q-numbers (numbers .name) (numbers .ptr .0) (numbers .ptr .1) δ-numbers (now numbers)) ∷
         ‵ (LentAgain u32 κ-group-numbers (ν-group-numbers ∷ []) q-group-numbers (group-numbers .name) (group-numbers .ptr .0) (group-numbers .ptr .1) δ-group-numbers (now group-numbers)) ∷
-        ‵ (flft κ-out q-out) ∷ ‵ (MutSlice (named 14) κ-out T.the-row .own out (slice out ∷ [])) ∷
-        ‵ (flft κ-group-out q-group-out) ∷ ‵ (MutSlice (named 18) κ-group-out T.the-row .own group-out (slice group-out ∷ [])) ∷ []
+        ‵ (flft κ-out q-out) ∷ ‵ (MutSlice (named 15) κ-out T.the-row .own out (slice out ∷ [])) ∷
+        ‵ (flft κ-group-out q-group-out) ∷ ‵ (MutSlice (named 19) κ-group-out T.the-row .own group-out (slice group-out ∷ [])) ∷ []
 
     -- what says the last values
     abbrev lastly : Leaves → List (Item 𝓤)
@@ -189,20 +191,20 @@ module _ {M : Type 1} (𝓤 : URA M) (H : Heap 𝓤) (A : Atoms 𝓤) (W : Given
   opens : ent 𝓤 (onEntry 𝓤 H A it.signature κs qs args vals) (H .⇛ (ex 𝓤 (λ (ν-numbers : ℕ). ex 𝓤 (λ (δ-numbers : GName). ex 𝓤 (λ (ν-group-numbers : ℕ). ex 𝓤 (λ (δ-group-numbers : GName). sep 𝓤 (Inner 𝓤 H A mem run .pre (to-inner ν-numbers δ-numbers ν-group-numbers δ-group-numbers)) (⋆ 𝓤 H A (kept ν-numbers δ-numbers ν-group-numbers δ-group-numbers))))))))
   opens =
       qed W (raw (alive 𝓤 H A it.signature κs qs) ∷ owns) ∵ updating ! $ spread W tokens (id⊢ 𝓤 _) $ lft-new ! tt (λ ν-numbers.
-      move ! (35 ∷ 14 ∷ []) $
-      use2 W (later (some (λ (δ-numbers : GName). ‵ (MutSlice (named 13) (ν-numbers ∷ []) u32 .own (at numbers δ-numbers (now numbers)) (slice numbers ∷ [])) ⊛ ‵ (LentAgain u32 κ-numbers (ν-numbers ∷ []) q-numbers (numbers .name) (numbers .ptr .0) (numbers .ptr .1) δ-numbers (now numbers)))))
-      (lends-again u32 κ-numbers (ν-numbers ∷ []) q-numbers (numbers .name) (numbers .ptr .0) (numbers .ptr .1) 𝓤 H A W (named 13) (named 13) (now numbers)) $
-      await ! tt $ pick ! (λ δ-numbers. split ! $ lft-new ! tt (λ ν-group-numbers. move ! (40 ∷ 20 ∷ []) $
-      use2 W (later (some (λ (δ-group-numbers : GName). ‵ (MutSlice (named 17) (ν-group-numbers ∷ []) u32 .own (at group-numbers δ-group-numbers (now group-numbers)) (slice group-numbers ∷ [])) ⊛ ‵ (LentAgain u32 κ-group-numbers (ν-group-numbers ∷ []) q-group-numbers (group-numbers .name) (group-numbers .ptr .0) (group-numbers .ptr .1) δ-group-numbers (now group-numbers)))))
-      (lends-again u32 κ-group-numbers (ν-group-numbers ∷ []) q-group-numbers (group-numbers .name) (group-numbers .ptr .0) (group-numbers .ptr .1) 𝓤 H A W (named 17) (named 17) (now group-numbers)) $
+      move ! (37 ∷ 15 ∷ []) $
+      use2 W (later (some (λ (δ-numbers : GName). ‵ (MutSlice (named 14) (ν-numbers ∷ []) u32 .own (at numbers δ-numbers (now numbers)) (slice numbers ∷ [])) ⊛ ‵ (LentAgain u32 κ-numbers (ν-numbers ∷ []) q-numbers (numbers .name) (numbers .ptr .0) (numbers .ptr .1) δ-numbers (now numbers)))))
+      (lends-again u32 κ-numbers (ν-numbers ∷ []) q-numbers (numbers .name) (numbers .ptr .0) (numbers .ptr .1) 𝓤 H A W (named 14) (named 14) (now numbers)) $
+      await ! tt $ pick ! (λ δ-numbers. split ! $ lft-new ! tt (λ ν-group-numbers. move ! (42 ∷ 21 ∷ []) $
+      use2 W (later (some (λ (δ-group-numbers : GName). ‵ (MutSlice (named 18) (ν-group-numbers ∷ []) u32 .own (at group-numbers δ-group-numbers (now group-numbers)) (slice group-numbers ∷ [])) ⊛ ‵ (LentAgain u32 κ-group-numbers (ν-group-numbers ∷ []) q-group-numbers (group-numbers .name) (group-numbers .ptr .0) (group-numbers .ptr .1) δ-group-numbers (now group-numbers)))))
+      (lends-again u32 κ-group-numbers (ν-group-numbers ∷ []) q-group-numbers (group-numbers .name) (group-numbers .ptr .0) (group-numbers .ptr .1) 𝓤 H A W (named 18) (named 18) (now group-numbers)) $
       await ! tt $ pick ! (λ δ-group-numbers. split ! $ owned ! usize (Is usize) (uint-makes 𝓤 H A W w64) (length (now out)) _ (refl, room-out .0) $
       owned ! usize (Is usize) (uint-makes 𝓤 H A W w64) (length (now group-out)) _ (refl, room-group-out .0) $ at-once ! $
       show ! (λ (ν-numbers : ℕ). ex 𝓤 (λ (δ-numbers : GName). ex 𝓤 (λ (ν-group-numbers : ℕ). ex 𝓤 (λ (δ-group-numbers : GName). sep 𝓤 (Inner 𝓤 H A mem run .pre (to-inner ν-numbers δ-numbers ν-group-numbers δ-group-numbers)) (⋆ 𝓤 H A (kept ν-numbers δ-numbers ν-group-numbers δ-group-numbers)))))) ν-numbers $
       show ! (λ (δ-numbers : GName). ex 𝓤 (λ (ν-group-numbers : ℕ). ex 𝓤 (λ (δ-group-numbers : GName). sep 𝓤 (Inner 𝓤 H A mem run .pre (to-inner ν-numbers δ-numbers ν-group-numbers δ-group-numbers)) (⋆ 𝓤 H A (kept ν-numbers δ-numbers ν-group-numbers δ-group-numbers))))) δ-numbers $
       show ! (λ (ν-group-numbers : ℕ). ex 𝓤 (λ (δ-group-numbers : GName). sep 𝓤 (Inner 𝓤 H A mem run .pre (to-inner ν-numbers δ-numbers ν-group-numbers δ-group-numbers)) (⋆ 𝓤 H A (kept ν-numbers δ-numbers ν-group-numbers δ-group-numbers)))) ν-group-numbers $
       show ! (λ (δ-group-numbers : GName). sep 𝓤 (Inner 𝓤 H A mem run .pre (to-inner ν-numbers δ-numbers ν-group-numbers δ-group-numbers)) (⋆ 𝓤 H A (kept ν-numbers δ-numbers ν-group-numbers δ-group-numbers))) δ-group-numbers $
-      move ! (27 ∷ 28 ∷ 29 ∷ 30 ∷ 31 ∷ 32 ∷ 33 ∷ 34 ∷ 35 ∷ 36 ∷ 37 ∷ 38 ∷ 39 ∷ 5 ∷ 41 ∷ 42 ∷ 2 ∷ 1 ∷ 0 ∷ 44 ∷ 45 ∷ []) $ group ! 21 $
-      move ! (5 ∷ 6 ∷ 7 ∷ 8 ∷ 9 ∷ 10 ∷ 11 ∷ 12 ∷ 13 ∷ 14 ∷ 15 ∷ 16 ∷ 17 ∷ 4 ∷ 19 ∷ 20 ∷ 2 ∷ 22 ∷ 23 ∷ []) $ group ! 19 $
+      move ! (28 ∷ 29 ∷ 30 ∷ 31 ∷ 32 ∷ 33 ∷ 34 ∷ 35 ∷ 36 ∷ 37 ∷ 38 ∷ 39 ∷ 40 ∷ 41 ∷ 5 ∷ 43 ∷ 44 ∷ 2 ∷ 1 ∷ 0 ∷ 46 ∷ 47 ∷ []) $ group ! 22 $
+      move ! (5 ∷ 6 ∷ 7 ∷ 8 ∷ 9 ∷ 10 ∷ 11 ∷ 12 ∷ 13 ∷ 14 ∷ 15 ∷ 16 ∷ 17 ∷ 18 ∷ 4 ∷ 20 ∷ 21 ∷ 2 ∷ 23 ∷ 24 ∷ []) $ group ! 20 $
       join ! $ nothing ! $ move ! (1 ∷ 0 ∷ []) $ join ! $ frame ! $ move ! (1 ∷ 0 ∷ 2 ∷ 4 ∷ 3 ∷ 5 ∷ []) $ done !))))
 
   -- what is left: for each call of `fill_records` what it takes, and the rest
@@ -233,9 +235,9 @@ module _ {M : Type 1} (𝓤 : URA M) (H : Heap 𝓤) (A : Atoms 𝓤) (W : Given
 
     abbrev rest : List (Item 𝓤)
     rest = ‵ (flft κ-bytes q-bytes) ∷ ‵ (flft κ-n q-n) ∷ ‵ (flft κ-c q-c) ∷ ‵ (flft κ-f q-f) ∷ ‵ (flft κ-x q-x) ∷ ‵ (flft κ-p q-p) ∷
-        ‵ (flft κ-i q-i) ∷ ‵ (flft κ-t q-t) ∷ ‵ (flft κ-q q-q) ∷ ‵ (flft κ-u q-u) ∷ ‵ (flft κ-e q-e) ∷ ‵ (flft κ-r q-r) ∷ ‵ (flft κ-rows q-rows) ∷
-        ‵ (flft κ-group-rows q-group-rows) ∷ ‵ (flft κ-names q-names) ∷ ‵ (flft κ-told q-told) ∷ ‵ (finally u32 (rows .name) (l .rows′)) ∷
-        ‵ (finally u32 (group-rows .name) (l .group-rows′)) ∷ ‵ (finally u8 (names .name) (l .names′)) ∷
+        ‵ (flft κ-i q-i) ∷ ‵ (flft κ-t q-t) ∷ ‵ (flft κ-q q-q) ∷ ‵ (flft κ-u q-u) ∷ ‵ (flft κ-e q-e) ∷ ‵ (flft κ-r q-r) ∷ ‵ (flft κ-m q-m) ∷
+        ‵ (flft κ-rows q-rows) ∷ ‵ (flft κ-group-rows q-group-rows) ∷ ‵ (flft κ-names q-names) ∷ ‵ (flft κ-told q-told) ∷
+        ‵ (finally u32 (rows .name) (l .rows′)) ∷ ‵ (finally u32 (group-rows .name) (l .group-rows′)) ∷ ‵ (finally u8 (names .name) (l .names′)) ∷
         ‵ (fres (told .name) ((Array u64 tt 5) .coded .code (l .told′))) ∷ []
 
     abbrev remains : List (Item 𝓤)
@@ -248,64 +250,65 @@ module _ {M : Type 1} (𝓤 : URA M) (H : Heap 𝓤) (A : Atoms 𝓤) (W : Given
       use1 W (later (some (λ (z : Unit {0}). (raw (alive 𝓤 H A inner.signature (inner-κs ν-numbers δ-numbers ν-group-numbers δ-group-numbers) (inner-qs ν-numbers δ-numbers ν-group-numbers δ-group-numbers)) ⊛ ‵ (feq (List Val) (w ∷ []) (vunit ∷ [])))
       ⊛ raw (ensured 𝓤 H A inner.ended (inner.clauses 𝓤 H A mem run) (inner-κs ν-numbers δ-numbers ν-group-numbers δ-group-numbers) (inner-args ν-numbers δ-numbers ν-group-numbers δ-group-numbers) tt z)))) (id⊢ 𝓤 _) $
       await ! tt $ pick ! (λ z. split ! $ move ! (1 ∷ []) $
-      use1 W (some (λ (ws : Unit {0} × (Unit {0} × (Unit {0} × (Unit {0} × (Unit {0} × (Unit {0} × (Unit {0} × (Unit {0} × (Unit {0} × (Unit {0} × (Unit {0} × (Unit {0} × (List ℕ × (List ℕ × (List ℕ × (List ℕ × (List ℕ × (Unit {0} × (Unit {0} × (List ℕ × Unit {0})))))))))))))))))))).
-      ‵ (lasts inner.ended (inner-κs ν-numbers δ-numbers ν-group-numbers δ-group-numbers) (inner-args ν-numbers δ-numbers ν-group-numbers δ-group-numbers) ws) ⊛ raw (fact 𝓤 (BothTold (bothFor (tablesLent bytes n c f x p i t q u e r) (outputs (now rows) (now numbers) (now group-rows) (now names) (now group-numbers)) (length (now out)) (length (now group-out))) (tablesLent bytes n c f x p i t q u e r) (outputs (now rows) (now numbers) (now group-rows) (now names) (now group-numbers)) (ws .1 .1 .1 .1 .1 .1 .1 .1 .1 .1 .1 .1 .1 .1 .1 .1 .1 .1 .1 .0) (outputs (ws .1 .1 .1 .1 .1 .1 .1 .1 .1 .1 .1 .1 .0) (ws .1 .1 .1 .1 .1 .1 .1 .1 .1 .1 .1 .1 .1 .0) (ws .1 .1 .1 .1 .1 .1 .1 .1 .1 .1 .1 .1 .1 .1 .0) (ws .1 .1 .1 .1 .1 .1 .1 .1 .1 .1 .1 .1 .1 .1 .1 .0) (ws .1 .1 .1 .1 .1 .1 .1 .1 .1 .1 .1 .1 .1 .1 .1 .1 .0)))))) (id⊢ 𝓤 _) $
+      use1 W (some (λ (ws : Unit {0} × (Unit {0} × (Unit {0} × (Unit {0} × (Unit {0} × (Unit {0} × (Unit {0} × (Unit {0} × (Unit {0} × (Unit {0} × (Unit {0} × (Unit {0} × (Unit {0} × (List ℕ × (List ℕ × (List ℕ × (List ℕ × (List ℕ × (Unit {0} × (Unit {0} × (List ℕ × Unit {0}))))))))))))))))))))).
+      ‵ (lasts inner.ended (inner-κs ν-numbers δ-numbers ν-group-numbers δ-group-numbers) (inner-args ν-numbers δ-numbers ν-group-numbers δ-group-numbers) ws) ⊛ raw (fact 𝓤 (BothTold (bothFor (tablesLent bytes n c f x p i t q u e r m) (outputs (now rows) (now numbers) (now group-rows) (now names) (now group-numbers)) (length (now out)) (length (now group-out))) (tablesLent bytes n c f x p i t q u e r m) (outputs (now rows) (now numbers) (now group-rows) (now names) (now group-numbers)) (ws .1 .1 .1 .1 .1 .1 .1 .1 .1 .1 .1 .1 .1 .1 .1 .1 .1 .1 .1 .1 .0) (outputs (ws .1 .1 .1 .1 .1 .1 .1 .1 .1 .1 .1 .1 .1 .0) (ws .1 .1 .1 .1 .1 .1 .1 .1 .1 .1 .1 .1 .1 .1 .0) (ws .1 .1 .1 .1 .1 .1 .1 .1 .1 .1 .1 .1 .1 .1 .1 .0) (ws .1 .1 .1 .1 .1 .1 .1 .1 .1 .1 .1 .1 .1 .1 .1 .1 .0) (ws .1 .1 .1 .1 .1 .1 .1 .1 .1 .1 .1 .1 .1 .1 .1 .1 .1 .0)))))) (id⊢ 𝓤 _) $
       pick ! (λ ws. split ! $ move ! (1 ∷ []) $
-      heard ! (BothTold (bothFor (tablesLent bytes n c f x p i t q u e r) (outputs (now rows) (now numbers) (now group-rows) (now names) (now group-numbers)) (length (now out)) (length (now group-out))) (tablesLent bytes n c f x p i t q u e r) (outputs (now rows) (now numbers) (now group-rows) (now names) (now group-numbers)) (ws .1 .1 .1 .1 .1 .1 .1 .1 .1 .1 .1 .1 .1 .1 .1 .1 .1 .1 .1 .0) (outputs (ws .1 .1 .1 .1 .1 .1 .1 .1 .1 .1 .1 .1 .0) (ws .1 .1 .1 .1 .1 .1 .1 .1 .1 .1 .1 .1 .1 .0) (ws .1 .1 .1 .1 .1 .1 .1 .1 .1 .1 .1 .1 .1 .1 .0) (ws .1 .1 .1 .1 .1 .1 .1 .1 .1 .1 .1 .1 .1 .1 .1 .0) (ws .1 .1 .1 .1 .1 .1 .1 .1 .1 .1 .1 .1 .1 .1 .1 .1 .0))) (λ ensures.
-      spread W (‵ ftrue ∷ ‵ ftrue ∷ ‵ ftrue ∷ ‵ ftrue ∷ ‵ ftrue ∷ ‵ ftrue ∷ ‵ ftrue ∷ ‵ ftrue ∷ ‵ ftrue ∷ ‵ ftrue ∷ ‵ ftrue ∷ ‵ ftrue ∷ ‵ (fsep (finally u32 (rows .name) (ws .1 .1 .1 .1 .1 .1 .1 .1 .1 .1 .1 .1 .0)) (feq ℕ (length (ws .1 .1 .1 .1 .1 .1 .1 .1 .1 .1 .1 .1 .0)) (length (now rows)))) ∷ ‵ (fsep (finally u32 δ-numbers (ws .1 .1 .1 .1 .1 .1 .1 .1 .1 .1 .1 .1 .1 .0)) (feq ℕ (length (ws .1 .1 .1 .1 .1 .1 .1 .1 .1 .1 .1 .1 .1 .0)) (length (now numbers)))) ∷ ‵ (fsep (finally u32 (group-rows .name) (ws .1 .1 .1 .1 .1 .1 .1 .1 .1 .1 .1 .1 .1 .1 .0)) (feq ℕ (length (ws .1 .1 .1 .1 .1 .1 .1 .1 .1 .1 .1 .1 .1 .1 .0)) (length (now group-rows)))) ∷ ‵ (fsep (finally u8 (names .name) (ws .1 .1 .1 .1 .1 .1 .1 .1 .1 .1 .1 .1 .1 .1 .1 .0)) (feq ℕ (length (ws .1 .1 .1 .1 .1 .1 .1 .1 .1 .1 .1 .1 .1 .1 .1 .0)) (length (now names)))) ∷ ‵ (fsep (finally u32 δ-group-numbers (ws .1 .1 .1 .1 .1 .1 .1 .1 .1 .1 .1 .1 .1 .1 .1 .1 .0)) (feq ℕ (length (ws .1 .1 .1 .1 .1 .1 .1 .1 .1 .1 .1 .1 .1 .1 .1 .1 .0)) (length (now group-numbers)))) ∷ ‵ ftrue ∷ ‵ ftrue ∷ ‵ (fres (told .name) ((Array u64 tt 5) .coded .code (ws .1 .1 .1 .1 .1 .1 .1 .1 .1 .1 .1 .1 .1 .1 .1 .1 .1 .1 .1 .0))) ∷ ‵ ftrue ∷ []) (id⊢ 𝓤 _) $
-      move ! (12 ∷ []) $ fsplit ! $ move ! (1 ∷ []) $ feqL ! (λ rows-same. move ! (13 ∷ []) $ fsplit ! $ move ! (1 ∷ []) $ feqL ! (λ numbers-same.
-      move ! (14 ∷ []) $ fsplit ! $ move ! (1 ∷ []) $ feqL ! (λ group-rows-same. move ! (15 ∷ []) $ fsplit ! $ move ! (1 ∷ []) $ feqL ! (λ names-same.
-      move ! (16 ∷ []) $ fsplit ! $ move ! (1 ∷ []) $ feqL ! (λ group-numbers-same. move ! (4 ∷ 3 ∷ 2 ∷ 1 ∷ 0 ∷ 19 ∷ []) $ group ! 6 $
+      heard ! (BothTold (bothFor (tablesLent bytes n c f x p i t q u e r m) (outputs (now rows) (now numbers) (now group-rows) (now names) (now group-numbers)) (length (now out)) (length (now group-out))) (tablesLent bytes n c f x p i t q u e r m) (outputs (now rows) (now numbers) (now group-rows) (now names) (now group-numbers)) (ws .1 .1 .1 .1 .1 .1 .1 .1 .1 .1 .1 .1 .1 .1 .1 .1 .1 .1 .1 .1 .0) (outputs (ws .1 .1 .1 .1 .1 .1 .1 .1 .1 .1 .1 .1 .1 .0) (ws .1 .1 .1 .1 .1 .1 .1 .1 .1 .1 .1 .1 .1 .1 .0) (ws .1 .1 .1 .1 .1 .1 .1 .1 .1 .1 .1 .1 .1 .1 .1 .0) (ws .1 .1 .1 .1 .1 .1 .1 .1 .1 .1 .1 .1 .1 .1 .1 .1 .0) (ws .1 .1 .1 .1 .1 .1 .1 .1 .1 .1 .1 .1 .1 .1 .1 .1 .1 .0))) (λ ensures.
+      spread W (‵ ftrue ∷ ‵ ftrue ∷ ‵ ftrue ∷ ‵ ftrue ∷ ‵ ftrue ∷ ‵ ftrue ∷ ‵ ftrue ∷ ‵ ftrue ∷ ‵ ftrue ∷ ‵ ftrue ∷ ‵ ftrue ∷ ‵ ftrue ∷ ‵ ftrue ∷ ‵ (fsep (finally u32 (rows .name) (ws .1 .1 .1 .1 .1 .1 .1 .1 .1 .1 .1 .1 .1 .0)) (feq ℕ (length (ws .1 .1 .1 .1 .1 .1 .1 .1 .1 .1 .1 .1 .1 .0)) (length (now rows)))) ∷ ‵ (fsep (finally u32 δ-numbers (ws .1 .1 .1 .1 .1 .1 .1 .1 .1 .1 .1 .1 .1 .1 .0)) (feq ℕ (length (ws .1 .1 .1 .1 .1 .1 .1 .1 .1 .1 .1 .1 .1 .1 .0)) (length (now numbers)))) ∷ ‵ (fsep (finally u32 (group-rows .name) (ws .1 .1 .1 .1 .1 .1 .1 .1 .1 .1 .1 .1 .1 .1 .1 .0)) (feq ℕ (length (ws .1 .1 .1 .1 .1 .1 .1 .1 .1 .1 .1 .1 .1 .1 .1 .0)) (length (now group-rows)))) ∷ ‵ (fsep (finally u8 (names .name) (ws .1 .1 .1 .1 .1 .1 .1 .1 .1 .1 .1 .1 .1 .1 .1 .1 .0)) (feq ℕ (length (ws .1 .1 .1 .1 .1 .1 .1 .1 .1 .1 .1 .1 .1 .1 .1 .1 .0)) (length (now names)))) ∷ ‵ (fsep (finally u32 δ-group-numbers (ws .1 .1 .1 .1 .1 .1 .1 .1 .1 .1 .1 .1 .1 .1 .1 .1 .1 .0)) (feq ℕ (length (ws .1 .1 .1 .1 .1 .1 .1 .1 .1 .1 .1 .1 .1 .1 .1 .1 .1 .0)) (length (now group-numbers)))) ∷ ‵ ftrue ∷ ‵ ftrue ∷ ‵ (fres (told .name) ((Array u64 tt 5) .coded .code (ws .1 .1 .1 .1 .1 .1 .1 .1 .1 .1 .1 .1 .1 .1 .1 .1 .1 .1 .1 .1 .0))) ∷ ‵ ftrue ∷ []) (id⊢ 𝓤 _) $
+      move ! (13 ∷ []) $ fsplit ! $ move ! (1 ∷ []) $ feqL ! (λ rows-same. move ! (14 ∷ []) $ fsplit ! $ move ! (1 ∷ []) $ feqL ! (λ numbers-same.
+      move ! (15 ∷ []) $ fsplit ! $ move ! (1 ∷ []) $ feqL ! (λ group-rows-same. move ! (16 ∷ []) $ fsplit ! $ move ! (1 ∷ []) $ feqL ! (λ names-same.
+      move ! (17 ∷ []) $ fsplit ! $ move ! (1 ∷ []) $ feqL ! (λ group-numbers-same. move ! (4 ∷ 3 ∷ 2 ∷ 1 ∷ 0 ∷ 20 ∷ []) $ group ! 6 $
       use1 W (some (λ (l : Leaves). raw (⋆ 𝓤 H A (lastly ν-numbers δ-numbers ν-group-numbers δ-group-numbers l)))) (exI 𝓤 (λ (l : Leaves). ⋆ 𝓤 H A (lastly ν-numbers δ-numbers ν-group-numbers δ-group-numbers l))
-      (record { rows′ = (ws .1 .1 .1 .1 .1 .1 .1 .1 .1 .1 .1 .1 .0); numbers′ = (ws .1 .1 .1 .1 .1 .1 .1 .1 .1 .1 .1 .1 .1 .0); group-rows′ = (ws .1 .1 .1 .1 .1 .1 .1 .1 .1 .1 .1 .1 .1 .1 .0); names′ = (ws .1 .1 .1 .1 .1 .1 .1 .1 .1 .1 .1 .1 .1 .1 .1 .0); group-numbers′ = (ws .1 .1 .1 .1 .1 .1 .1 .1 .1 .1 .1 .1 .1 .1 .1 .1 .0); told′ = (ws .1 .1 .1 .1 .1 .1 .1 .1 .1 .1 .1 .1 .1 .1 .1 .1 .1 .1 .1 .0); ensures = ensures; rows-same = rows-same; numbers-same = numbers-same; group-rows-same = group-rows-same; names-same = names-same; group-numbers-same = group-numbers-same })) $
-      pick ! (λ l. spread W (lastly ν-numbers δ-numbers ν-group-numbers δ-group-numbers l) (id⊢ 𝓤 _) $ move ! (21 ∷ []) $ split ! $ move ! (1 ∷ []) $
+      (record { rows′ = (ws .1 .1 .1 .1 .1 .1 .1 .1 .1 .1 .1 .1 .1 .0); numbers′ = (ws .1 .1 .1 .1 .1 .1 .1 .1 .1 .1 .1 .1 .1 .1 .0); group-rows′ = (ws .1 .1 .1 .1 .1 .1 .1 .1 .1 .1 .1 .1 .1 .1 .1 .0); names′ = (ws .1 .1 .1 .1 .1 .1 .1 .1 .1 .1 .1 .1 .1 .1 .1 .1 .0); group-numbers′ = (ws .1 .1 .1 .1 .1 .1 .1 .1 .1 .1 .1 .1 .1 .1 .1 .1 .1 .0); told′ = (ws .1 .1 .1 .1 .1 .1 .1 .1 .1 .1 .1 .1 .1 .1 .1 .1 .1 .1 .1 .1 .0); ensures = ensures; rows-same = rows-same; numbers-same = numbers-same; group-rows-same = group-rows-same; names-same = names-same; group-numbers-same = group-numbers-same })) $
+      pick ! (λ l. spread W (lastly ν-numbers δ-numbers ν-group-numbers δ-group-numbers l) (id⊢ 𝓤 _) $ move ! (22 ∷ []) $ split ! $ move ! (1 ∷ []) $
       feqL ! (λ is-unit.
-      spread W (‵ (flft κ-bytes q-bytes) ∷ ‵ (flft κ-n q-n) ∷ ‵ (flft κ-c q-c) ∷ ‵ (flft κ-f q-f) ∷ ‵ (flft κ-x q-x) ∷ ‵ (flft κ-p q-p) ∷ ‵ (flft κ-i q-i) ∷ ‵ (flft κ-t q-t) ∷ ‵ (flft κ-q q-q) ∷ ‵ (flft κ-u q-u) ∷ ‵ (flft κ-e q-e) ∷ ‵ (flft κ-r q-r) ∷ ‵ (flft κ-rows q-rows) ∷ ‵ (flft (ν-numbers ∷ []) fullShare) ∷ ‵ (flft κ-group-rows q-group-rows) ∷ ‵ (flft κ-names q-names) ∷ ‵ (flft (ν-group-numbers ∷ []) fullShare) ∷ ‵ (flft κ-told q-told) ∷ ‵ ftrue ∷ []) (id⊢ 𝓤 _) $
-      move ! (13 ∷ []) $ lft-end ! tt $ move ! (0 ∷ 40 ∷ 20 ∷ []) $
-      use3 W (later (‵ (MutSlice (named 13) κ-numbers u32 .own (at numbers (numbers .name) (l .numbers′)) (slice numbers ∷ [])) ⊛ ‵ (flft κ-numbers q-numbers)))
-      (comes-back u32 κ-numbers (ν-numbers ∷ []) q-numbers (numbers .name) (numbers .ptr .0) (numbers .ptr .1) 𝓤 H A W (named 13) (named 13) (now numbers) δ-numbers (l .numbers′) room-numbers (l .numbers-same)) $
-      await ! tt $ split ! $ move ! (17 ∷ []) $ lft-end ! tt $ move ! (0 ∷ 40 ∷ 23 ∷ []) $
-      use3 W (later (‵ (MutSlice (named 17) κ-group-numbers u32 .own (at group-numbers (group-numbers .name) (l .group-numbers′)) (slice group-numbers ∷ [])) ⊛ ‵ (flft κ-group-numbers q-group-numbers)))
-      (comes-back u32 κ-group-numbers (ν-group-numbers ∷ []) q-group-numbers (group-numbers .name) (group-numbers .ptr .0) (group-numbers .ptr .1) 𝓤 H A W (named 17) (named 17) (now group-numbers) δ-group-numbers (l .group-numbers′) room-group-numbers (l .group-numbers-same)) $
+      spread W (‵ (flft κ-bytes q-bytes) ∷ ‵ (flft κ-n q-n) ∷ ‵ (flft κ-c q-c) ∷ ‵ (flft κ-f q-f) ∷ ‵ (flft κ-x q-x) ∷ ‵ (flft κ-p q-p) ∷ ‵ (flft κ-i q-i) ∷ ‵ (flft κ-t q-t) ∷ ‵ (flft κ-q q-q) ∷ ‵ (flft κ-u q-u) ∷ ‵ (flft κ-e q-e) ∷ ‵ (flft κ-r q-r) ∷ ‵ (flft κ-m q-m) ∷ ‵ (flft κ-rows q-rows) ∷ ‵ (flft (ν-numbers ∷ []) fullShare) ∷ ‵ (flft κ-group-rows q-group-rows) ∷ ‵ (flft κ-names q-names) ∷ ‵ (flft (ν-group-numbers ∷ []) fullShare) ∷ ‵ (flft κ-told q-told) ∷ ‵ ftrue ∷ []) (id⊢ 𝓤 _) $
+      move ! (14 ∷ []) $ lft-end ! tt $ move ! (0 ∷ 42 ∷ 21 ∷ []) $
+      use3 W (later (‵ (MutSlice (named 14) κ-numbers u32 .own (at numbers (numbers .name) (l .numbers′)) (slice numbers ∷ [])) ⊛ ‵ (flft κ-numbers q-numbers)))
+      (comes-back u32 κ-numbers (ν-numbers ∷ []) q-numbers (numbers .name) (numbers .ptr .0) (numbers .ptr .1) 𝓤 H A W (named 14) (named 14) (now numbers) δ-numbers (l .numbers′) room-numbers (l .numbers-same)) $
+      await ! tt $ split ! $ move ! (18 ∷ []) $ lft-end ! tt $ move ! (0 ∷ 42 ∷ 24 ∷ []) $
+      use3 W (later (‵ (MutSlice (named 18) κ-group-numbers u32 .own (at group-numbers (group-numbers .name) (l .group-numbers′)) (slice group-numbers ∷ [])) ⊛ ‵ (flft κ-group-numbers q-group-numbers)))
+      (comes-back u32 κ-group-numbers (ν-group-numbers ∷ []) q-group-numbers (group-numbers .name) (group-numbers .ptr .0) (group-numbers .ptr .1) 𝓤 H A W (named 18) (named 18) (now group-numbers) δ-group-numbers (l .group-numbers′) room-group-numbers (l .group-numbers-same)) $
       await ! tt $ split ! $ at-once ! $ check ! is-unit $ show ! (λ (l : Leaves). ⋆ 𝓤 H A (remains l)) l $
-      keep ! (41 ∷ 40 ∷ 2 ∷ 3 ∷ 43 ∷ 42 ∷ 0 ∷ 1 ∷ 4 ∷ 5 ∷ 6 ∷ 7 ∷ 8 ∷ 9 ∷ 10 ∷ 11 ∷ 12 ∷ 13 ∷ 14 ∷ 15 ∷ 16 ∷ 17 ∷ 18 ∷ 19 ∷ 21 ∷ 22 ∷ 23 ∷ 24 ∷ []) $
+      keep ! (43 ∷ 42 ∷ 2 ∷ 3 ∷ 45 ∷ 44 ∷ 0 ∷ 1 ∷ 4 ∷ 5 ∷ 6 ∷ 7 ∷ 8 ∷ 9 ∷ 10 ∷ 11 ∷ 12 ∷ 13 ∷ 14 ∷ 15 ∷ 16 ∷ 17 ∷ 18 ∷ 19 ∷ 20 ∷ 22 ∷ 23 ∷ 24 ∷ 25 ∷ []) $
       group ! 4 $ frame ! $ group ! 4 $ frame ! $ done !))))))))))
 
   closes : (l : Leaves) (filled-out : Filled (l .numbers′) (now out)) (filled-group-out : Filled (l .group-numbers′) (now group-out)) → ent 𝓤 (⋆ 𝓤 H A (raw (⋆ 𝓤 H A (gives-out l filled-out)) ∷ raw (⋆ 𝓤 H A (gives-group-out l filled-group-out)) ∷ raw (⋆ 𝓤 H A (rest l)) ∷ [])) (Post vunit)
   closes l filled-out filled-group-out =
       qed W (raw (⋆ 𝓤 H A (gives-out l filled-out)) ∷ raw (⋆ 𝓤 H A (gives-group-out l filled-group-out)) ∷ rest l) ∵
       suffices ! _ (ends-at 𝓤 H A it.ended stayed (it.clauses 𝓤 H A mem run) W ((κs, qs, tt, args, vals), tt) vunit tt
-      (tt, (tt, (tt, (tt, (tt, (tt, (tt, (tt, (tt, (tt, (tt, (tt, (l .rows′, (l .numbers′, (filled-out .to, (l .group-rows′, (l .names′, (l .group-numbers′, (filled-group-out .to, (l .told′, tt))))))))))))))))))))
-      (tt, (tt, (tt, (tt, (tt, (tt, (tt, (tt, (tt, (tt, (tt, (tt, (l .rows-same, (l .numbers-same, (filled-out .same, (l .group-rows-same, (l .names-same, (l .group-numbers-same, (filled-group-out .same, (tt, tt))))))))))))))))))))) $
+      (tt, (tt, (tt, (tt, (tt, (tt, (tt, (tt, (tt, (tt, (tt, (tt, (tt, (l .rows′, (l .numbers′, (filled-out .to, (l .group-rows′, (l .names′, (l .group-numbers′, (filled-group-out .to, (l .told′, tt)))))))))))))))))))))
+      (tt, (tt, (tt, (tt, (tt, (tt, (tt, (tt, (tt, (tt, (tt, (tt, (tt, (l .rows-same, (l .numbers-same, (filled-out .same, (l .group-rows-same, (l .names-same, (l .group-numbers-same, (filled-group-out .same, (tt, tt)))))))))))))))))))))) $
       says ! (both-records _ _ _ _ _ _ _ _ (l .ensures) (filled-out .is) (filled-group-out .is)) $ spread W (gives-out l filled-out) (id⊢ 𝓤 _) $
       move ! (4 ∷ []) $ spread W (gives-group-out l filled-group-out) (id⊢ 𝓤 _) $ nothing ! $ nothing ! $ nothing ! $ nothing ! $ nothing ! $
-      nothing ! $ nothing ! $ nothing ! $ nothing ! $ nothing ! $ nothing ! $ nothing ! $ nothing ! $ nothing ! $
-      move ! (13 ∷ 12 ∷ 11 ∷ 10 ∷ 9 ∷ 8 ∷ 7 ∷ 6 ∷ 5 ∷ 4 ∷ 3 ∷ 2 ∷ 38 ∷ 20 ∷ 18 ∷ 39 ∷ 40 ∷ 16 ∷ 14 ∷ 41 ∷ 0 ∷ []) $ group ! 21 $
-      move ! (6 ∷ 7 ∷ 8 ∷ 9 ∷ 10 ∷ 11 ∷ 12 ∷ 13 ∷ 14 ∷ 15 ∷ 16 ∷ 17 ∷ 18 ∷ 5 ∷ 4 ∷ 19 ∷ 20 ∷ 3 ∷ 2 ∷ 21 ∷ 1 ∷ []) $ group ! 21 $ frame ! $ frame ! $
-      feqI ! (List Val) (vunit ∷ []) (vunit ∷ []) refl $ done !
+      nothing ! $ nothing ! $ nothing ! $ nothing ! $ nothing ! $ nothing ! $ nothing ! $ nothing ! $ nothing ! $ nothing ! $
+      move ! (14 ∷ 13 ∷ 12 ∷ 11 ∷ 10 ∷ 9 ∷ 8 ∷ 7 ∷ 6 ∷ 5 ∷ 4 ∷ 3 ∷ 2 ∷ 40 ∷ 21 ∷ 19 ∷ 41 ∷ 42 ∷ 17 ∷ 15 ∷ 43 ∷ 0 ∷ []) $ group ! 22 $
+      move ! (6 ∷ 7 ∷ 8 ∷ 9 ∷ 10 ∷ 11 ∷ 12 ∷ 13 ∷ 14 ∷ 15 ∷ 16 ∷ 17 ∷ 18 ∷ 19 ∷ 5 ∷ 4 ∷ 20 ∷ 21 ∷ 3 ∷ 2 ∷ 22 ∷ 1 ∷ []) $ group ! 22 $
+      frame ! $ frame ! $ feqI ! (List Val) (vunit ∷ []) (vunit ∷ []) refl $ done !
 
   module _ (𝓣 : Tables 𝓤 H) (inner-met : Triple 𝓤 (𝓣 .C #inner) (Inner 𝓤 H A mem run)) (fill-met : Triple 𝓤 (𝓣 .C #fill) (Fill 𝓤 H A mem run)) where
-    walk : ent 𝓤 (onEntry 𝓤 H A it.signature κs qs args vals) (WpFn 𝓤 H (𝓣 .C) (𝓣 .Λ) code.function (slice bytes ∷ slice n ∷ slice c ∷ slice f ∷ slice x ∷ slice p ∷ slice i ∷ slice t ∷ slice q ∷ slice u ∷ slice e ∷ slice r ∷ slice rows ∷ slice numbers ∷ slice out ∷ slice group-rows ∷ slice names ∷ slice group-numbers ∷ slice group-out ∷ pointer told ∷ []) Post)
+    walk : ent 𝓤 (onEntry 𝓤 H A it.signature κs qs args vals) (WpFn 𝓤 H (𝓣 .C) (𝓣 .Λ) code.function (slice bytes ∷ slice n ∷ slice c ∷ slice f ∷ slice x ∷ slice p ∷ slice i ∷ slice t ∷ slice q ∷ slice u ∷ slice e ∷ slice r ∷ slice m ∷ slice rows ∷ slice numbers ∷ slice out ∷ slice group-rows ∷ slice names ∷ slice group-numbers ∷ slice group-out ∷ pointer told ∷ []) Post)
     walk =
-        qed W (raw (onEntry 𝓤 H A it.signature κs qs args vals) ∷ []) ∵ enter ! (𝓣 .C) (𝓣 .Λ) code.function (slice bytes ∷ slice n ∷ slice c ∷ slice f ∷ slice x ∷ slice p ∷ slice i ∷ slice t ∷ slice q ∷ slice u ∷ slice e ∷ slice r ∷ slice rows ∷ slice numbers ∷ slice out ∷ slice group-rows ∷ slice names ∷ slice group-numbers ∷ slice group-out ∷ pointer told ∷ []) _ $
+        qed W (raw (onEntry 𝓤 H A it.signature κs qs args vals) ∷ []) ∵ enter ! (𝓣 .C) (𝓣 .Λ) code.function (slice bytes ∷ slice n ∷ slice c ∷ slice f ∷ slice x ∷ slice p ∷ slice i ∷ slice t ∷ slice q ∷ slice u ∷ slice e ∷ slice r ∷ slice m ∷ slice rows ∷ slice numbers ∷ slice out ∷ slice group-rows ∷ slice names ∷ slice group-numbers ∷ slice group-out ∷ pointer told ∷ []) _ $
         alloc1 ! (λ l0. alloc1 ! (λ l1. alloc1 ! (λ l2. alloc1 ! (λ l3. alloc1 ! (λ l4. alloc1 ! (λ l5. alloc1 ! (λ l6. alloc1 ! (λ l7.
         alloc1 ! (λ l8. alloc1 ! (λ l9. alloc1 ! (λ l10. alloc1 ! (λ l11. alloc1 ! (λ l12. alloc1 ! (λ l13. alloc1 ! (λ l14. alloc1 ! (λ l15.
         alloc1 ! (λ l16. alloc1 ! (λ l17. alloc1 ! (λ l18. alloc1 ! (λ l19. alloc1 ! (λ l20. alloc1 ! (λ l21. alloc1 ! (λ l22. alloc1 ! (λ l23.
         alloc1 ! (λ l24. alloc1 ! (λ l25. alloc1 ! (λ l26. alloc1 ! (λ l27. alloc1 ! (λ l28. alloc1 ! (λ l29. alloc1 ! (λ l30. alloc1 ! (λ l31.
         alloc1 ! (λ l32. alloc1 ! (λ l33. alloc1 ! (λ l34. alloc1 ! (λ l35. alloc1 ! (λ l36. alloc1 ! (λ l37. alloc1 ! (λ l38. alloc1 ! (λ l39.
-        alloc1 ! (λ l40. alloc1 ! (λ l41. alloc1 ! (λ l42. alloc0 ! $ params1 ! $
-        pass1 ! (init ! 82 refl (tt, (tt, (record { fits = room-bytes .0 }, tt)))) $
-        pass1 ! (init ! 80 refl (tt, (tt, (record { fits = room-n .0 }, tt)))) $
-        pass1 ! (init ! 78 refl (tt, (tt, (record { fits = room-c .0 }, tt)))) $
-        pass1 ! (init ! 76 refl (tt, (tt, (record { fits = room-f .0 }, tt)))) $
-        pass1 ! (init ! 74 refl (tt, (tt, (record { fits = room-x .0 }, tt)))) $
-        pass1 ! (init ! 72 refl (tt, (tt, (record { fits = room-p .0 }, tt)))) $
-        pass1 ! (init ! 70 refl (tt, (tt, (record { fits = room-i .0 }, tt)))) $
-        pass1 ! (init ! 68 refl (tt, (tt, (record { fits = room-t .0 }, tt)))) $
-        pass1 ! (init ! 66 refl (tt, (tt, (record { fits = room-q .0 }, tt)))) $
-        pass1 ! (init ! 64 refl (tt, (tt, (record { fits = room-u .0 }, tt)))) $
-        pass1 ! (init ! 62 refl (tt, (tt, (record { fits = room-e .0 }, tt)))) $
-        pass1 ! (init ! 60 refl (tt, (tt, (record { fits = room-r .0 }, tt)))) $
+        alloc1 ! (λ l40. alloc1 ! (λ l41. alloc1 ! (λ l42. alloc1 ! (λ l43. alloc0 ! $ params1 ! $
+        pass1 ! (init ! 84 refl (tt, (tt, (record { fits = room-bytes .0 }, tt)))) $
+        pass1 ! (init ! 82 refl (tt, (tt, (record { fits = room-n .0 }, tt)))) $
+        pass1 ! (init ! 80 refl (tt, (tt, (record { fits = room-c .0 }, tt)))) $
+        pass1 ! (init ! 78 refl (tt, (tt, (record { fits = room-f .0 }, tt)))) $
+        pass1 ! (init ! 76 refl (tt, (tt, (record { fits = room-x .0 }, tt)))) $
+        pass1 ! (init ! 74 refl (tt, (tt, (record { fits = room-p .0 }, tt)))) $
+        pass1 ! (init ! 72 refl (tt, (tt, (record { fits = room-i .0 }, tt)))) $
+        pass1 ! (init ! 70 refl (tt, (tt, (record { fits = room-t .0 }, tt)))) $
+        pass1 ! (init ! 68 refl (tt, (tt, (record { fits = room-q .0 }, tt)))) $
+        pass1 ! (init ! 66 refl (tt, (tt, (record { fits = room-u .0 }, tt)))) $
+        pass1 ! (init ! 64 refl (tt, (tt, (record { fits = room-e .0 }, tt)))) $
+        pass1 ! (init ! 62 refl (tt, (tt, (record { fits = room-r .0 }, tt)))) $
+        pass1 ! (init ! 60 refl (tt, (tt, (record { fits = room-m .0 }, tt)))) $
         pass1 ! (init ! 58 refl (tt, (tt, (record { fits = room-rows .0 }, tt)))) $
         pass1 ! (init ! 56 refl (tt, (tt, (record { fits = room-numbers .0 }, tt)))) $
         pass1 ! (init ! 54 refl (tt, (tt, (record { fits = room-out .0 }, tt)))) $
@@ -327,10 +330,10 @@ module _ {M : Type 1} (𝓤 : URA M) (H : Heap 𝓤) (A : Atoms 𝓤) (W : Given
         assigns ! (agg ! (and-then ! (load ! (from ! (stop !)) (look ! 20 refl)) (and-then ! (load ! (from ! (fld ! refl (stop !))) (look-in ! 48 (sub ! 1 refl (whole !)))) (no-more !)))) (from ! (stop !)) (init ! 18 refl (tt, (tt, (record { fits = room-group-numbers .0 }, tt)))) $
         assigns ! (addr ! (from ! (hop ! (look ! 44 refl) (stop !)))) (from ! (stop !)) (init ! 16 refl (tt, tt)) $
         -- `list_for`
-        move ! (86 ∷ []) $
+        move ! (88 ∷ []) $
         use1 W (later (some (λ (ν-numbers : ℕ). some (λ (δ-numbers : GName). some (λ (ν-group-numbers : ℕ). some (λ (δ-group-numbers : GName). raw (Inner 𝓤 H A mem run .pre (to-inner ν-numbers δ-numbers ν-group-numbers δ-group-numbers)) ⊛ raw (⋆ 𝓤 H A (kept ν-numbers δ-numbers ν-group-numbers δ-group-numbers)))))))) opens $ await ! tt $
         pick ! (λ ν-numbers. pick ! (λ δ-numbers. pick ! (λ ν-group-numbers. pick ! (λ δ-group-numbers. split ! $
-        calls-at ! (fmOf 𝓤 H (W .laws) 𝓣) (Inner 𝓤 H A mem run) inner-met (to-inner ν-numbers δ-numbers ν-group-numbers δ-group-numbers) (and-then ! (load ! (from ! (stop !)) (look ! 84 refl)) (and-then ! (load ! (from ! (stop !)) (look ! 82 refl)) (and-then ! (load ! (from ! (stop !)) (look ! 80 refl)) (and-then ! (load ! (from ! (stop !)) (look ! 78 refl)) (and-then ! (load ! (from ! (stop !)) (look ! 76 refl)) (and-then ! (load ! (from ! (stop !)) (look ! 74 refl)) (and-then ! (load ! (from ! (stop !)) (look ! 72 refl)) (and-then ! (load ! (from ! (stop !)) (look ! 70 refl)) (and-then ! (load ! (from ! (stop !)) (look ! 68 refl)) (and-then ! (load ! (from ! (stop !)) (look ! 66 refl)) (and-then ! (load ! (from ! (stop !)) (look ! 64 refl)) (and-then ! (load ! (from ! (stop !)) (look ! 62 refl)) (and-then ! (load ! (from ! (stop !)) (look ! 36 refl)) (and-then ! (load ! (from ! (stop !)) (look ! 32 refl)) (and-then ! (load ! (from ! (stop !)) (look ! 28 refl)) (and-then ! (load ! (from ! (stop !)) (look ! 24 refl)) (and-then ! (load ! (from ! (stop !)) (look ! 20 refl)) (and-then ! (load ! (from ! (stop !)) (look ! 44 refl)) (and-then ! (load ! (from ! (stop !)) (look ! 42 refl)) (and-then ! (load ! (from ! (stop !)) (look ! 18 refl)) (no-more !))))))))))))))))))))) (λ w.
+        calls-at ! (fmOf 𝓤 H (W .laws) 𝓣) (Inner 𝓤 H A mem run) inner-met (to-inner ν-numbers δ-numbers ν-group-numbers δ-group-numbers) (and-then ! (load ! (from ! (stop !)) (look ! 86 refl)) (and-then ! (load ! (from ! (stop !)) (look ! 84 refl)) (and-then ! (load ! (from ! (stop !)) (look ! 82 refl)) (and-then ! (load ! (from ! (stop !)) (look ! 80 refl)) (and-then ! (load ! (from ! (stop !)) (look ! 78 refl)) (and-then ! (load ! (from ! (stop !)) (look ! 76 refl)) (and-then ! (load ! (from ! (stop !)) (look ! 74 refl)) (and-then ! (load ! (from ! (stop !)) (look ! 72 refl)) (and-then ! (load ! (from ! (stop !)) (look ! 70 refl)) (and-then ! (load ! (from ! (stop !)) (look ! 68 refl)) (and-then ! (load ! (from ! (stop !)) (look ! 66 refl)) (and-then ! (load ! (from ! (stop !)) (look ! 64 refl)) (and-then ! (load ! (from ! (stop !)) (look ! 62 refl)) (and-then ! (load ! (from ! (stop !)) (look ! 36 refl)) (and-then ! (load ! (from ! (stop !)) (look ! 32 refl)) (and-then ! (load ! (from ! (stop !)) (look ! 28 refl)) (and-then ! (load ! (from ! (stop !)) (look ! 24 refl)) (and-then ! (load ! (from ! (stop !)) (look ! 20 refl)) (and-then ! (load ! (from ! (stop !)) (look ! 44 refl)) (and-then ! (load ! (from ! (stop !)) (look ! 42 refl)) (and-then ! (load ! (from ! (stop !)) (look ! 18 refl)) (no-more !)))))))))))))))))))))) (λ w.
         use2 W (later (given (w ∷ [] ≡ vunit ∷ []) (some (λ (l : Leaves). raw (⋆ 𝓤 H A (remains l)))))) (left ν-numbers δ-numbers ν-group-numbers δ-group-numbers w) $ await ! tt $
         learn ! (λ is-unit. pick ! (λ l. spread W (remains l) (id⊢ 𝓤 _) $
         land ! (from ! (stop !)) (init ! 41 refl (subst (λ (s : Val). Holds (hasTy tyUnit s) × WT s) (sym (ap only is-unit)) (tt, tt))) $
@@ -362,47 +365,48 @@ module _ {M : Type 1} (𝓤 : URA M) (H : Heap 𝓤) (A : Atoms 𝓤) (W : Given
         learn ! (λ is-unit. pick ! (λ filled-group-out.
         land ! (from ! (stop !)) (store ! 41 refl (subst (λ (s : Val). Holds (hasTy tyUnit s) × WT s) (sym (ap only is-unit)) (tt, tt))) $
         -- the end
-        assigns ! (of-opd ! (unit-lit !)) (from ! (stop !)) (init ! 87 refl (tt, tt)) $ returns ! (look ! 87 refl) $ move ! (1 ∷ 0 ∷ 2 ∷ []) $
+        assigns ! (of-opd ! (unit-lit !)) (from ! (stop !)) (init ! 89 refl (tt, tt)) $ returns ! (look ! 89 refl) $ move ! (1 ∷ 0 ∷ 2 ∷ []) $
         group ! 3 $ use1 W (raw (Post vunit)) (closes l filled-out filled-group-out) $ forget ! 1 refl $ forget ! 3 refl $ forget ! 5 refl $
         forget ! 7 refl $ forget ! 9 refl $ forget ! 11 refl $ forget ! 13 refl $ forget ! 15 refl $ forget ! 17 refl $ forget ! 19 refl $
         forget ! 21 refl $ forget ! 23 refl $ forget ! 25 refl $ forget ! 27 refl $ forget ! 29 refl $ forget ! 31 refl $ forget ! 33 refl $
         forget ! 35 refl $ forget ! 37 refl $ forget ! 39 refl $ forget ! 41 refl $ forget ! 43 refl $ forget ! 45 refl $ forget ! 47 refl $
         forget ! 49 refl $ forget ! 51 refl $ forget ! 53 refl $ forget ! 55 refl $ forget ! 57 refl $ forget ! 59 refl $ forget ! 61 refl $
         forget ! 63 refl $ forget ! 65 refl $ forget ! 67 refl $ forget ! 69 refl $ forget ! 71 refl $ forget ! 73 refl $ forget ! 75 refl $
-        forget ! 77 refl $ forget ! 79 refl $ forget ! 81 refl $ forget ! 83 refl $ forget ! 85 refl $ move ! (85 ∷ 86 ∷ []) $ free1 ! $
-        move ! (83 ∷ 84 ∷ []) $ free1 ! $ move ! (81 ∷ 82 ∷ []) $ free1 ! $ move ! (79 ∷ 80 ∷ []) $ free1 ! $ move ! (77 ∷ 78 ∷ []) $ free1 ! $
-        move ! (75 ∷ 76 ∷ []) $ free1 ! $ move ! (73 ∷ 74 ∷ []) $ free1 ! $ move ! (71 ∷ 72 ∷ []) $ free1 ! $ move ! (69 ∷ 70 ∷ []) $ free1 ! $
-        move ! (67 ∷ 68 ∷ []) $ free1 ! $ move ! (65 ∷ 66 ∷ []) $ free1 ! $ move ! (63 ∷ 64 ∷ []) $ free1 ! $ move ! (61 ∷ 62 ∷ []) $ free1 ! $
-        move ! (59 ∷ 60 ∷ []) $ free1 ! $ move ! (57 ∷ 58 ∷ []) $ free1 ! $ move ! (55 ∷ 56 ∷ []) $ free1 ! $ move ! (53 ∷ 54 ∷ []) $ free1 ! $
-        move ! (51 ∷ 52 ∷ []) $ free1 ! $ move ! (49 ∷ 50 ∷ []) $ free1 ! $ move ! (47 ∷ 48 ∷ []) $ free1 ! $ move ! (45 ∷ 46 ∷ []) $ free1 ! $
-        move ! (43 ∷ 44 ∷ []) $ free1 ! $ move ! (41 ∷ 42 ∷ []) $ free1 ! $ move ! (39 ∷ 40 ∷ []) $ free1 ! $ move ! (37 ∷ 38 ∷ []) $ free1 ! $
-        move ! (35 ∷ 36 ∷ []) $ free1 ! $ move ! (33 ∷ 34 ∷ []) $ free1 ! $ move ! (31 ∷ 32 ∷ []) $ free1 ! $ move ! (29 ∷ 30 ∷ []) $ free1 ! $
-        move ! (27 ∷ 28 ∷ []) $ free1 ! $ move ! (25 ∷ 26 ∷ []) $ free1 ! $ move ! (23 ∷ 24 ∷ []) $ free1 ! $ move ! (21 ∷ 22 ∷ []) $ free1 ! $
-        move ! (19 ∷ 20 ∷ []) $ free1 ! $ move ! (17 ∷ 18 ∷ []) $ free1 ! $ move ! (15 ∷ 16 ∷ []) $ free1 ! $ move ! (13 ∷ 14 ∷ []) $ free1 ! $
-        move ! (11 ∷ 12 ∷ []) $ free1 ! $ move ! (9 ∷ 10 ∷ []) $ free1 ! $ move ! (7 ∷ 8 ∷ []) $ free1 ! $ move ! (5 ∷ 6 ∷ []) $ free1 ! $
-        move ! (3 ∷ 4 ∷ []) $ free1 ! $ move ! (1 ∷ 2 ∷ []) $ free1 ! $ free0 ! $
-        by ! (id⊢ 𝓤 _)))))))))))))))))))))))))))))))))))))))))))))))))))))))))))))
+        forget ! 77 refl $ forget ! 79 refl $ forget ! 81 refl $ forget ! 83 refl $ forget ! 85 refl $ forget ! 87 refl $ move ! (87 ∷ 88 ∷ []) $
+        free1 ! $ move ! (85 ∷ 86 ∷ []) $ free1 ! $ move ! (83 ∷ 84 ∷ []) $ free1 ! $ move ! (81 ∷ 82 ∷ []) $ free1 ! $ move ! (79 ∷ 80 ∷ []) $
+        free1 ! $ move ! (77 ∷ 78 ∷ []) $ free1 ! $ move ! (75 ∷ 76 ∷ []) $ free1 ! $ move ! (73 ∷ 74 ∷ []) $ free1 ! $ move ! (71 ∷ 72 ∷ []) $
+        free1 ! $ move ! (69 ∷ 70 ∷ []) $ free1 ! $ move ! (67 ∷ 68 ∷ []) $ free1 ! $ move ! (65 ∷ 66 ∷ []) $ free1 ! $ move ! (63 ∷ 64 ∷ []) $
+        free1 ! $ move ! (61 ∷ 62 ∷ []) $ free1 ! $ move ! (59 ∷ 60 ∷ []) $ free1 ! $ move ! (57 ∷ 58 ∷ []) $ free1 ! $ move ! (55 ∷ 56 ∷ []) $
+        free1 ! $ move ! (53 ∷ 54 ∷ []) $ free1 ! $ move ! (51 ∷ 52 ∷ []) $ free1 ! $ move ! (49 ∷ 50 ∷ []) $ free1 ! $ move ! (47 ∷ 48 ∷ []) $
+        free1 ! $ move ! (45 ∷ 46 ∷ []) $ free1 ! $ move ! (43 ∷ 44 ∷ []) $ free1 ! $ move ! (41 ∷ 42 ∷ []) $ free1 ! $ move ! (39 ∷ 40 ∷ []) $
+        free1 ! $ move ! (37 ∷ 38 ∷ []) $ free1 ! $ move ! (35 ∷ 36 ∷ []) $ free1 ! $ move ! (33 ∷ 34 ∷ []) $ free1 ! $ move ! (31 ∷ 32 ∷ []) $
+        free1 ! $ move ! (29 ∷ 30 ∷ []) $ free1 ! $ move ! (27 ∷ 28 ∷ []) $ free1 ! $ move ! (25 ∷ 26 ∷ []) $ free1 ! $ move ! (23 ∷ 24 ∷ []) $
+        free1 ! $ move ! (21 ∷ 22 ∷ []) $ free1 ! $ move ! (19 ∷ 20 ∷ []) $ free1 ! $ move ! (17 ∷ 18 ∷ []) $ free1 ! $ move ! (15 ∷ 16 ∷ []) $
+        free1 ! $ move ! (13 ∷ 14 ∷ []) $ free1 ! $ move ! (11 ∷ 12 ∷ []) $ free1 ! $ move ! (9 ∷ 10 ∷ []) $ free1 ! $ move ! (7 ∷ 8 ∷ []) $ free1 ! $
+        move ! (5 ∷ 6 ∷ []) $ free1 ! $ move ! (3 ∷ 4 ∷ []) $ free1 ! $ move ! (1 ∷ 2 ∷ []) $ free1 ! $ free0 ! $
+        by ! (id⊢ 𝓤 _))))))))))))))))))))))))))))))))))))))))))))))))))))))))))))))
 
 module _ {M : Type 1} (𝓤 : URA M) (H : Heap 𝓤) (A : Atoms 𝓤) (W : Given 𝓤 H A) (mem : Memory → SProp 𝓤) (run : Routine → Fun 𝓤) (𝓣 : Tables 𝓤 H)
     (inner-met : Triple 𝓤 (𝓣 .C #inner) (Inner 𝓤 H A mem run)) (fill-met : Triple 𝓤 (𝓣 .C #fill) (Fill 𝓤 H A mem run)) where
   walks : Walks 𝓤 H A it.ended stayed (WpFn 𝓤 H (𝓣 .C) (𝓣 .Λ) code.function) (it.clauses 𝓤 H A mem run)
   walks =
       walked 𝓤 H A it.ended stayed (it.clauses 𝓤 H A mem run) (WpFn 𝓤 H (𝓣 .C) (𝓣 .Λ) code.function)
-      (λ κs. slice-vals ⨾ slice-vals ⨾ slice-vals ⨾ slice-vals ⨾ slice-vals ⨾ slice-vals ⨾ slice-vals ⨾ slice-vals ⨾ slice-vals ⨾ slice-vals ⨾ slice-vals ⨾ slice-vals ⨾ slice-vals ⨾ slice-vals ⨾ slice-vals ⨾ slice-vals ⨾ slice-vals ⨾ slice-vals ⨾ slice-vals ⨾ ptr-vals ⨾ tt)
+      (λ κs. slice-vals ⨾ slice-vals ⨾ slice-vals ⨾ slice-vals ⨾ slice-vals ⨾ slice-vals ⨾ slice-vals ⨾ slice-vals ⨾ slice-vals ⨾ slice-vals ⨾ slice-vals ⨾ slice-vals ⨾ slice-vals ⨾ slice-vals ⨾ slice-vals ⨾ slice-vals ⨾ slice-vals ⨾ slice-vals ⨾ slice-vals ⨾ slice-vals ⨾ ptr-vals ⨾ tt)
       (λ κs. shr-slice-tells (named 0) (κs .0) u8 ⨾ shr-slice-tells (named 1) (κs .1 .0) u32 ⨾ shr-slice-tells (named 2) (κs .1 .1 .0) u32
       ⨾ shr-slice-tells (named 3) (κs .1 .1 .1 .0) u32 ⨾ shr-slice-tells (named 4) (κs .1 .1 .1 .1 .0) u32
       ⨾ shr-slice-tells (named 5) (κs .1 .1 .1 .1 .1 .0) u32 ⨾ shr-slice-tells (named 6) (κs .1 .1 .1 .1 .1 .1 .0) u32
       ⨾ shr-slice-tells (named 7) (κs .1 .1 .1 .1 .1 .1 .1 .0) u32 ⨾ shr-slice-tells (named 8) (κs .1 .1 .1 .1 .1 .1 .1 .1 .0) u32
       ⨾ shr-slice-tells (named 9) (κs .1 .1 .1 .1 .1 .1 .1 .1 .1 .0) u32 ⨾ shr-slice-tells (named 10) (κs .1 .1 .1 .1 .1 .1 .1 .1 .1 .1 .0) u32
       ⨾ shr-slice-tells (named 11) (κs .1 .1 .1 .1 .1 .1 .1 .1 .1 .1 .1 .0) u32
-      ⨾ mut-slice-tells (named 12) (κs .1 .1 .1 .1 .1 .1 .1 .1 .1 .1 .1 .1 .0) u32
+      ⨾ shr-slice-tells (named 12) (κs .1 .1 .1 .1 .1 .1 .1 .1 .1 .1 .1 .1 .0) u32
       ⨾ mut-slice-tells (named 13) (κs .1 .1 .1 .1 .1 .1 .1 .1 .1 .1 .1 .1 .1 .0) u32
-      ⨾ mut-slice-tells (named 14) (κs .1 .1 .1 .1 .1 .1 .1 .1 .1 .1 .1 .1 .1 .1 .0) T.the-row
-      ⨾ mut-slice-tells (named 15) (κs .1 .1 .1 .1 .1 .1 .1 .1 .1 .1 .1 .1 .1 .1 .1 .0) u32
-      ⨾ mut-slice-tells (named 16) (κs .1 .1 .1 .1 .1 .1 .1 .1 .1 .1 .1 .1 .1 .1 .1 .1 .0) u8
-      ⨾ mut-slice-tells (named 17) (κs .1 .1 .1 .1 .1 .1 .1 .1 .1 .1 .1 .1 .1 .1 .1 .1 .1 .0) u32
-      ⨾ mut-slice-tells (named 18) (κs .1 .1 .1 .1 .1 .1 .1 .1 .1 .1 .1 .1 .1 .1 .1 .1 .1 .1 .0) T.the-row
-      ⨾ mut-tells (named 19) (κs .1 .1 .1 .1 .1 .1 .1 .1 .1 .1 .1 .1 .1 .1 .1 .1 .1 .1 .1 .0) (Array u64 tt 5) ⨾ tt)
+      ⨾ mut-slice-tells (named 14) (κs .1 .1 .1 .1 .1 .1 .1 .1 .1 .1 .1 .1 .1 .1 .0) u32
+      ⨾ mut-slice-tells (named 15) (κs .1 .1 .1 .1 .1 .1 .1 .1 .1 .1 .1 .1 .1 .1 .1 .0) T.the-row
+      ⨾ mut-slice-tells (named 16) (κs .1 .1 .1 .1 .1 .1 .1 .1 .1 .1 .1 .1 .1 .1 .1 .1 .0) u32
+      ⨾ mut-slice-tells (named 17) (κs .1 .1 .1 .1 .1 .1 .1 .1 .1 .1 .1 .1 .1 .1 .1 .1 .1 .0) u8
+      ⨾ mut-slice-tells (named 18) (κs .1 .1 .1 .1 .1 .1 .1 .1 .1 .1 .1 .1 .1 .1 .1 .1 .1 .1 .0) u32
+      ⨾ mut-slice-tells (named 19) (κs .1 .1 .1 .1 .1 .1 .1 .1 .1 .1 .1 .1 .1 .1 .1 .1 .1 .1 .1 .0) T.the-row
+      ⨾ mut-tells (named 20) (κs .1 .1 .1 .1 .1 .1 .1 .1 .1 .1 .1 .1 .1 .1 .1 .1 .1 .1 .1 .1 .0) (Array u64 tt 5) ⨾ tt)
       (λ κs qs bounds a g are. via 𝓤 _ (fst∗ 𝓤 _ (emp 𝓤)) (walk 𝓤 H A W mem run
       (κs .0) (κs .1 .0) (κs .1 .1 .0) (κs .1 .1 .1 .0) (κs .1 .1 .1 .1 .0) (κs .1 .1 .1 .1 .1 .0) (κs .1 .1 .1 .1 .1 .1 .0)
       (κs .1 .1 .1 .1 .1 .1 .1 .0) (κs .1 .1 .1 .1 .1 .1 .1 .1 .0) (κs .1 .1 .1 .1 .1 .1 .1 .1 .1 .0) (κs .1 .1 .1 .1 .1 .1 .1 .1 .1 .1 .0)
@@ -410,49 +414,53 @@ module _ {M : Type 1} (𝓤 : URA M) (H : Heap 𝓤) (A : Atoms 𝓤) (W : Given
       (κs .1 .1 .1 .1 .1 .1 .1 .1 .1 .1 .1 .1 .1 .1 .0) (κs .1 .1 .1 .1 .1 .1 .1 .1 .1 .1 .1 .1 .1 .1 .1 .0)
       (κs .1 .1 .1 .1 .1 .1 .1 .1 .1 .1 .1 .1 .1 .1 .1 .1 .0) (κs .1 .1 .1 .1 .1 .1 .1 .1 .1 .1 .1 .1 .1 .1 .1 .1 .1 .0)
       (κs .1 .1 .1 .1 .1 .1 .1 .1 .1 .1 .1 .1 .1 .1 .1 .1 .1 .1 .0) (κs .1 .1 .1 .1 .1 .1 .1 .1 .1 .1 .1 .1 .1 .1 .1 .1 .1 .1 .1 .0)
+      (κs .1 .1 .1 .1 .1 .1 .1 .1 .1 .1 .1 .1 .1 .1 .1 .1 .1 .1 .1 .1 .0)
       (qs .0) (qs .1 .0) (qs .1 .1 .0) (qs .1 .1 .1 .0) (qs .1 .1 .1 .1 .0) (qs .1 .1 .1 .1 .1 .0) (qs .1 .1 .1 .1 .1 .1 .0)
       (qs .1 .1 .1 .1 .1 .1 .1 .0) (qs .1 .1 .1 .1 .1 .1 .1 .1 .0) (qs .1 .1 .1 .1 .1 .1 .1 .1 .1 .0) (qs .1 .1 .1 .1 .1 .1 .1 .1 .1 .1 .0)
       (qs .1 .1 .1 .1 .1 .1 .1 .1 .1 .1 .1 .0) (qs .1 .1 .1 .1 .1 .1 .1 .1 .1 .1 .1 .1 .0) (qs .1 .1 .1 .1 .1 .1 .1 .1 .1 .1 .1 .1 .1 .0)
       (qs .1 .1 .1 .1 .1 .1 .1 .1 .1 .1 .1 .1 .1 .1 .0) (qs .1 .1 .1 .1 .1 .1 .1 .1 .1 .1 .1 .1 .1 .1 .1 .0)
       (qs .1 .1 .1 .1 .1 .1 .1 .1 .1 .1 .1 .1 .1 .1 .1 .1 .0) (qs .1 .1 .1 .1 .1 .1 .1 .1 .1 .1 .1 .1 .1 .1 .1 .1 .1 .0)
       (qs .1 .1 .1 .1 .1 .1 .1 .1 .1 .1 .1 .1 .1 .1 .1 .1 .1 .1 .0) (qs .1 .1 .1 .1 .1 .1 .1 .1 .1 .1 .1 .1 .1 .1 .1 .1 .1 .1 .1 .0)
+      (qs .1 .1 .1 .1 .1 .1 .1 .1 .1 .1 .1 .1 .1 .1 .1 .1 .1 .1 .1 .1 .0)
       (a .0) (a .1 .0) (a .1 .1 .0) (a .1 .1 .1 .0) (a .1 .1 .1 .1 .0) (a .1 .1 .1 .1 .1 .0) (a .1 .1 .1 .1 .1 .1 .0) (a .1 .1 .1 .1 .1 .1 .1 .0)
       (a .1 .1 .1 .1 .1 .1 .1 .1 .0) (a .1 .1 .1 .1 .1 .1 .1 .1 .1 .0) (a .1 .1 .1 .1 .1 .1 .1 .1 .1 .1 .0) (a .1 .1 .1 .1 .1 .1 .1 .1 .1 .1 .1 .0)
       (a .1 .1 .1 .1 .1 .1 .1 .1 .1 .1 .1 .1 .0) (a .1 .1 .1 .1 .1 .1 .1 .1 .1 .1 .1 .1 .1 .0) (a .1 .1 .1 .1 .1 .1 .1 .1 .1 .1 .1 .1 .1 .1 .0)
       (a .1 .1 .1 .1 .1 .1 .1 .1 .1 .1 .1 .1 .1 .1 .1 .0) (a .1 .1 .1 .1 .1 .1 .1 .1 .1 .1 .1 .1 .1 .1 .1 .1 .0)
       (a .1 .1 .1 .1 .1 .1 .1 .1 .1 .1 .1 .1 .1 .1 .1 .1 .1 .0) (a .1 .1 .1 .1 .1 .1 .1 .1 .1 .1 .1 .1 .1 .1 .1 .1 .1 .1 .0)
-      (a .1 .1 .1 .1 .1 .1 .1 .1 .1 .1 .1 .1 .1 .1 .1 .1 .1 .1 .1 .0)
+      (a .1 .1 .1 .1 .1 .1 .1 .1 .1 .1 .1 .1 .1 .1 .1 .1 .1 .1 .1 .0) (a .1 .1 .1 .1 .1 .1 .1 .1 .1 .1 .1 .1 .1 .1 .1 .1 .1 .1 .1 .1 .0)
       (are .0 .0 .1) (are .1 .0 .0 .1) (are .1 .1 .0 .0 .1) (are .1 .1 .1 .0 .0 .1) (are .1 .1 .1 .1 .0 .0 .1) (are .1 .1 .1 .1 .1 .0 .0 .1)
       (are .1 .1 .1 .1 .1 .1 .0 .0 .1) (are .1 .1 .1 .1 .1 .1 .1 .0 .0 .1) (are .1 .1 .1 .1 .1 .1 .1 .1 .0 .0 .1)
       (are .1 .1 .1 .1 .1 .1 .1 .1 .1 .0 .0 .1) (are .1 .1 .1 .1 .1 .1 .1 .1 .1 .1 .0 .0 .1) (are .1 .1 .1 .1 .1 .1 .1 .1 .1 .1 .1 .0 .0 .1)
       (are .1 .1 .1 .1 .1 .1 .1 .1 .1 .1 .1 .1 .0 .0 .1) (are .1 .1 .1 .1 .1 .1 .1 .1 .1 .1 .1 .1 .1 .0 .0 .1)
       (are .1 .1 .1 .1 .1 .1 .1 .1 .1 .1 .1 .1 .1 .1 .0 .0 .1) (are .1 .1 .1 .1 .1 .1 .1 .1 .1 .1 .1 .1 .1 .1 .1 .0 .0 .1)
       (are .1 .1 .1 .1 .1 .1 .1 .1 .1 .1 .1 .1 .1 .1 .1 .1 .0 .0 .1) (are .1 .1 .1 .1 .1 .1 .1 .1 .1 .1 .1 .1 .1 .1 .1 .1 .1 .0 .0 .1)
-      (are .1 .1 .1 .1 .1 .1 .1 .1 .1 .1 .1 .1 .1 .1 .1 .1 .1 .1 .0 .0 .1) 𝓣 inner-met fill-met))
+      (are .1 .1 .1 .1 .1 .1 .1 .1 .1 .1 .1 .1 .1 .1 .1 .1 .1 .1 .0 .0 .1) (are .1 .1 .1 .1 .1 .1 .1 .1 .1 .1 .1 .1 .1 .1 .1 .1 .1 .1 .1 .0 .0 .1)
+      𝓣 inner-met fill-met))
 
   meets : Meets 𝓤 H A it.signature (WpFn 𝓤 H (𝓣 .C) (𝓣 .Λ) code.function) (it.spec 𝓤 H A mem run)
   meets =
       walk-meets 𝓤 H A it.ended stayed W
-      (goes-dropped 𝓤 H A W 20 (shrSliceOf (0 ∷ []) tt (plain (λ _. u8))) yes (λ κs x f. refl)
-      ⨾ goes-dropped 𝓤 H A W 20 (shrSliceOf (1 ∷ []) tt (plain (λ _. u32))) yes (λ κs x f. refl)
-      ⨾ goes-dropped 𝓤 H A W 20 (shrSliceOf (2 ∷ []) tt (plain (λ _. u32))) yes (λ κs x f. refl)
-      ⨾ goes-dropped 𝓤 H A W 20 (shrSliceOf (3 ∷ []) tt (plain (λ _. u32))) yes (λ κs x f. refl)
-      ⨾ goes-dropped 𝓤 H A W 20 (shrSliceOf (4 ∷ []) tt (plain (λ _. u32))) yes (λ κs x f. refl)
-      ⨾ goes-dropped 𝓤 H A W 20 (shrSliceOf (5 ∷ []) tt (plain (λ _. u32))) yes (λ κs x f. refl)
-      ⨾ goes-dropped 𝓤 H A W 20 (shrSliceOf (6 ∷ []) tt (plain (λ _. u32))) yes (λ κs x f. refl)
-      ⨾ goes-dropped 𝓤 H A W 20 (shrSliceOf (7 ∷ []) tt (plain (λ _. u32))) yes (λ κs x f. refl)
-      ⨾ goes-dropped 𝓤 H A W 20 (shrSliceOf (8 ∷ []) tt (plain (λ _. u32))) yes (λ κs x f. refl)
-      ⨾ goes-dropped 𝓤 H A W 20 (shrSliceOf (9 ∷ []) tt (plain (λ _. u32))) yes (λ κs x f. refl)
-      ⨾ goes-dropped 𝓤 H A W 20 (shrSliceOf (10 ∷ []) tt (plain (λ _. u32))) yes (λ κs x f. refl)
-      ⨾ goes-dropped 𝓤 H A W 20 (shrSliceOf (11 ∷ []) tt (plain (λ _. u32))) yes (λ κs x f. refl)
-      ⨾ goes-gave-slice 𝓤 H A W 20 12 tt (plain (λ _. u32))
-      ⨾ goes-slice 𝓤 H A W 20 13 tt (plain (λ _. u32))
-      ⨾ goes-gave-slice 𝓤 H A W 20 14 tt (plain (λ _. T.the-row))
-      ⨾ goes-gave-slice 𝓤 H A W 20 15 tt (plain (λ _. u32))
-      ⨾ goes-gave-slice 𝓤 H A W 20 16 tt (plain (λ _. u8))
-      ⨾ goes-slice 𝓤 H A W 20 17 tt (plain (λ _. u32))
-      ⨾ goes-gave-slice 𝓤 H A W 20 18 tt (plain (λ _. T.the-row))
-      ⨾ goes-gave-ref 𝓤 H A W 20 19 tt (arrayOf (plain (λ _. u64)) 5)
+      (goes-dropped 𝓤 H A W 21 (shrSliceOf (0 ∷ []) tt (plain (λ _. u8))) yes (λ κs x f. refl)
+      ⨾ goes-dropped 𝓤 H A W 21 (shrSliceOf (1 ∷ []) tt (plain (λ _. u32))) yes (λ κs x f. refl)
+      ⨾ goes-dropped 𝓤 H A W 21 (shrSliceOf (2 ∷ []) tt (plain (λ _. u32))) yes (λ κs x f. refl)
+      ⨾ goes-dropped 𝓤 H A W 21 (shrSliceOf (3 ∷ []) tt (plain (λ _. u32))) yes (λ κs x f. refl)
+      ⨾ goes-dropped 𝓤 H A W 21 (shrSliceOf (4 ∷ []) tt (plain (λ _. u32))) yes (λ κs x f. refl)
+      ⨾ goes-dropped 𝓤 H A W 21 (shrSliceOf (5 ∷ []) tt (plain (λ _. u32))) yes (λ κs x f. refl)
+      ⨾ goes-dropped 𝓤 H A W 21 (shrSliceOf (6 ∷ []) tt (plain (λ _. u32))) yes (λ κs x f. refl)
+      ⨾ goes-dropped 𝓤 H A W 21 (shrSliceOf (7 ∷ []) tt (plain (λ _. u32))) yes (λ κs x f. refl)
+      ⨾ goes-dropped 𝓤 H A W 21 (shrSliceOf (8 ∷ []) tt (plain (λ _. u32))) yes (λ κs x f. refl)
+      ⨾ goes-dropped 𝓤 H A W 21 (shrSliceOf (9 ∷ []) tt (plain (λ _. u32))) yes (λ κs x f. refl)
+      ⨾ goes-dropped 𝓤 H A W 21 (shrSliceOf (10 ∷ []) tt (plain (λ _. u32))) yes (λ κs x f. refl)
+      ⨾ goes-dropped 𝓤 H A W 21 (shrSliceOf (11 ∷ []) tt (plain (λ _. u32))) yes (λ κs x f. refl)
+      ⨾ goes-dropped 𝓤 H A W 21 (shrSliceOf (12 ∷ []) tt (plain (λ _. u32))) yes (λ κs x f. refl)
+      ⨾ goes-gave-slice 𝓤 H A W 21 13 tt (plain (λ _. u32))
+      ⨾ goes-slice 𝓤 H A W 21 14 tt (plain (λ _. u32))
+      ⨾ goes-gave-slice 𝓤 H A W 21 15 tt (plain (λ _. T.the-row))
+      ⨾ goes-gave-slice 𝓤 H A W 21 16 tt (plain (λ _. u32))
+      ⨾ goes-gave-slice 𝓤 H A W 21 17 tt (plain (λ _. u8))
+      ⨾ goes-slice 𝓤 H A W 21 18 tt (plain (λ _. u32))
+      ⨾ goes-gave-slice 𝓤 H A W 21 19 tt (plain (λ _. T.the-row))
+      ⨾ goes-gave-ref 𝓤 H A W 21 20 tt (arrayOf (plain (λ _. u64)) 5)
       ⨾ tt)
       (it.clauses 𝓤 H A mem run) (WpFn 𝓤 H (𝓣 .C) (𝓣 .Λ) code.function) (WpFn-mono 𝓤 H (W .laws) 𝓣 code.function) walks
 

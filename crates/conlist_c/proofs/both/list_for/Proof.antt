@@ -67,8 +67,8 @@ returns : tie.Need-returns
 returns c =
     let call = c .before .before .before .before .before .before .before .before .before .before .conlist-list-connections in
     both-laid _ _ _ _ _ _ _ _ _ _ _ _ _ _ _ _ _ _ _ _
-    (front _ _ _ _ _ (numbers-for·returns c .numbers-for .ensures) (clear-numbers·returns c .clear-numbers .ensures) (call .kept .1 .1 .1 .1 .1 .1 .1 .1 .1 .1 .1 .1 .1 .0))
-    (front _ _ _ _ _ (numbers-for2·returns c .numbers-for2 .ensures) (clear-numbers2·returns c .clear-numbers2 .ensures) (call .kept .1 .1 .1 .1 .1 .1 .1 .1 .1 .1 .1 .1 .1 .1 .1 .1 .0)) (call .ensures)
+    (front _ _ _ _ _ (numbers-for·returns c .numbers-for .ensures) (clear-numbers·returns c .clear-numbers .ensures) (call .kept .1 .1 .1 .1 .1 .1 .1 .1 .1 .1 .1 .1 .1 .1 .0))
+    (front _ _ _ _ _ (numbers-for2·returns c .numbers-for2 .ensures) (clear-numbers2·returns c .clear-numbers2 .ensures) (call .kept .1 .1 .1 .1 .1 .1 .1 .1 .1 .1 .1 .1 .1 .1 .1 .1 .1 .0)) (call .ensures)
 
 pub list-for-spec : {M : Type 1} → statement M
 list-for-spec =

@@ -10,7 +10,7 @@ expanded-requires : tie.Need-expanded-requires
 expanded-requires c κs = tt
 
 same-length : tie.Need-same-length
-same-length c = c .before .before .before .expand-feature-group .kept .1 .1 .1 .1 .1 .1 .1 .1 .1 .1 .1 .1 .0
+same-length c = c .before .before .before .expand-feature-group .kept .1 .1 .1 .1 .1 .1 .1 .1 .1 .1 .1 .1 .1 .0
 
 returns : tie.Need-returns
 returns c = expanded-told _ _ _ _ _ _ _ _ (c .before .before .before .expand-feature-group .ensures) (c .expanded .ensures)

@@ -18,13 +18,13 @@ expand-feature-group-connections·returns c = c .before .before .before .before 
 -- end of places
 
 same-length : tie.Need-same-length
-same-length c = expand-feature-group-connections·returns c .expand-feature-group-connections .kept .1 .1 .1 .1 .1 .1 .1 .1 .1 .1 .1 .1 .0
+same-length c = expand-feature-group-connections·returns c .expand-feature-group-connections .kept .1 .1 .1 .1 .1 .1 .1 .1 .1 .1 .1 .1 .1 .0
 
 same-length-2 : tie.Need-same-length-2
-same-length-2 c = expand-feature-group-connections·returns c .expand-feature-group-connections .kept .1 .1 .1 .1 .1 .1 .1 .1 .1 .1 .1 .1 .1 .0
+same-length-2 c = expand-feature-group-connections·returns c .expand-feature-group-connections .kept .1 .1 .1 .1 .1 .1 .1 .1 .1 .1 .1 .1 .1 .1 .0
 
 same-length-3 : tie.Need-same-length-3
-same-length-3 c = expand-feature-group-connections·returns c .expand-feature-group-connections .kept .1 .1 .1 .1 .1 .1 .1 .1 .1 .1 .1 .1 .1 .1 .0
+same-length-3 c = expand-feature-group-connections·returns c .expand-feature-group-connections .kept .1 .1 .1 .1 .1 .1 .1 .1 .1 .1 .1 .1 .1 .1 .1 .0
 
 returns : tie.Need-returns
 returns c = group-told _ _ _ _ _ _ _ _ _ (expand-feature-group-connections·returns c .expand-feature-group-connections .ensures) (c .group .ensures)

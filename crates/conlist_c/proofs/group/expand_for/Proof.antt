@@ -34,7 +34,7 @@ same-length-3 c = search needs
 returns : tie.Need-returns
 returns c =
     let call = c .before .before .before .before .before .before .conlist-expand-feature-group-connections in
-    group-laid _ _ _ _ _ _ _ _ _ _ _ _ (front _ _ _ _ _ (c .before .before .before .before .before .before .before .before .before .before .before .before .before .before .before .numbers-for .ensures) (c .before .before .before .before .before .before .before .before .before .before .before .before .before .clear-numbers .ensures) (call .kept .1 .1 .1 .1 .1 .1 .1 .1 .1 .1 .1 .1 .1 .1 .0)) (call .ensures)
+    group-laid _ _ _ _ _ _ _ _ _ _ _ _ (front _ _ _ _ _ (c .before .before .before .before .before .before .before .before .before .before .before .before .before .before .before .numbers-for .ensures) (c .before .before .before .before .before .before .before .before .before .before .before .before .before .clear-numbers .ensures) (call .kept .1 .1 .1 .1 .1 .1 .1 .1 .1 .1 .1 .1 .1 .1 .1 .0)) (call .ensures)
 
 pub expand-for-spec : {M : Type 1} → statement M
 expand-for-spec =

@@ -11,14 +11,14 @@ enum-known-answer c = search needs
 enum-known-answer-2 : tie.Need-enum-known-answer-2
 enum-known-answer-2 c = search needs
 
-cast-t17 : tie.Need-cast-t17
-cast-t17 c = search needs
-
 cast-t18 : tie.Need-cast-t18
 cast-t18 c = search needs
 
 cast-t19 : tie.Need-cast-t19
 cast-t19 c = search needs
+
+cast-t20 : tie.Need-cast-t20
+cast-t20 c = search needs
 
 returns : tie.Need-returns
 returns c = ap readNumbers (sym (c .before .answer .given .1))
@@ -29,4 +29,4 @@ returns-2 c = ap readNumbers (sym (c .before .before .before .before .answer2 .g
 pub read-spec : {M : Type 1} → statement M
 read-spec =
     tie.close
-    (tie.spec enum-known-answer enum-known-answer-2 cast-t17 cast-t18 cast-t19 returns returns-2)
+    (tie.spec enum-known-answer enum-known-answer-2 cast-t18 cast-t19 cast-t20 returns returns-2)

@@ -11,7 +11,7 @@ read-requires c κs = tt
 
 -- places: the way back from where an answer stands to what it uses
 abbrev read-sheet·returns : tie.After-read → tie.After-read-sheet
-read-sheet·returns c = c .before .before .before .before .before .before .before .before .before .before .before .before .before .before .before .before .before .before .before .before .before .before .before .before .before
+read-sheet·returns c = c .before .before .before .before .before .before .before .before .before .before .before .before .before .before .before .before .before .before .before .before .before .before .before .before .before .before .before
 
 -- end of places
 
@@ -51,6 +51,9 @@ same-length-11 c = read-sheet·returns c .read-sheet .kept .1 .1 .1 .1 .1 .1 .1 
 same-length-12 : tie.Need-same-length-12
 same-length-12 c = read-sheet·returns c .read-sheet .kept .1 .1 .1 .1 .1 .1 .1 .1 .1 .1 .1 .1 .0
 
+same-length-13 : tie.Need-same-length-13
+same-length-13 c = read-sheet·returns c .read-sheet .kept .1 .1 .1 .1 .1 .1 .1 .1 .1 .1 .1 .1 .1 .0
+
 returns : tie.Need-returns
 returns c = read-told _ _ _ _ _ (read-sheet·returns c .read-sheet .ensures) (c .read .ensures)
 
@@ -72,4 +75,5 @@ conlist-read-sheet-spec =
     same-length-10
     same-length-11
     same-length-12
+    same-length-13
     returns)

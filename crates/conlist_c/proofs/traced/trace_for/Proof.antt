@@ -31,7 +31,7 @@ same-length-2 c = search needs
 returns : tie.Need-returns
 returns c =
     let call = c .before .before .before .before .conlist-compute-semantic-connections in
-    traced-laid _ _ _ _ _ _ _ _ _ _ (front _ _ _ _ _ (c .before .before .before .before .before .before .before .before .before .before .before .before .numbers-for .ensures) (c .before .before .before .before .before .before .before .before .before .before .clear-numbers .ensures) (call .kept .1 .1 .1 .1 .1 .1 .1 .1 .1 .1 .1 .1 .1 .0)) (call .ensures)
+    traced-laid _ _ _ _ _ _ _ _ _ _ (front _ _ _ _ _ (c .before .before .before .before .before .before .before .before .before .before .before .before .numbers-for .ensures) (c .before .before .before .before .before .before .before .before .before .before .clear-numbers .ensures) (call .kept .1 .1 .1 .1 .1 .1 .1 .1 .1 .1 .1 .1 .1 .1 .0)) (call .ensures)
 
 pub trace-for-spec : {M : Type 1} → statement M
 trace-for-spec =
