@@ -75,7 +75,7 @@ pub const TEXT_LENT: usize = 8192;
 pub const SHEET_LENT: usize = SHEET_BYTES + 1;
 
 // A refusal as document 01 prints it: its number, its place (a line, a row, else 0) and the letter of the place's table, or `-`.
-#[derive(Drop)]
+#[derive(Clone, Copy)]
 pub struct Refusal {
     pub number: u32,
     pub place: u32,

@@ -11,7 +11,7 @@ use as5506::C_NUMBERS;
 use columns::component;
 
 // How a name finds children.
-#[derive(Drop)]
+#[derive(Clone, Copy)]
 pub enum Rule {
     // Byte for byte.
     Exact,
@@ -20,7 +20,7 @@ pub enum Rule {
 }
 
 // A child's row, or none.
-#[derive(Drop)]
+#[derive(Clone, Copy)]
 pub enum Child {
     At(usize),
     Nothing,

@@ -9,7 +9,7 @@ pub mod group_type;
 pub mod mode;
 
 // The two ends of a connection.
-#[derive(Drop)]
+#[derive(Clone, Copy)]
 pub enum Side {
     Source,
     Destination,

@@ -7,7 +7,7 @@ use as5506::DIAGNOSTIC_NUMBERS;
 
 // "A diagnostic is code, connection, two numbers".
 #[repr(C)]
-#[derive(Drop)]
+#[derive(Clone, Copy)]
 pub struct Diagnostic {
     pub code: u32,
     pub connection: u32,

@@ -1,6 +1,6 @@
 // The sheet's reader.
 ghost use Rattle.std.specs.Prelude.{◌≡◌};
-ghost use Rattle.lent.specs.Lent.{tables_at, tables_left};
+ghost use Rattle.lent.specs.Lent.{tables_to_fill, tables_left};
 ghost use Rattle.as5506.specs.Sheet.{lent_of, read_sheet};
 ghost use Rattle.sheet.specs.Read.{sheet_read, ReadInto};
 ghost use Rattle.conlist_c.specs.Numbers.{read_numbers};
@@ -27,8 +27,8 @@ pub extern "C" fn conlist_read_sheet(
     m: &mut [u32],
     told: &mut [u64; 14],
 )
-    ensures told_after { told.new ≡ read_numbers (sheet_read (read_sheet (lent_of (tables_at bytes n c f x p i t q u e r m)) sheet.now)) }
-    ensures read_into { ReadInto (tables_at bytes n c f x p i t q u e r m) sheet.now (sheet_read (read_sheet (lent_of (tables_at bytes n c f x p i t q u e r m)) sheet.now)) (tables_left bytes n c f x p i t q u e r m) }
+    ensures told_after { told.new ≡ read_numbers (sheet_read (read_sheet (lent_of (tables_to_fill bytes n c f x p i t q u e r m)) sheet.now)) }
+    ensures read_into { ReadInto (tables_to_fill bytes n c f x p i t q u e r m) sheet.now (sheet_read (read_sheet (lent_of (tables_to_fill bytes n c f x p i t q u e r m)) sheet.now)) (tables_left bytes n c f x p i t q u e r m) }
 {
     let answer = sheet::read_sheet(sheet, bytes, n, c, f, x, p, i, t, q, u, e, r, m);
     *told = numbers::read(answer);

@@ -38,7 +38,7 @@ fn powers_of_ten() -> [usize; 20]
 }
 
 // A digit, and what is left of its number.
-#[derive(Drop)]
+#[derive(Clone, Copy)]
 struct Digit {
     byte: u8,
     rest: usize,

@@ -15,7 +15,7 @@ use columns::{Side, component, connection, declared, feature};
 use resolver::{Found, Resolved};
 
 // The group that an end stands for: its type's name and the name of the package to ask from; or none.
-#[derive(Drop)]
+#[derive(Clone, Copy)]
 pub enum Asked {
     Group { package: u32, type_name: u32 },
     NoGroup,

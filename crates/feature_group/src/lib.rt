@@ -14,7 +14,7 @@ use sink::{Purpose, Tally};
 use tables::Checked;
 
 // How many features were written and how many visits were made, or why none were.
-#[derive(Drop)]
+#[derive(Clone, Copy)]
 pub enum Expanded {
     Features(usize, u32),
     Refused(Refusal),

@@ -8,7 +8,7 @@ ghost use Rattle.as5506.specs.Fields.{unspaced, is_number, field_by, field_of, f
 ghost use Rattle.fields.specs.Fields.{shown, Short, spelt, column, columns_by};
 
 // What the columns of a field say: a number, a lone `-`, or something against the sheet's rules.
-#[derive(Drop)]
+#[derive(Clone, Copy)]
 pub enum Field {
     Value(u64),
     Dash,

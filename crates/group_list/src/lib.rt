@@ -23,7 +23,7 @@ const SMALL_NAMES: usize = as5506::N_ROWS_LENT;
 const SMALL_ROWS: usize = as5506::ROWS_LENT;
 
 // How many rows and diagnostics were written, or why none were.
-#[derive(Drop)]
+#[derive(Clone, Copy)]
 pub enum GroupListed {
     Rows(usize, usize),
     Refused(Refusal),

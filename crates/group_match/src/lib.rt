@@ -27,14 +27,14 @@ use sink::{Purpose, Tally};
 pub const CALM_NUMBERS: usize = LEVELS;
 
 // The outputs of matches and diagnostics as far as they are used; or an end with too many visits.
-#[derive(Drop)]
+#[derive(Clone, Copy)]
 pub enum Matched {
     Over,
     Done(Tally),
 }
 
 // The purpose for which a source is walked, by its destination; or that has too many visits.
-#[derive(Drop)]
+#[derive(Clone, Copy)]
 enum Prepared {
     Over,
     For(Purpose),

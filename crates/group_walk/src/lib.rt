@@ -24,7 +24,7 @@ use sink::{Feature, Purpose, Tally};
 pub const LEVELS: usize = 11;
 
 // How a walk ends: with over 65,536 visits, or with what was written and the number of visits.
-#[derive(Drop)]
+#[derive(Clone, Copy)]
 pub enum Walked {
     Over,
     Done { tally: Tally, visits: u32 },

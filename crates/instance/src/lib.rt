@@ -10,7 +10,7 @@ use tables::Checked;
 use trace::Wrote;
 
 // How many rows and diagnostics were written, or why none were.
-#[derive(Drop)]
+#[derive(Clone, Copy)]
 pub enum Listed {
     Rows(usize, usize),
     Refused(Refusal),

@@ -1,7 +1,7 @@
 -- The tables that contracts speak of: all of them, or those of which a call is lent some. Where the others are empty, what the contract says of these tables holds of the whole model, since the
 -- definition asks for no other table there. Assumes nothing.
 use Rattle.std.specs.Prelude.{List, [], ℕ}
-use Rattle.std.specs.Borrow.{Bor}
+use Rattle.std.specs.Borrow.{Bor, MutBor}
 use denote.Triple.Both.{Both}
 use Rattle.as5506.specs.Tables.{Tables, tables_of}
 
@@ -91,9 +91,13 @@ abbrev pub tables_at : (bytes n c f x p i t q u e r m : Both Lent Lent) → Tabl
 tables_at bytes n c f x p i t q u e r m =
     tables_lent bytes.entry n.entry c.entry f.entry x.entry p.entry i.entry t.entry q.entry u.entry e.entry r.entry m.entry
 
-abbrev pub tables_left : (bytes n c f x p i t q u e r m : Both Lent Lent) → Tables
+-- a table that a call fills
+abbrev pub Filling : Type 0
+Filling = MutBor (List ℕ)
+
+abbrev pub tables_left : (bytes n c f x p i t q u e r m : Both Filling Filling) → Tables
 tables_left bytes n c f x p i t q u e r m =
-    tables_lent bytes.exit n.exit c.exit f.exit x.exit p.exit i.exit t.exit q.exit u.exit e.exit r.exit m.exit
+    tables_of bytes.exit.now n.exit.now c.exit.now f.exit.now x.exit.now p.exit.now i.exit.now t.exit.now q.exit.now u.exit.now e.exit.now r.exit.now m.exit.now
 
 -- of a call that is lent all that references are resolved by
 abbrev pub packages_at : (bytes n p i t q u r : Both Lent Lent) → Tables → Tables

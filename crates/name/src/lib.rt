@@ -8,7 +8,7 @@ ghost use Rattle.as5506.specs.Names.{name_byte, good_name, fold_byte, same_folde
 ghost use Rattle.name.specs.Pattern.{says_one_to_one};
 
 // How the elements of two arrays are connected.
-#[derive(Drop)]
+#[derive(Clone, Copy)]
 pub enum ConnectionPattern {
     // Element i to element i.
     OneToOne,

@@ -11,7 +11,7 @@ use as5506::{
 use sheet::SheetRead;
 
 // What is done with the tables of a sheet.
-#[derive(Drop)]
+#[derive(Clone, Copy)]
 pub enum Task {
     // The list of its connections (conlist).
     Conlist,

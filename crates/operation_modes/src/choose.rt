@@ -11,7 +11,7 @@ use crate::link::mode_behind;
 use lent::number_at;
 
 // What is left to choose: how many combinations, the number of the one that is asked for, and the place of the next row.
-#[derive(Drop)]
+#[derive(Clone, Copy)]
 struct Choice {
     weight: usize,
     left: usize,

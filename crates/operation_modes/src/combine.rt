@@ -6,7 +6,7 @@ ghost use Rattle.operation_modes.specs.Combining.{Next, Counts, number_of};
 use as5506::SELECTIONS;
 
 // Of the components below `end`: how many combinations of their modes there are, and how many components have modes and so are chosen from.
-#[derive(Drop)]
+#[derive(Clone, Copy)]
 pub struct Combined {
     pub product: usize,
     pub end: usize,

@@ -16,21 +16,21 @@ use as5506::Refusal;
 use tables::Checked;
 
 // How many selections there are, and whether the list of them was cut.
-#[derive(Drop)]
+#[derive(Clone, Copy)]
 pub struct Modes {
     pub number: usize,
     pub cut: bool,
 }
 
 // The number of selections, or why there is none.
-#[derive(Drop)]
+#[derive(Clone, Copy)]
 pub enum Counted {
     Given(Modes),
     Refused(Refusal),
 }
 
 // How many M rows and bytes of the joined name were written, or why none were.
-#[derive(Drop)]
+#[derive(Clone, Copy)]
 pub enum Selected {
     Rows(usize, usize),
     Refused(Refusal),

@@ -17,7 +17,7 @@ use lent::number_at;
 use name::same_folded_names;
 
 // What a reference names: a row of T, of Q or of U, with the row of P that it was found in.
-#[derive(Drop)]
+#[derive(Clone, Copy)]
 pub enum Resolved {
     ComponentType { package: usize, row: usize },
     ComponentImpl { package: usize, row: usize },
@@ -26,7 +26,7 @@ pub enum Resolved {
 }
 
 // What a key asks for in one field of a row: a number, a name that is equal folded, or nothing.
-#[derive(Drop)]
+#[derive(Clone, Copy)]
 enum Part {
     Number(usize),
     Name(u32),
@@ -34,11 +34,11 @@ enum Part {
 }
 
 // The key of a row: what its first three fields must be. Where a row or its key is shorter, the last parts are `Any`.
-#[derive(Drop)]
+#[derive(Clone, Copy)]
 struct Key(Part, Part, Part);
 
 // The row that a scan of a table stops at, or none.
-#[derive(Drop)]
+#[derive(Clone, Copy)]
 pub enum Found {
     At(usize),
     Nothing,

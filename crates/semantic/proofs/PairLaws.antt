@@ -117,28 +117,28 @@ module _ (m : Tables) (x : ℕ) where
       (r : Remains row_numbers (traced_block m) (rows_beside m x s b (named_from m s x 0)) out₀ count out done (rows_beside m x s b (named_from m s x j)))
       (p : Found) (e : named_from m s x j ≡ after_child (named_from m s x) p) where
     pub beside_end : p ≡ Nothing → Written row_numbers (traced_block m) (rows_beside m x s b (named_from m s x 0)) out₀ count (Count done) out
-    beside_end h = remains-end row_numbers (traced_block m) _ out₀ count out done _ r (beside-done m x s b _ (after_nothing _ _ p e h))
+    beside_end h = remains-end row_numbers (traced_block m) _ out₀ count out done _ r (beside-done m x s b _ (after_nothing (named_from m s x) _ p e h))
 
     module _ (i : ℕ) (h : p ≡ At i) (q : Wrote) (out' : List ℕ) (w : Written row_numbers (traced_block m) (pair_rows m step_limit x (pair_on m x s (Child i) b)) out done q out') where
       pub beside-turn : (n : ℕ) → q ≡ Count n → Remains row_numbers (traced_block m) (rows_beside m x s b (named_from m s x 0)) out₀ count out' n (rows_beside m x s b (named_from m s x (i + 1)))
-      beside-turn = remains-turn row_numbers (traced_block m) _ out₀ count out done _ r _ _ (beside-next m x s b _ _ i (after-at _ _ p i e h)) q out' w
+      beside-turn = remains-turn row_numbers (traced_block m) _ out₀ count out done _ r _ _ (beside-next m x s b _ _ i (after-at (named_from m s x) _ p i e h)) q out' w
 
       pub beside-full : q ≡ Full → Written row_numbers (traced_block m) (rows_beside m x s b (named_from m s x 0)) out₀ count Full out'
-      beside-full = remains-full row_numbers (traced_block m) _ out₀ count out done _ r _ _ (beside-next m x s b _ _ i (after-at _ _ p i e h)) q out' w
+      beside-full = remains-full row_numbers (traced_block m) _ out₀ count out done _ r _ _ (beside-next m x s b _ _ i (after-at (named_from m s x) _ p i e h)) q out' w
 
   module _ (out₀ : List ℕ) (count : ℕ) (out : List ℕ) (done j : ℕ)
       (r : Remains row_numbers (traced_block m) (rows_all m x (named_from m source x 0)) out₀ count out done (rows_all m x (named_from m source x j)))
       (p : Found) (e : named_from m source x j ≡ after_child (named_from m source x) p) where
     pub all_end : p ≡ Nothing → Written row_numbers (traced_block m) (rows_all m x (named_from m source x 0)) out₀ count (Count done) out
-    all_end h = remains-end row_numbers (traced_block m) _ out₀ count out done _ r (all_done m x _ (after_nothing _ _ p e h))
+    all_end h = remains-end row_numbers (traced_block m) _ out₀ count out done _ r (all_done m x _ (after_nothing (named_from m source x) _ p e h))
 
     module _ (i : ℕ) (h : p ≡ At i) (q : Wrote) (out' : List ℕ)
         (w : Written row_numbers (traced_block m) (rows_beside m x destination (Child i) (named_from m destination x 0)) out done q out') where
       pub all-turn : (n : ℕ) → q ≡ Count n → Remains row_numbers (traced_block m) (rows_all m x (named_from m source x 0)) out₀ count out' n (rows_all m x (named_from m source x (i + 1)))
-      all-turn = remains-turn row_numbers (traced_block m) _ out₀ count out done _ r _ _ (all-next m x _ _ i (after-at _ _ p i e h)) q out' w
+      all-turn = remains-turn row_numbers (traced_block m) _ out₀ count out done _ r _ _ (all-next m x _ _ i (after-at (named_from m source x) _ p i e h)) q out' w
 
       pub all-full : q ≡ Full → Written row_numbers (traced_block m) (rows_all m x (named_from m source x 0)) out₀ count Full out'
-      all-full = remains-full row_numbers (traced_block m) _ out₀ count out done _ r _ _ (all-next m x _ _ i (after-at _ _ p i e h)) q out' w
+      all-full = remains-full row_numbers (traced_block m) _ out₀ count out done _ r _ _ (all-next m x _ _ i (after-at (named_from m source x) _ p i e h)) q out' w
 
   -- pair by pair: p is the next source child, p' the next destination child
   abbrev pub zipped : List Traced
@@ -148,19 +148,19 @@ module _ (m : Tables) (x : ℕ) where
       (r : Remains row_numbers (traced_block m) zipped out₀ count out done (rows_zip m x (named_from m source x s) (named_from m destination x d)))
       (p : Found) (e : named_from m source x s ≡ after_child (named_from m source x) p) where
     pub zip_end : p ≡ Nothing → Written row_numbers (traced_block m) zipped out₀ count (Count done) out
-    zip_end h = remains-end row_numbers (traced_block m) _ out₀ count out done _ r (zip-done m x _ _ (after_nothing _ _ p e h))
+    zip_end h = remains-end row_numbers (traced_block m) _ out₀ count out done _ r (zip-done m x _ _ (after_nothing (named_from m source x) _ p e h))
 
     module _ (a : ℕ) (h : p ≡ At a) (p' : Found) (e' : named_from m destination x d ≡ after_child (named_from m destination x) p') where
       pub zip-end-short : p' ≡ Nothing → Written row_numbers (traced_block m) zipped out₀ count (Count done) out
-      zip-end-short h' = remains-end row_numbers (traced_block m) _ out₀ count out done _ r (zip-short m x _ _ _ a (after-at _ _ p a e h) (after_nothing _ _ p' e' h'))
+      zip-end-short h' = remains-end row_numbers (traced_block m) _ out₀ count out done _ r (zip-short m x _ _ _ a (after-at (named_from m source x) _ p a e h) (after_nothing (named_from m destination x) _ p' e' h'))
 
       module _ (b : ℕ) (h' : p' ≡ At b) (q : Wrote) (out' : List ℕ)
           (w : Written row_numbers (traced_block m) (pair_rows m step_limit x (pair_on m x source (Child a) (Child b))) out done q out') where
         pub zip_turn : (n : ℕ) → q ≡ Count n → Remains row_numbers (traced_block m) zipped out₀ count out' n (rows_zip m x (named_from m source x (a + 1)) (named_from m destination x (b + 1)))
-        zip_turn = remains-turn row_numbers (traced_block m) _ out₀ count out done _ r _ _ (zip-next m x _ _ _ _ a b (after-at _ _ p a e h) (after-at _ _ p' b e' h')) q out' w
+        zip_turn = remains-turn row_numbers (traced_block m) _ out₀ count out done _ r _ _ (zip-next m x _ _ _ _ a b (after-at (named_from m source x) _ p a e h) (after-at (named_from m destination x) _ p' b e' h')) q out' w
 
         pub zip-full : q ≡ Full → Written row_numbers (traced_block m) zipped out₀ count Full out'
-        zip-full = remains-full row_numbers (traced_block m) _ out₀ count out done _ r _ _ (zip-next m x _ _ _ _ a b (after-at _ _ p a e h) (after-at _ _ p' b e' h')) q out' w
+        zip-full = remains-full row_numbers (traced_block m) _ out₀ count out done _ r _ _ (zip-next m x _ _ _ _ a b (after-at (named_from m source x) _ p a e h) (after-at (named_from m destination x) _ p' b e' h')) q out' w
 
 -- ---- the pairs of an X row
 

@@ -7,7 +7,7 @@ pub use diagnostics::diagnose_connections;
 pub use pairs::trace_connections;
 
 // What a connection is, by its ends.
-#[derive(Drop)]
+#[derive(Clone, Copy)]
 pub enum Shape {
     // An end has no feature.
     Faulty,
@@ -22,7 +22,7 @@ pub enum Shape {
 }
 
 // An end of a connection, to be paired with one on the other side: a child, which is traced, or the owner, which is not.
-#[derive(Drop)]
+#[derive(Clone, Copy)]
 pub enum Start {
     Child(u32),
     Owner(u32),

@@ -13,12 +13,12 @@ ghost use Rattle.as5506.specs.Answers.{refusal, line, told};
 ghost use Rattle.as5506.specs.Sheet.{ended, letter_of, lines_of, lines_with, line_name, keeps_rules, has_place, line_faults, name_bytes, placed, rows_read, tables_read, read_sheet};
 ghost use Rattle.sheet.specs.Read.{counts_of, sheet_read, ReadInto};
 ghost use Rattle.sheet.specs.Steps.{letter_at, rank_of, index_of, lent_by, Counted, first_fault, answer_from, texts, in_order, LeftFrom, Cleared};
-ghost use Rattle.lent.specs.Lent.{tables_at, tables_left};
+ghost use Rattle.lent.specs.Lent.{tables_to_fill, tables_left};
 
 use as5506::LETTER_COUNT;
 
 // The bytes of names, and the rows of each letter, that were read.
-#[derive(Drop)]
+#[derive(Clone, Copy)]
 pub struct Counts {
     pub bytes: usize,
     pub n: usize,
@@ -36,7 +36,7 @@ pub struct Counts {
 }
 
 // What a call gives: what was read, or the refusal of the first bad line.
-#[derive(Drop)]
+#[derive(Clone, Copy)]
 pub enum SheetRead {
     Read(Counts),
     Refused(as5506::Refusal),
@@ -63,14 +63,14 @@ const MARKS: [usize; LETTER_COUNT] = [
 const COLUMNS: [usize; LETTER_COUNT] = [0, 56, 18, 42, 6, 12, 18, 24, 54, 48, 30, 18];
 
 // What the caller lends: the bytes of the byte table and the numbers of each letter's table.
-#[derive(Drop)]
+#[derive(Clone, Copy)]
 pub struct Room {
     pub bytes: usize,
     pub numbers: [usize; LETTER_COUNT],
 }
 
 // What the lines seen so far take of it, and the last one's letter.
-#[derive(Drop)]
+#[derive(Clone, Copy)]
 pub struct Seen {
     pub last: usize,
     pub bytes: usize,
@@ -370,7 +370,7 @@ fn clear_all(
     m: &mut [u32],
 )
     ensures { Cleared
-        (tables_at bytes n c f x p i t q u e r m)
+        (tables_to_fill bytes n c f x p i t q u e r m)
         (tables_left bytes n c f x p i t q u e r m) }
 {
     lent::clear_bytes(bytes);
@@ -406,7 +406,7 @@ pub fn read_sheet(
     m: &mut [u32],
 ) -> SheetRead
     ensures { ReadInto
-        (tables_at bytes n c f x p i t q u e r m)
+        (tables_to_fill bytes n c f x p i t q u e r m)
         sheet.now result
         (tables_left bytes n c f x p i t q u e r m) }
 {

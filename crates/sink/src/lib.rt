@@ -11,7 +11,7 @@ use lent::number_at;
 use name::same_folded_names;
 
 // A feature: its name, kind and direction, and the names of the groups that it is nested in, the first `len` of `prefix`.
-#[derive(Drop)]
+#[derive(Clone, Copy)]
 pub struct Feature {
     pub name: u32,
     pub kind: u32,
@@ -21,7 +21,7 @@ pub struct Feature {
 }
 
 // How many numbers are used in the output of features or rows, and in that of diagnostics.
-#[derive(Drop)]
+#[derive(Clone, Copy)]
 pub struct Tally {
     pub used: usize,
     pub noted: usize,
@@ -29,7 +29,7 @@ pub struct Tally {
 
 // What a walk is for: to count its visits; to write all its features; to write those whose name has not come yet; to list, for a connection and
 // its two components, the features that have a partner among the `count` features kept, and to diagnose the others.
-#[derive(Drop)]
+#[derive(Clone, Copy)]
 pub enum Purpose {
     Count,
     All,
@@ -43,7 +43,7 @@ pub enum Purpose {
 }
 
 // A place among the features kept.
-#[derive(Drop)]
+#[derive(Clone, Copy)]
 pub enum Place {
     At(usize),
     Nowhere,

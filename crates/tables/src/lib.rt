@@ -58,18 +58,18 @@ const KEYS: [u8; 96] = *b"N       \
                           M       ";
 
 // A part of a key: the field of a row, and how it is compared.
-#[derive(Drop)]
+#[derive(Clone, Copy)]
 struct Part {
     field: usize,
     mark: u8,
 }
 
 // The key of a letter; a part without a mark compares nothing.
-#[derive(Drop)]
+#[derive(Clone, Copy)]
 struct Key(Part, Part, Part);
 
 // The rules in the order of the checks.
-#[derive(Drop)]
+#[derive(Clone, Copy)]
 enum Rule {
     Whole,
     Few,
@@ -83,7 +83,7 @@ enum Rule {
 }
 
 // What the tables are refused for, if anything.
-#[derive(Drop)]
+#[derive(Clone, Copy)]
 pub enum Checked {
     Accepted,
     Refused(as5506::Refusal),
@@ -91,7 +91,7 @@ pub enum Checked {
 
 // The rows of letter k.
 fn rows_of(lens: [usize; LETTER_COUNT], k: usize) -> usize
-    requires { k < letterCount }
+    requires { k < letter_count }
     ensures { result ≡ rows_of lens k }
 {
     lens[k] / as5506::WIDTHS[k]
@@ -99,7 +99,7 @@ fn rows_of(lens: [usize; LETTER_COUNT], k: usize) -> usize
 
 // 10: whether the table of letter k has no whole number of rows.
 fn is_broken(lens: [usize; LETTER_COUNT], k: usize) -> bool
-    requires { k < letterCount }
+    requires { k < letter_count }
     ensures { result ≡ broken lens k }
 {
     lens[k] % as5506::WIDTHS[k] != 0
@@ -108,7 +108,7 @@ fn is_broken(lens: [usize; LETTER_COUNT], k: usize) -> bool
 // 10: whether name i leaves the byte table, or has a bad byte or length.
 fn bad_name(bytes: &[u8], n: &[u32], i: usize) -> bool
     requires { i ≤ 4096 }
-    ensures { result ≡ nameBad bytes.now n.now i }
+    ensures { result ≡ name_bad bytes.now n.now i }
 {
     let start = lent::number_at(n, i * as5506::N_NUMBERS) as usize;
     let length = lent::number_at(n, i * as5506::N_NUMBERS + 1) as usize;
@@ -120,7 +120,7 @@ fn bad_name(bytes: &[u8], n: &[u32], i: usize) -> bool
 
 // 6: the number that a field is below, by its character of FIELDS; `kind` is the row's holder kind.
 fn limit_of(lens: [usize; LETTER_COUNT], kind: u32, what: u8) -> usize
-    ensures { result ≡ limitOf lens kind what }
+    ensures { result ≡ limit_of lens kind what }
 {
     if what == b'n' {
         return rows_of(lens, N);
@@ -146,7 +146,7 @@ fn limit_of(lens: [usize; LETTER_COUNT], kind: u32, what: u8) -> usize
 
 // 6: whether v says that the field is missing, and its mark allows that.
 fn may_miss(mark: u8, v: u32) -> bool
-    ensures { result ≡ mayMiss mark v }
+    ensures { result ≡ may_miss mark v }
 {
     if v != as5506::MISSING {
         return false;
@@ -156,8 +156,8 @@ fn may_miss(mark: u8, v: u32) -> bool
 
 // 6: whether number j of the row at `at` is in its range.
 fn field_fits(lens: [usize; LETTER_COUNT], t: &[u32], k: usize, at: usize, j: usize) -> bool
-    requires { (k < letterCount) × (j < 9) × (at ≤ farthest) }
-    ensures { result ≡ fieldFits lens t.now k at j }
+    requires { (k < letter_count) × (j < 9) × (at ≤ farthest) }
+    ensures { result ≡ field_fits lens t.now k at j }
 {
     let v = lent::number_at(t, at + j);
     let place = k * 20 + j * 2 + 2;
@@ -180,8 +180,8 @@ fn field_fits(lens: [usize; LETTER_COUNT], t: &[u32], k: usize, at: usize, j: us
 
 // 6: whether all numbers of the row at `at` are in their ranges.
 fn fields_fit(lens: [usize; LETTER_COUNT], t: &[u32], k: usize, at: usize) -> bool
-    requires { (k < letterCount) × (at ≤ farthest) }
-    ensures { result ≡ fieldsFit lens t.now k at }
+    requires { (k < letter_count) × (at ≤ farthest) }
+    ensures { result ≡ fields_fit lens t.now k at }
 {
     let width = as5506::WIDTHS[k];
     let mut j: usize = 0;
@@ -196,7 +196,7 @@ fn fields_fit(lens: [usize; LETTER_COUNT], t: &[u32], k: usize, at: usize) -> bo
 
 // 7: whether component i, which says this parent, is the first and has one, or has none that is smaller.
 fn bad_parent(i: usize, parent: u32) -> bool
-    ensures { result ≡ parentBad i parent }
+    ensures { result ≡ parent_bad i parent }
 {
     if i == 0 {
         return parent != as5506::MISSING;
@@ -207,7 +207,7 @@ fn bad_parent(i: usize, parent: u32) -> bool
 // 8: an end, the two fields at `at`, with a subcomponent and no feature.
 fn bad_end(t: &[u32], at: usize) -> bool
     requires { at ≤ farthest + 8 }
-    ensures { result ≡ endBad t.now at }
+    ensures { result ≡ end_bad t.now at }
 {
     if lent::number_at(t, at) == as5506::MISSING {
         return false;
@@ -218,7 +218,7 @@ fn bad_end(t: &[u32], at: usize) -> bool
 // 8: a reference, the three fields at `at`, with a package or implementation and no type.
 fn bad_reference(t: &[u32], at: usize) -> bool
     requires { at ≤ farthest + 8 }
-    ensures { result ≡ referenceBad t.now at }
+    ensures { result ≡ reference_bad t.now at }
 {
     if lent::number_at(t, at + 1) != as5506::MISSING {
         return false;
@@ -232,7 +232,7 @@ fn bad_reference(t: &[u32], at: usize) -> bool
 // 8: a rename, the row at `at`, of what = 0 with an original name, or 1 or 2 without.
 fn bad_rename(t: &[u32], at: usize) -> bool
     requires { at ≤ farthest }
-    ensures { result ≡ renameBad t.now at }
+    ensures { result ≡ rename_bad t.now at }
 {
     if lent::number_at(t, at + 1) == 0 {
         return lent::number_at(t, at + 4) != as5506::MISSING;
@@ -243,7 +243,7 @@ fn bad_rename(t: &[u32], at: usize) -> bool
 // 8: the ends of an X row, the references of a U or E row, or an R row.
 fn bad_ends(t: &[u32], k: usize, at: usize) -> bool
     requires { at ≤ farthest }
-    ensures { result ≡ endsBad t.now k at }
+    ensures { result ≡ ends_bad t.now k at }
 {
     if k == X {
         if bad_end(t, at + 3) {
@@ -275,7 +275,7 @@ fn digit_of(character: u8) -> usize
 
 // 16, 9: part j of the key of letter k.
 fn part_of(k: usize, j: usize) -> Part
-    requires { (k < letterCount) × (j < 3) }
+    requires { (k < letter_count) × (j < 3) }
     ensures { (result ≡ part_of k j) × Near result }
 {
     let at = k * 8 + 2 + j * 2;
@@ -289,7 +289,7 @@ fn part_of(k: usize, j: usize) -> Part
 
 // 16, 9: the key of letter k.
 fn key_of(k: usize) -> Key
-    requires { k < letterCount }
+    requires { k < letter_count }
     ensures { (result ≡ key_of k) × Near result.0 × Near result.1 × Near result.2 }
 {
     let first = part_of(k, 0);
@@ -301,7 +301,7 @@ fn key_of(k: usize) -> Key
 // 16, 9: whether the rows at x and y have the same in a part of their key; without a mark they have.
 fn same_part(bytes: &[u8], n: &[u32], t: &[u32], part: Part, x: usize, y: usize) -> bool
     requires { Near part × (x ≤ farthest) × (y ≤ farthest) }
-    ensures { result ≡ samePart bytes.now n.now t.now x y part }
+    ensures { result ≡ same_part bytes.now n.now t.now x y part }
 {
     let field = part.field;
     let mark = part.mark;
@@ -319,7 +319,7 @@ fn same_part(bytes: &[u8], n: &[u32], t: &[u32], part: Part, x: usize, y: usize)
 // 16, 9: whether the rows at x and y have the same key.
 fn same_key(bytes: &[u8], n: &[u32], t: &[u32], key: Key, x: usize, y: usize) -> bool
     requires { Near key.0 × Near key.1 × Near key.2 × (x ≤ farthest) × (y ≤ farthest) }
-    ensures { result ≡ sameKey bytes.now n.now t.now x y key }
+    ensures { result ≡ same_key bytes.now n.now t.now x y key }
 {
     let first = key.0;
     let second = key.1;
@@ -335,8 +335,8 @@ fn same_key(bytes: &[u8], n: &[u32], t: &[u32], key: Key, x: usize, y: usize) ->
 
 // 16, 9: whether a row before row i has its key. A scan of all pairs of rows: seconds at 4,096 rows of each letter.
 fn key_taken(bytes: &[u8], n: &[u32], t: &[u32], k: usize, i: usize) -> bool
-    requires { (k < letterCount) × (i ≤ 4096) }
-    ensures { result ≡ keyTaken bytes.now n.now t.now k i }
+    requires { (k < letter_count) × (i ≤ 4096) }
+    ensures { result ≡ key_taken bytes.now n.now t.now k i }
 {
     let key = key_of(k);
     let width = as5506::WIDTHS[k];

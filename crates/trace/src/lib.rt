@@ -17,21 +17,21 @@ use children::Child;
 use columns::{Side, connection};
 
 // The next step of a chain: the X row that it goes over, and the C row and the feature's name that it leads to; or there is none.
-#[derive(Drop)]
+#[derive(Clone, Copy)]
 pub enum Step {
     At(usize, usize, u32),
     Done,
 }
 
 // What writing blocks into an output comes to: how many stand in it then, or that there was no room for all.
-#[derive(Drop)]
+#[derive(Clone, Copy)]
 pub enum Wrote {
     Count(usize),
     Full,
 }
 
 // Where a chain stands, and the connections that it went over: the first `len` of `path`.
-#[derive(Drop)]
+#[derive(Clone, Copy)]
 pub struct End {
     pub component: u32,
     pub feature: u32,
@@ -40,7 +40,7 @@ pub struct End {
 }
 
 // A row's path: the first `len` of `rows`.
-#[derive(Drop)]
+#[derive(Clone, Copy)]
 pub struct Trail {
     pub rows: [u32; PATH_PLACES],
     pub len: usize,

@@ -6,7 +6,7 @@ use libc::STDOUT_FILENO;
 // The most cases of a file.
 const CASES: usize = 100000;
 
-#[derive(Drop)]
+#[derive(Clone, Copy)]
 enum Outcome {
     Agrees,
     Differs,

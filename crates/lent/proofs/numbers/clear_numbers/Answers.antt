@@ -1,0 +1,18 @@
+-- `lent::numbers::clear_numbers` meets its contract: the loop's invariant is `Cleared`: the first i places are 0. Assumes nothing.
+use Prim.Native.Nat.{◌-◌}
+use borrow.Author.Rules.{rules}
+use lib.ListN.{length}
+use Rattle.lent.proofs.Turns.{Cleared, cleared-start, cleared-turn, cleared-end}
+use Rattle.lent.proofs.numbers.clear_numbers.Goals as goal
+
+pub loop-i-init : goal.loop-i-init
+loop-i-init c = cleared-start _
+
+pub loop-i-preserved : goal.loop-i-preserved
+loop-i-preserved c = cleared-turn _ _ _ c.loop-i.invariant c.loop-i-test.true
+
+pub shape_of-out : goal.shape_of-out
+shape_of-out c = c.loop-i.invariant.size
+
+pub returns : goal.returns
+returns c = cleared-end _ _ _ c.loop-i.invariant c.loop-i-test.false

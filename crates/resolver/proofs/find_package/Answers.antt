@@ -1,0 +1,22 @@
+-- `resolver::find_package` meets its contract. The scan by its key is the definition's. Assumes nothing.
+-- the tables that are asked, whatever the others are
+use mathlib.Core.Path.{◌≡◌, ◌∙◌}
+use borrow.Author.Rules.{rules}
+use Rattle.as5506.specs.Lists.{first_of}
+use Rattle.as5506.specs.Tables.{Tables}
+use Rattle.lent.specs.Lent.{with_names, with_p}
+use Rattle.resolver.specs.declared.Part.TheVariants.{Name, Any}
+use Rattle.resolver.specs.Keys.{rows_with_key}
+use Rattle.resolver.specs.Found.{row_of}
+use Rattle.resolver.proofs.Keys.{package-found}
+use Rattle.resolver.proofs.find_package.Goals as goal
+use Rattle.resolver.proofs.find_package.Goals.{Start}
+
+abbrev model : Start → Tables → Tables
+model s o = with_names s.args.bytes.now s.args.n.now (with_p s.args.p.now o)
+
+pub returns : goal.returns
+returns c =
+    let s = (goal.at.returns c).Start in
+    let scanned : row_of c.find_row.result ≡ first_of (rows_with_key s.args.bytes.now s.args.n.now s.args.p.now 1 0 (Name s.args.name, Any, Any)) = c.find_row.ensures in
+    λ o. scanned ∙ package-found (model s o) s.args.name

@@ -1,0 +1,22 @@
+-- `resolver::find_rename` meets its contract. The scan by its key is the definition's. Assumes nothing.
+-- the tables that are asked, whatever the others are
+use mathlib.Core.Path.{◌≡◌, ◌∙◌}
+use borrow.Author.Rules.{rules}
+use Rattle.as5506.specs.Lists.{first_of}
+use Rattle.as5506.specs.Tables.{Tables}
+use Rattle.lent.specs.Lent.{with_names, with_r}
+use Rattle.resolver.specs.declared.Part.TheVariants.{Number, Name}
+use Rattle.resolver.specs.Keys.{rows_with_key}
+use Rattle.resolver.specs.Found.{row_of}
+use Rattle.resolver.proofs.Keys.{rename-found}
+use Rattle.resolver.proofs.find_rename.Goals as goal
+use Rattle.resolver.proofs.find_rename.Goals.{Start}
+
+abbrev model : Start → Tables → Tables
+model s o = with_names s.args.bytes.now s.args.n.now (with_r s.args.r.now o)
+
+pub returns : goal.returns
+returns c =
+    let s = (goal.at.returns c).Start in
+    let scanned : row_of c.find_row.result ≡ first_of (rows_with_key s.args.bytes.now s.args.n.now s.args.r.now 5 0 (Number s.args.«package», Number s.args.what, Name s.args.alias)) = c.find_row.ensures in
+    λ o. scanned ∙ rename-found (model s o) s.args.«package» s.args.what s.args.alias
