@@ -1,26 +1,41 @@
-// Reads stored cases from standard input, for the programs that replay them: a case begins with `V`, and a number stands in six columns as in a sheet.
+// Reads stored cases, for the programs that replay them: a case begins with `V`, and a number stands in six columns as in a sheet. Each function takes
+// the reader; the programs hand over standard input.
+#![tactic(auto)]
+
 ghost use Rattle.std.specs.Prelude.{◌≡◌, ◌≤◌, min, length, take, drop};
 
-use libc::STDIN_FILENO;
+use std::io::Read;
 
 const LINE_FEED: u8 = 10;
 
+// Reads into a slice to its end, or to that of the file. Where reading fails, the places that are left stay as they are.
+fn read_full<R: Read>(input: &mut R, into: &mut [u8]) {
+    let mut done: usize = 0;
+    while done < into.len() {
+        match input.read(&mut into[done..]) {
+            Ok(0) => return,
+            Ok(more) => done += more,
+            Err(_) => return,
+        }
+    }
+}
+
 // The next byte, a line feed at the end of the file.
-pub fn byte() -> u8 {
+pub fn byte<R: Read>(input: &mut R) -> u8 {
     let mut byte = [LINE_FEED; 1];
-    io::read_full(STDIN_FILENO, &mut byte);
+    read_full(input, &mut byte);
     byte[0]
 }
 
 // Whether a case begins here; at the end of the file none does.
-pub fn begins() -> bool {
-    byte() == b'V'
+pub fn begins<R: Read>(input: &mut R) -> bool {
+    byte(input) == b'V'
 }
 
 // The next number; `-` is a missing one.
-pub fn number() -> u32 {
+pub fn number<R: Read>(input: &mut R) -> u32 {
     let mut field = [b' '; 6];
-    io::read_full(STDIN_FILENO, &mut field);
+    read_full(input, &mut field);
     let line = [
         b'V', field[0], field[1], field[2], field[3], field[4], field[5],
     ];
@@ -30,10 +45,10 @@ pub fn number() -> u32 {
 }
 
 // The next numbers, as many as the slice has.
-pub fn numbers(out: &mut [u32]) {
+pub fn numbers<R: Read>(input: &mut R, out: &mut [u32]) {
     let mut i: usize = 0;
     while i < out.len() {
-        out[i] = number();
+        out[i] = number(input);
         i += 1;
     }
 }
@@ -47,21 +62,21 @@ fn end_of(len: u32, t: &[u8]) -> usize
 }
 
 // Reads so many bytes into the front of a slice, no more than it has places: how many these are. What stands behind them stays.
-pub fn bytes(out: &mut [u8], len: u32) -> usize
+pub fn bytes<R: Read>(input: &mut R, out: &mut [u8], len: u32) -> usize
     ensures { (result ≡ min len (length out.old)) × (drop result out.new ≡ drop result out.old) }
 {
     let end = end_of(len, out);
-    io::read_full(STDIN_FILENO, &mut out[..end]);
+    read_full(input, &mut out[..end]);
     end
 }
 
 // Reads the rest of a line, as much of it as there is room for, into the front of a slice: how many bytes it is. What stands behind them stays.
-pub fn line(out: &mut [u8]) -> usize
+pub fn line<R: Read>(input: &mut R, out: &mut [u8]) -> usize
     ensures { (result ≤ length out.old) × (drop result out.new ≡ drop result out.old) }
 {
     let mut i: usize = 0;
     while i < out.len() {
-        let b = byte();
+        let b = byte(input);
         if b == LINE_FEED {
             return i;
         }

@@ -1,5 +1,7 @@
 // conlist: reads a sheet on standard input and prints the list of its connections on standard output, or the line of a refusal. Where it cannot
 // read or write it says so on standard error, and prints no list.
+#![tactic(auto)]
+
 ghost use Rattle.as5506.specs.Program.{conlist as written};
 ghost use Rattle.on_sheet.specs.Tasks.{Writes};
 
@@ -14,12 +16,22 @@ fn conlist(read: &[u8; SHEET_LENT], got: usize, text: &mut [u8; TEXT_LENT]) -> u
     on_sheet::on_sheet(Task::Conlist, lent::part(read, 0, got), text)
 }
 
-fn main() {
+fn main(rt: HostRuntime) {
     let mut read = [0u8; SHEET_LENT];
-    let Input::Read(got) = stdio::read_input(b"conlist", &mut read) else {
+    let Input::Read(got) = stdio::read_input(
+        &mut rt.stdin(),
+        &mut rt.stderr(),
+        b"conlist",
+        &mut read,
+    ) else {
         return;
     };
     let mut text = [0u8; TEXT_LENT];
     let used = conlist(&read, got, &mut text);
-    stdio::write_output(b"conlist", &text[..used]);
+    stdio::write_output(
+        &mut rt.stdout(),
+        &mut rt.stderr(),
+        b"conlist",
+        &text[..used],
+    );
 }

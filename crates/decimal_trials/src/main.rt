@@ -1,7 +1,9 @@
 // Replays the cases of stdin on the functions of `decimal` and prints a line for each, which must be that of stdout. A case is a line `V` with four
 // fields as in a sheet: the number in parts of sixteen bits, the highest first. The line has it over no columns, in six columns and in twenty, and its
 // parts, each in six columns.
-use libc::STDOUT_FILENO;
+#![tactic(auto)]
+
+use std::io::Read;
 
 // The most cases of a file.
 const CASES: usize = 1000000;
@@ -15,7 +17,7 @@ fn number_of(parts: [u32; 4]) -> usize {
     wide(parts[0]) << 48 | wide(parts[1]) << 32 | wide(parts[2]) << 16 | wide(parts[3])
 }
 
-fn print_number(parts: [u32; 4]) {
+fn print_number(rt: &impl Print, parts: [u32; 4]) {
     let n = number_of(parts);
     let mut text = [0u8; 128];
     let bare = decimal::put_decimal(n, b"", &mut text, 0);
@@ -26,26 +28,27 @@ fn print_number(parts: [u32; 4]) {
     let apart = lent::append_bytes(&mut text, twenty, b"|");
     let columns = decimal::put_columns(&parts, &mut text, apart);
     let end = lent::append_bytes(&mut text, columns, b"\n");
-    io::write_all(STDOUT_FILENO, lent::part(&text, 0, end));
+    let _ = rt.write_all(lent::part(&text, 0, end));
 }
 
 // Reads a case and replays it; false where there is none.
-fn next_case() -> bool {
-    if !cases::begins() {
+fn next_case(rt: &impl Print, input: &mut impl Read) -> bool {
+    if !cases::begins(input) {
         return false;
     }
     let mut parts = [0u32; 4];
-    cases::numbers(&mut parts);
-    cases::byte();
-    print_number(parts);
+    cases::numbers(input, &mut parts);
+    cases::byte(input);
+    print_number(rt, parts);
     true
 }
 
-fn main() {
+fn main(rt: HostRuntime) {
+    let mut input = rt.stdin();
     let mut left = CASES;
     while 0 < left {
         left -= 1;
-        if !next_case() {
+        if !next_case(&rt, &mut input) {
             return;
         }
     }

@@ -1,4 +1,6 @@
 // The expansion of a feature group (feature_group.rs, `expand_feature_group`) over the caller's tables and output.
+#![tactic(auto)]
+
 ghost use Rattle.std.specs.Prelude.{◌≡◌, [], suc, ◌/◌, length};
 ghost use Rattle.lent.specs.Lent.{tables_at};
 ghost use Rattle.as5506.specs.Groups.{depth_limit};

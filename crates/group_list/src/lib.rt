@@ -1,4 +1,6 @@
 // The group listing (instance.rs, `expand_feature_group_connections`) over the caller's tables and outputs.
+#![tactic(auto)]
+
 ghost use Rattle.std.specs.Prelude.{◌≡◌, ◌/◌, ◌≤◌, T, length};
 ghost use Rattle.as5506.specs.Lists.{zeros};
 ghost use Rattle.as5506.specs.Tables.{width, letter_n, letter_u, letter_e};

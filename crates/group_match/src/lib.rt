@@ -1,6 +1,8 @@
 // Group connections feature by feature (instance.rs, `expand_feature_group_connections`): which features of the source have a partner in the
 // destination. Nothing is lent to hold an expansion, and one may have millions of features, so only the first appearance of each name is kept of
 // the destination: the first feature of an equal name is among them.
+#![tactic(auto)]
+
 ghost use Rattle.std.specs.Prelude.{false, ◌≡◌, List, [], ℕ, ◌+◌, ◌/◌, ◌≤◌, length};
 ghost use Rattle.as5506.specs.Lists.{zeros};
 ghost use Rattle.as5506.specs.Tables.{Tables, width, letter_u};

@@ -1,5 +1,7 @@
 // The names of group rows (instance.rs, `make_expanded_name`): each match in the output of rows becomes its row, and its three names go, unseparated,
 // into the output of composed names.
+#![tactic(auto)]
+
 ghost use Rattle.std.specs.Prelude.{◌≡◌, ◌+◌, ◌*◌, ◌≤◌, ◌<◌, length, drop};
 ghost use Rattle.std.proofs.lemmas.List.Edits.{sets};
 ghost use Rattle.as5506.specs.Lists.{each};

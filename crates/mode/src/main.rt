@@ -1,5 +1,7 @@
 // mode NUMBER: reads a sheet on standard input and prints the selection of modes at that number on standard output, or the line of a refusal. Where its
 // argument is no number, or it cannot read or write, it says so on standard error, and prints no selection.
+#![tactic(auto)]
+
 ghost use Rattle.as5506.specs.Program.{mode as written};
 ghost use Rattle.on_sheet.specs.Tasks.{Writes};
 
@@ -14,15 +16,16 @@ fn mode(number: u64, read: &[u8; SHEET_LENT], got: usize, text: &mut [u8; TEXT_L
     on_sheet::on_sheet(Task::Mode(number), lent::part(read, 0, got), text)
 }
 
-fn main() {
-    let Argument::Number(number) = stdio::number_argument(b"mode") else {
+fn main(rt: HostRuntime) {
+    let Argument::Number(number) = stdio::number_argument(&rt, &mut rt.stderr(), b"mode") else {
         return;
     };
     let mut read = [0u8; SHEET_LENT];
-    let Input::Read(got) = stdio::read_input(b"mode", &mut read) else {
+    let Input::Read(got) = stdio::read_input(&mut rt.stdin(), &mut rt.stderr(), b"mode", &mut read)
+    else {
         return;
     };
     let mut text = [0u8; TEXT_LENT];
     let used = mode(number, &read, got, &mut text);
-    stdio::write_output(b"mode", &text[..used]);
+    stdio::write_output(&mut rt.stdout(), &mut rt.stderr(), b"mode", &text[..used]);
 }

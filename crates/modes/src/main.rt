@@ -1,5 +1,7 @@
 // modes: reads a sheet on standard input and prints how many selections of modes it has on standard output, with 1 where the list of them was cut and
 // else 0, or the line of a refusal. Where it cannot read or write it says so on standard error, and prints no number.
+#![tactic(auto)]
+
 ghost use Rattle.as5506.specs.Program.{modes as written};
 ghost use Rattle.on_sheet.specs.Tasks.{Writes};
 
@@ -14,12 +16,13 @@ fn modes(read: &[u8; SHEET_LENT], got: usize, text: &mut [u8; TEXT_LENT]) -> usi
     on_sheet::on_sheet(Task::Modes, lent::part(read, 0, got), text)
 }
 
-fn main() {
+fn main(rt: HostRuntime) {
     let mut read = [0u8; SHEET_LENT];
-    let Input::Read(got) = stdio::read_input(b"modes", &mut read) else {
+    let Input::Read(got) = stdio::read_input(&mut rt.stdin(), &mut rt.stderr(), b"modes", &mut read)
+    else {
         return;
     };
     let mut text = [0u8; TEXT_LENT];
     let used = modes(&read, got, &mut text);
-    stdio::write_output(b"modes", &text[..used]);
+    stdio::write_output(&mut rt.stdout(), &mut rt.stderr(), b"modes", &text[..used]);
 }

@@ -1,5 +1,7 @@
 // Names: name.rs, and `base_name_of` and `parse_connection_pattern` of instance.rs. A name is bytes, and only A to Z fold. Every function takes any bytes and numbers.
 // Definitions: specs/Names.antt, Lists.antt and Tables.antt of as5506, and specs/Pattern.antt.
+#![tactic(auto)]
+
 ghost use Rattle.std.specs.Prelude.{◌≡◌, ◌&&◌, ◌≤◌, length, take};
 ghost use Rattle.std.proofs.lemmas.List.Edits.{sets};
 ghost use Rattle.as5506.specs.Lists.{keep, same_bytes, has};

@@ -1,6 +1,8 @@
 // Operation modes (02, (xi)): how many selections of modes there are, and the selection at a number. A selection is one mode, an M row, of each
 // component with modes that counts. None of them is built but the one that is asked for. Each call goes once over the M rows, to link them, and
 // once over the components, to count the combinations; the call for a selection goes over the components once more, to choose.
+#![tactic(auto)]
+
 mod choose;
 mod combine;
 mod join;

@@ -1,5 +1,7 @@
 // What is done with each feature of an expansion, by the purpose of the walk that comes to it. The outputs hold blocks from the front; where one
 // finds no room, its output counts as full from then on, and the walk goes on: whether 13 strikes is known at its end only.
+#![tactic(auto)]
+
 ghost use Rattle.std.specs.Prelude.{◌≡◌, ◌+◌, ◌*◌, ◌≤◌, length, take, drop, set};
 ghost use Rattle.as5506.specs.Layout.{feature_numbers, feature_block};
 ghost use Rattle.lent.specs.Append.{filled, append};

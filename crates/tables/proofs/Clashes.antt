@@ -1,17 +1,17 @@
 -- Rules 16 and 9: the definition's clashes are the rows whose key an earlier row has. Assumes nothing.
 use mathlib.Core.Bool.{Bool, true, false, ◌&&◌, ◌||◌}
 use mathlib.Core.Path.{◌≡◌, refl, sym, ap, ap₂, ◌∙◌}
-use mathlib.Core.List.{List, [], ◌∷◌, ◌++◌, map}
+use mathlib.Core.List.{List, [], ◌∷◌}
 use Prim.Native.Nat.{ℕ, zero, suc, ◌+◌, ◌≤◌}
 use native.Mathlib.Omega.{arith}
 use native.Mathlib.Nat.{add-zero}
 use lib.ListN.{get_or}
 use lib.Dec.{eqb}
-use Rattle.as5506.specs.Lists.{span, up_to, put_if, keep, when, any_of, same_bytes}
+use Rattle.as5506.specs.Lists.{span, up_to, keep, any_of, same_bytes}
 use Rattle.as5506.specs.Tables.{Tables, Letter, letter_c, letter_p, letter_t, letter_q, letter_u, letter_r, table, count, c_parent, c_place, p_name, t_package, t_name, q_package, q_type, q_impl, u_package, u_name, r_package, r_what, r_alias}
 use Rattle.as5506.specs.Columns.{rank, letter_byte}
 use Rattle.as5506.specs.Names.{same_folded, key}
-use Rattle.as5506.specs.Refusals.{Key, same_key as same_key_of, clashes_from, clashes, place_key, faults16, faults9}
+use Rattle.as5506.specs.Refusals.{Key, same_key as same_key_of, clashes, place_key, faults16, faults9}
 use Rattle.tables.specs.declared.Rule.{Rule}
 use Rattle.tables.specs.declared.Rule.TheVariants.{Places, Keys}
 use Rattle.tables.specs.declared.Checked.TheVariants.{Accepted}

@@ -5,18 +5,16 @@ use mathlib.Core.Logic.{◌⊎◌, inl, inr}
 use mathlib.Core.Path.{◌≡◌, refl, sym, subst}
 use mathlib.Core.List.{List, [], ◌∷◌, ◌++◌}
 use Prim.Native.Nat.{ℕ, ◌+◌, ◌%◌, ◌≤◌, ◌<◌}
-use native.Mathlib.Omega.{arith}
-use native.Mathlib.Decide.{dec_le}
 use lib.ListN.{length}
 use lib.Dec.{T, eqb, ltb, eqb→eq, ltb→lt, nltb→le}
 use borrow.Author.Tests.{eq-eqb, ne_eqb}
-use Rattle.as5506.specs.Lists.{up_to, is_nil, each, same_bytes}
+use Rattle.as5506.specs.Lists.{up_to, is_nil, each}
 use Rattle.as5506.specs.Tables.{Tables, missing, present, Letter, letter_n, letter_c, letter_f, letter_x, letter_p, letter_i, letter_t, letter_q, letter_u, letter_e, letter_r, letter_m, table, width, count, at, n_start, n_length, name_of, c_count, c_name, c_parent, c_package, c_type, c_pattern, c_place, f_name, f_owner, f_kind, Side, source, destination, x_count, x_name, x_owner, x_kind, x_sub, x_feat, Ref, p_name, i_package, i_name, t_package, t_name, t_private, q_package, q_type, q_impl, q_private, u_package, u_name, u_private, u_extends, u_inverse_of, e_holder_kind, e_holder, e_name, e_kind, e_direction, e_classifier, r_package, r_what, r_alias, r_original_package, r_original_name, m_name, m_owner}
 use Rattle.as5506.specs.Columns.{order, Meaning, name, row_in, holder, below, anything, Column, needed, optional, long, field_cells, columns}
 use Rattle.as5506.specs.Names.{good_name}
 use Rattle.as5506.specs.Answers.{Refusal, refusal, row}
 use Rattle.as5506.specs.Refusals.{row_faults, broken_rows, too_many_rows, bad_name, faults10, holder_letter, in_range, good_long, allows, allows_from, bad_row, faults6, faults7, bad_end, bad_ref, bad_rename, faults8, clashes, place_key, faults16, faults9, faults, accepted}
-use Rattle.as5506.proofs.Laws.{All, up_to-at, and_left, and_right, and_both, not-not, nil-left, nil-right, nil-when, nil-each, nil-keep}
+use Rattle.as5506.proofs.Laws.{All, up_to-at, and_left, and_right, not-not, nil-left, nil-right, nil-when, nil-each, nil-keep}
 use Rattle.as5506.proofs.Whole.{Sound}
 use Rattle.as5506.proofs.Accepted.{some-component, sound}
 use Rattle.as5506.proofs.Keys.{Unique, keys-unique}

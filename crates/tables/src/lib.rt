@@ -1,6 +1,8 @@
 // Refusals 10, 6, 7, 16, 8 and 9 of documents 01 and 02: what tables that a caller hands over are refused for, if anything.
 // Each rule goes over all tables in letter order and over the rows of each; the lowest bad row of the first bad table is the refusal's place.
 // A letter goes by its place `k` in the order N C F X P I T Q U E R M, 0 to 11; `lens` has the length of each letter's table.
+#![tactic(auto)]
+
 ghost use Rattle.std.specs.Prelude.{◌≡◌, ◌≤◌, ◌<◌, ◌+◌, ◌-◌};
 ghost use Rattle.lent.specs.Lent.{tables_at};
 ghost use Rattle.as5506.specs.Columns.{letter_count};

@@ -1,7 +1,9 @@
 // Replays the cases of stdin on `tables::check_tables` and prints a line for each, which must be that of stdout. A case is a line `V` with 25 fields
 // as in a sheet: the length of the byte table, and of each of the twelve tables how many numbers it has and how many of them are given. The bytes are the next
 // line, and the numbers that are given the twelve lines behind it, each with its letter in front. Those that are not given are 0.
-use libc::STDOUT_FILENO;
+#![tactic(auto)]
+
+use std::io::Read;
 use tables::Checked;
 
 // The most cases of a file.
@@ -25,21 +27,25 @@ fn behind(at: usize, count: u32) -> usize {
     }
 }
 
-fn print(text: &[u8]) {
-    io::write_all(STDOUT_FILENO, text);
+fn print(rt: &impl Print, text: &[u8]) {
+    let _ = rt.write_all(text);
 }
 
-fn print_answer(z: Checked) {
+fn print_decimal(rt: &impl Print, n: u64) {
+    let _ = print!(rt; "{n}");
+}
+
+fn print_answer(rt: &impl Print, z: Checked) {
     match z {
-        Checked::Accepted => print(b"accepted\n"),
+        Checked::Accepted => print(rt, b"accepted\n"),
         Checked::Refused(r) => {
-            print(b"refused ");
-            io::print_decimal(STDOUT_FILENO, r.number as u64);
-            print(b" ");
-            io::write_all(STDOUT_FILENO, &[r.letter]);
-            print(b" ");
-            io::print_decimal(STDOUT_FILENO, r.place as u64);
-            print(b"\n");
+            print(rt, b"refused ");
+            print_decimal(rt, r.number as u64);
+            print(rt, b" ");
+            print(rt, &[r.letter]);
+            print(rt, b" ");
+            print_decimal(rt, r.place as u64);
+            print(rt, b"\n");
         }
     }
 }
@@ -56,23 +62,23 @@ fn starts_of(counts: [u32; 24]) -> [usize; 13] {
 }
 
 // Reads the numbers of one table, with the letter in front and the end of the line, into the store.
-fn read_table(store: &mut [u32], start: usize, given: u32) {
-    cases::byte();
+fn read_table(input: &mut impl Read, store: &mut [u32], start: usize, given: u32) {
+    cases::byte(input);
     let mut at = start;
     let mut left = given;
     while 0 < left {
-        lent::put_number(store, at, cases::number());
+        lent::put_number(store, at, cases::number(input));
         at = after(at);
         left -= 1;
     }
-    cases::byte();
+    cases::byte(input);
 }
 
 // Reads all tables.
-fn read_tables(store: &mut [u32], starts: [usize; 13], counts: [u32; 24]) {
+fn read_tables(input: &mut impl Read, store: &mut [u32], starts: [usize; 13], counts: [u32; 24]) {
     let mut k: usize = 0;
     while k < 12 {
-        read_table(store, starts[k], counts[2 * k + 1]);
+        read_table(input, store, starts[k], counts[2 * k + 1]);
         k += 1;
     }
 }
@@ -106,29 +112,30 @@ fn answer_for(bytes: &[u8], store: &[u32], starts: [usize; 13]) -> Checked {
 }
 
 // Reads a case and replays it; false where there is none.
-fn next_case() -> bool {
-    if !cases::begins() {
+fn next_case(rt: &impl Print, input: &mut impl Read) -> bool {
+    if !cases::begins(input) {
         return false;
     }
-    let length = cases::number();
+    let length = cases::number(input);
     let mut counts = [0u32; 24];
-    cases::numbers(&mut counts);
-    cases::byte();
+    cases::numbers(input, &mut counts);
+    cases::byte(input);
     let mut bytes = [0u8; BYTES];
-    let end = cases::bytes(&mut bytes, length);
-    cases::byte();
+    let end = cases::bytes(input, &mut bytes, length);
+    cases::byte(input);
     let mut store = [0u32; STORE];
     let starts = starts_of(counts);
-    read_tables(&mut store, starts, counts);
-    print_answer(answer_for(lent::part(&bytes, 0, end), &store, starts));
+    read_tables(input, &mut store, starts, counts);
+    print_answer(rt, answer_for(lent::part(&bytes, 0, end), &store, starts));
     true
 }
 
-fn main() {
+fn main(rt: HostRuntime) {
+    let mut input = rt.stdin();
     let mut left = CASES;
     while 0 < left {
         left -= 1;
-        if !next_case() {
+        if !next_case(&rt, &mut input) {
             return;
         }
     }

@@ -1,4 +1,6 @@
 // Tracing connections through the components (instance.rs, `trace_sources` and `trace_destinations`): one tracer for both sides.
+#![tactic(auto)]
+
 ghost use Rattle.std.specs.Prelude.{◌≡◌, [], ◌∷◌, ◌≤◌, length, take};
 ghost use Rattle.as5506.specs.Lists.{has, padded, same_bytes};
 ghost use Rattle.as5506.specs.Tables.{name_in, other};

@@ -1,0 +1,11 @@
+-- `semantic::diagnostics::put_diagnostic` meets its contract. The block that is written is the diagnostic's. Assumes nothing.
+use Rattle.semantic.proofs.DiagLaws.{diag-written}
+use Rattle.trace.proofs.Writing.{written_over}
+use borrow.Author.Rules.{rules}
+use Rattle.semantic.proofs.diagnostics.put_diagnostic.Goals as goal
+
+pub returns-then-out-count : goal.returns-then-out-count
+returns-then-out-count c = written_over _ _ _ _ _ c.if-out-count.true
+
+pub returns : goal.returns
+returns c = diag-written _ _ _ _ _ _ _ c.if-out-count.false c.put_numbers.ensures

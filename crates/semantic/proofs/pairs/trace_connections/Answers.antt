@@ -1,0 +1,53 @@
+-- `semantic::pairs::trace_connections` meets its contract. The invariant: the rows of the X rows from i on remain to be written. The measure: the rows of X that are left. Assumes nothing.
+use Rattle.semantic.proofs.PairLaws.{rows_end, rows-turn, rows-full}
+use Rattle.semantic.specs.Rows.{rows_from}
+use borrow.Author.Rules.{rules}
+use Rattle.trace.proofs.Writing.{Remains, remains-start}
+use Rattle.as5506.specs.Layout.{traced_block, row_numbers}
+use Rattle.as5506.specs.Tables.{Tables}
+use Rattle.lent.specs.Lent.{wiring_in}
+use Prim.Native.Nat.{◌-◌, ◌≤◌}
+use native.Mathlib.Omega.{arith}
+use mathlib.Core.Path.{◌∙◌}
+use Rattle.semantic.proofs.pairs.trace_connections.Goals as goal
+use Rattle.semantic.proofs.pairs.trace_connections.Goals.{Start}
+
+-- the tables that the call is lent
+abbrev wiring : Start → Tables
+wiring s = wiring_in s.args.bytes.now s.args.n.now s.args.c.now s.args.x.now
+
+pub loop-i-init : goal.loop-i-init
+loop-i-init c = (omega arith, remains-start _ _ _ _ _ (omega arith))
+
+pub trace_connection-requires : goal.trace_connection-requires
+trace_connection-requires c =
+    let s = (goal.at.trace_connection-requires c).Start in
+    let g = c.loop-i in
+    record { tables = s.requires; room = rw g.invariant.1.size g.invariant.1.room; row = omega arith }
+
+pub shape_of-out-in-Full : goal.shape_of-out-in-Full
+shape_of-out-in-Full c = c.trace_connection.auto.out ∙ c.loop-i.invariant.1.size
+
+pub returns-in-Full : goal.returns-in-Full
+returns-in-Full c =
+    let m = wiring (goal.at.returns-in-Full c).Start in
+    rows-full m _ _ _ _ c.loop-i.invariant.1 (omega arith) c.trace_connection.result _ c.trace_connection.ensures c.in-Full.is
+
+pub overflow_add-i : goal.overflow_add-i
+overflow_add-i c = omega arith
+
+pub loop-i-smaller : goal.loop-i-smaller
+loop-i-smaller c = omega arith
+
+pub loop-i-preserved : goal.loop-i-preserved
+loop-i-preserved c =
+    let m = wiring (goal.at.loop-i-preserved c).Start in
+    (omega arith, rows-turn m _ _ _ _ c.loop-i.invariant.1 (omega arith) c.trace_connection.result _ c.trace_connection.ensures _ c.in-Count.is)
+
+pub shape_of-out : goal.shape_of-out
+shape_of-out c = c.loop-i.invariant.1.size
+
+pub returns : goal.returns
+returns c =
+    let m = wiring (goal.at.returns c).Start in
+    rows_end m _ _ _ _ c.loop-i.invariant.1 (omega arith)
