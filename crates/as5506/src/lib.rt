@@ -1,4 +1,6 @@
 // The numbers of document 01 that the code needs, and a refusal. The definition is in specs/.
+#![tactic(auto)]
+
 ghost use Rattle.std.specs.Prelude.{◌≡◌};
 ghost use Rattle.as5506.specs.Answers.{nowhere, refusal, told};
 

@@ -1,5 +1,7 @@
 // The children of a component that a name finds (instance.rs, `find_children_by_name`). They are handed out one at a time, since nothing is lent to
 // hold them.
+#![tactic(auto)]
+
 ghost use Rattle.std.specs.Prelude.{not, ◌≡◌, [], ◌≤◌, length};
 ghost use Rattle.as5506.specs.Lists.{is_nil};
 ghost use Rattle.as5506.specs.Tables.{name_of, c_count};

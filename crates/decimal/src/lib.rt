@@ -1,5 +1,7 @@
 // Numbers in decimal, the one place that prints them: by subtracting powers of ten, with no division and no remainder. Laws for callers:
 // proofs/Columns.antt.
+#![tactic(auto)]
+
 ghost use Rattle.std.specs.Prelude.{◌≡◌, ◌++◌, ◌+◌, ◌*◌, ◌/◌, ◌%◌, ◌<◌, ◌≤◌, length, drop};
 ghost use Rattle.as5506.specs.Lists.{each};
 ghost use Rattle.as5506.specs.Text.{digits, column};

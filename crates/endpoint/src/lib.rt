@@ -1,5 +1,7 @@
 // The ends of a group connection (instance.rs, `resolve_endpoint_component` and `expand_endpoint_feature_group`): the component of an end, and the
 // group that its feature stands for.
+#![tactic(auto)]
+
 ghost use Rattle.std.specs.Prelude.{◌≡◌, [], ℕ};
 ghost use Rattle.as5506.specs.Tables.{Tables, name_in, present, c_package, e_classifier};
 ghost use Rattle.as5506.specs.Names.{key, same_folded};

@@ -1,5 +1,7 @@
 // The fields of a sheet's line, of any letter: how many there are, which may be missing and which are long are data, a mark for each. For the reader
 // (crate sheet) and its trials. Definitions: as5506, Columns and Fields; specs/Fields.antt says how the code holds a field and its columns.
+#![tactic(auto)]
+
 ghost use Rattle.std.specs.Prelude.{◌≡◌, false, ◌+◌, ◌≤◌, ◌<◌, length, drop};
 ghost use Rattle.std.proofs.lemmas.List.Edits.{sets};
 ghost use Rattle.as5506.specs.Lists.{same_bytes, bytes_of};

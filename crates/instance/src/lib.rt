@@ -1,4 +1,6 @@
 // The traced listing (instance.rs, `compute_semantic_connections`) over the caller's tables and outputs.
+#![tactic(auto)]
+
 ghost use Rattle.std.specs.Prelude.{◌≡◌};
 ghost use Rattle.lent.specs.Lent.{tables_at};
 ghost use Rattle.as5506.specs.Layout.{traced_row_numbers, traced_diag_numbers};

@@ -1,6 +1,8 @@
 // Reading from and writing into slices that the caller lends. Every function takes any numbers: past the end 0 is read and nothing is written.
 // Definitions: `get_or`, `take`, `drop`, `set` of lib.ListN, `sets` of lib.Seq, `zeros` of as5506, `append` of specs/Append.antt. Laws for callers:
 // proofs/Sets.antt, proofs/Padded.antt, proofs/Append.antt and proofs/Answered.antt.
+#![tactic(auto)]
+
 mod bytes;
 mod numbers;
 

@@ -1,5 +1,7 @@
 // What the references between group types mean, each as one number, its link: the row of U. Each is resolved once, before any expansion: a walk makes
 // up to 65,536 visits, and a reference means the same in all of them.
+#![tactic(auto)]
+
 ghost use Rattle.std.specs.Prelude.{◌≡◌, ◌/◌, ◌≤◌, length};
 ghost use Rattle.std.proofs.lemmas.List.Edits.{sets};
 ghost use Rattle.as5506.specs.Tables.{Tables, width, letter_u, letter_e, count, present, ref};

@@ -1,4 +1,6 @@
 // The list of the connections that tables hold, as text. The listings' outputs are lent here, as document 01 says how many of each.
+#![tactic(auto)]
+
 ghost use Rattle.std.specs.Prelude.{length};
 ghost use Rattle.as5506.specs.Layout.{rows_back, group_rows_back, diags_back};
 ghost use Rattle.as5506.specs.Text.{text_within};

@@ -1,5 +1,7 @@
 // What modes and mode print of tables. The outputs of a selection are lent here: as many numbers as a sheet can have M rows, and for the joined name as many
 // bytes as conlist lends for composed names.
+#![tactic(auto)]
+
 ghost use Rattle.std.specs.Prelude.{cond, ◌++◌, [], ◌∷◌, length};
 ghost use Rattle.as5506.specs.Lists.{bytes_of};
 ghost use Rattle.as5506.specs.Text.{number_line, text_line, text_within};

@@ -1,4 +1,6 @@
 // A task on a sheet. What a program lends for the tables of a sheet is lent here, as document 01 says how many of each, for all tasks alike.
+#![tactic(auto)]
+
 ghost use Rattle.std.specs.Prelude.{length};
 ghost use Rattle.lent.specs.Lent.{tables_at};
 ghost use Rattle.shown.specs.Shown.{Shown};

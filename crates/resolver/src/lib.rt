@@ -1,5 +1,7 @@
 // `resolve_classifier` (resolver.rs) over lent tables of any contents: past a table 0 is read, and a name past the names is empty, as in the definition.
 // A contract holds whatever stands in the tables that its function does not read, and whichever package the reference names where that is not asked.
+#![tactic(auto)]
+
 ghost use Rattle.std.specs.Prelude.{◌||◌, cond, ◌≡◌, ℕ, ◌+◌, ◌*◌, ◌/◌, ◌<◌, ◌≤◌, eqb, length, get_or};
 ghost use Rattle.std.proofs.Math.Option.{some};
 ghost use Rattle.as5506.specs.Lists.{first_of};

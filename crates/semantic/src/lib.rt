@@ -1,4 +1,6 @@
 // For each connection the rows of its pairs of ends, traced on both sides, and its diagnostics (instance.rs, `compute_semantic_connections`).
+#![tactic(auto)]
+
 mod diagnostics;
 mod ends;
 mod pairs;

@@ -4,6 +4,8 @@
 // pass for their bytes and one for their rows. bench/sheet says how long that takes.)
 // Definitions: as5506, Sheet and Fields; specs/Read.antt says what a call gives, specs/Steps.antt what the private functions say beside that.
 // Laws for callers: proofs/Model.antt.
+#![tactic(auto)]
+
 ghost use Rattle.std.specs.Prelude.{◌≡◌, true, false, List, [], ◌∷◌, map, reverse, ℕ, ◌+◌, ◌≤◌, ◌<◌, leb, length, drop, get_or};
 ghost use Rattle.std.proofs.lemmas.List.Edits.{sets};
 ghost use Rattle.as5506.specs.Lists.{each};

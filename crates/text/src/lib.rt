@@ -1,5 +1,7 @@
 // What the programs print: numbers in six columns, names, messages in the Rust's words. Every function appends to the output of text; where something finds
 // no room the output counts as full from then on, so that refusal 15 is known at the end. Laws for callers: proofs/Printed.antt.
+#![tactic(auto)]
+
 mod diagnostics;
 mod lines;
 mod list;

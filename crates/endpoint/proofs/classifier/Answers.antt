@@ -1,5 +1,4 @@
 -- `endpoint::classifier` meets its contract. One law of Steps for each return. Assumes nothing.
--- the tables that are asked, whatever the others are
 use borrow.Author.Rules.{rules}
 use Rattle.as5506.specs.Tables.{Tables}
 use Rattle.lent.specs.Lent.{with_e}
@@ -7,6 +6,7 @@ use Rattle.endpoint.proofs.Steps.{no-classifier, from-component, from-classifier
 use Rattle.endpoint.proofs.classifier.Goals as goal
 use Rattle.endpoint.proofs.classifier.Goals.{Start}
 
+-- the tables that are asked, whatever the others are
 abbrev model : Start → Tables → Tables
 model s o = with_e s.args.e.now o
 

@@ -1,5 +1,4 @@
 -- `endpoint::endpoint` meets its contract. What each call tells of the tables, then one law of Steps for each return. Assumes nothing.
--- the tables that are asked, whatever the others are
 use mathlib.Core.Path.{◌≡◌, refl}
 use mathlib.Core.Option.{none}
 use borrow.Author.Tests.{not-true, not-false}
@@ -19,6 +18,7 @@ use mathlib.Core.Bool.{not}
 use Rattle.endpoint.proofs.endpoint.Goals as goal
 use Rattle.endpoint.proofs.endpoint.Goals.{After-declared_group, After-has_group_feature, After-resolve_classifier-found, Start}
 
+-- the tables that are asked, whatever the others are
 abbrev model : Start → Tables → Tables
 model s o =
     with_packages s.args.bytes.now s.args.n.now s.args.p.now s.args.i.now s.args.t.now s.args.q.now s.args.u.now s.args.r.now

@@ -1,11 +1,11 @@
 -- `instance::compute_semantic_connections` meets its contract: what it gives stands in outputs that were zeros, and after a refusal they are cleared. Assumes nothing.
--- the tables that the call is lent
 use Rattle.instance.proofs.Answers.{given-call, refused-call}
 use Rattle.as5506.specs.Tables.{Tables, tables_of}
 use borrow.Author.Rules.{rules}
 use Rattle.instance.proofs.compute_semantic_connections.Goals as goal
 use Rattle.instance.proofs.compute_semantic_connections.Goals.{Start}
 
+-- the tables that the call is lent
 abbrev model : Start → Tables
 model s = tables_of s.args.bytes.now s.args.n.now s.args.c.now s.args.f.now s.args.x.now s.args.p.now s.args.i.now s.args.t.now s.args.q.now s.args.u.now s.args.e.now s.args.r.now s.args.m.now
 

@@ -1,5 +1,4 @@
 -- `instance::list` meets its contract. Each way out is a law of proofs/Answers.antt. Assumes nothing.
--- the tables that the call is lent
 use Rattle.instance.proofs.Answers.{can-trace, tables-refused, lists-11, lists-12, lists-both}
 use Rattle.tables.proofs.Answers.{accepted-is}
 use Rattle.as5506.specs.Tables.{Tables, tables_of}
@@ -7,6 +6,7 @@ use borrow.Author.Rules.{rules}
 use Rattle.instance.proofs.list.Goals as goal
 use Rattle.instance.proofs.list.Goals.{Start}
 
+-- the tables that the call is lent
 abbrev model : Start → Tables
 model s = tables_of s.args.bytes.now s.args.n.now s.args.c.now s.args.f.now s.args.x.now s.args.p.now s.args.i.now s.args.t.now s.args.q.now s.args.u.now s.args.e.now s.args.r.now s.args.m.now
 

@@ -1,5 +1,4 @@
 -- `links::link` meets its contract. Each case of what the resolver answers, read as a link. Assumes nothing.
--- the tables that are asked, whatever the others are
 use mathlib.Core.List.{[]}
 use native.Mathlib.Omega.{arith}
 use Rattle.as5506.specs.Tables.{Tables, Ref, ref}
@@ -10,6 +9,7 @@ use borrow.Author.Rules.{rules}
 use Rattle.links.proofs.link.Goals as goal
 use Rattle.links.proofs.link.Goals.{Start}
 
+-- the tables that are asked, whatever the others are
 abbrev model : Start → Tables → Tables
 model s o = with_packages s.args.bytes.now s.args.n.now s.args.p.now s.args.i.now s.args.t.now s.args.q.now s.args.u.now s.args.r.now o
 

@@ -1,5 +1,4 @@
 -- `links::link_feature` meets its contract. One law of Rows for each return. Assumes nothing.
--- the tables that are asked, whatever the others are
 use Rattle.as5506.specs.Tables.{Tables}
 use Rattle.lent.specs.Lent.{with_e, with_packages}
 use Rattle.links.proofs.Rows.{nested-none, nested-other, nested-at}
@@ -7,6 +6,7 @@ use borrow.Author.Rules.{rules}
 use Rattle.links.proofs.link_feature.Goals as goal
 use Rattle.links.proofs.link_feature.Goals.{Start}
 
+-- the tables that are asked, whatever the others are
 abbrev model : Start → Tables → Tables
 model s o = with_packages s.args.bytes.now s.args.n.now s.args.p.now s.args.i.now s.args.t.now s.args.q.now s.args.u.now s.args.r.now (with_e s.args.e.now o)
 

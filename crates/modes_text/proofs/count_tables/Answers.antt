@@ -1,5 +1,4 @@
 -- `modes_text::count_tables` meets its contract: the number that is counted is printed as the definition's line. Assumes nothing.
--- the call's start, from behind the count
 use borrow.Author.Rules.{rules}
 use mathlib.Core.Path.{refl}
 use lib.ListN.{length}

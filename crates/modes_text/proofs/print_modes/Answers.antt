@@ -1,5 +1,4 @@
 -- `modes_text::print_modes` meets its contract: the line stands in the output, or the line of refusal 15 does. Assumes nothing.
--- the text
 use borrow.Author.Rules.{rules}
 use mathlib.Core.Bool.{cond}
 use mathlib.Core.Path.{◌∙◌}
@@ -13,6 +12,7 @@ use Rattle.shown.proofs.Fits.{list-stands, list_over}
 use Rattle.modes_text.proofs.print_modes.Goals as goal
 use Rattle.modes_text.proofs.print_modes.Goals.{After-clear_bytes, Start}
 
+-- the text
 abbrev line : Start → List ℕ
 line s = number_line (bytes_of "Z") (s.args.number ∷ cond s.args.cut 1 0 ∷ [])
 

@@ -1,5 +1,4 @@
 -- `modes_text::print_selection` meets its contract: the two lines stand in the output, or the line of refusal 15 does. Assumes nothing.
--- the text
 use borrow.Author.Rules.{rules}
 use mathlib.Core.Path.{◌∙◌}
 use mathlib.Core.List.{List, ◌++◌}
@@ -12,6 +11,7 @@ use Rattle.shown.proofs.Fits.{list-stands, list_over}
 use Rattle.modes_text.proofs.print_selection.Goals as goal
 use Rattle.modes_text.proofs.print_selection.Goals.{After-clear_bytes, Start}
 
+-- the text
 abbrev lines : Start → List ℕ
 lines s = number_line (bytes_of "M") s.args.rows.now ++ text_line (bytes_of "=") s.args.name.now
 

@@ -1,5 +1,4 @@
 -- `on_sheet::on_sheet` meets its contract: of each slice as much is handed on as was read, and that is the definition's model. Assumes nothing.
--- places: the way back from where an answer stands to what it uses
 use mathlib.Core.Path.{refl, sym}
 use Prim.Native.Nat.{◌*◌, ◌≤◌}
 use native.Mathlib.Omega.{arith}

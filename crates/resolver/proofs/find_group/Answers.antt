@@ -1,5 +1,4 @@
 -- `resolver::find_group` meets its contract. The scan by its key is the definition's. Assumes nothing.
--- the tables that are asked, whatever the others are
 use mathlib.Core.Path.{◌≡◌, ◌∙◌}
 use borrow.Author.Rules.{rules}
 use Rattle.as5506.specs.Lists.{first_of}
@@ -12,6 +11,7 @@ use Rattle.resolver.proofs.Keys.{group-found}
 use Rattle.resolver.proofs.find_group.Goals as goal
 use Rattle.resolver.proofs.find_group.Goals.{Start}
 
+-- the tables that are asked, whatever the others are
 abbrev model : Start → Tables → Tables
 model s o = with_names s.args.bytes.now s.args.n.now (with_u s.args.u.now o)
 

@@ -1,5 +1,4 @@
 -- `resolver::has_key` meets its contract. Part by part, up to the first that fails. Assumes nothing.
--- a part was tested on a number that was read for the field v
 use mathlib.Core.Path.{◌≡◌, sym, ap, ◌∙◌}
 use mathlib.Core.Bool.{Bool}
 use mathlib.Core.List.{List}
@@ -15,6 +14,7 @@ use mathlib.Core.Bool.{not}
 use Rattle.resolver.proofs.has_key.Goals as goal
 use Rattle.resolver.proofs.has_key.Goals.{After-has_part}
 
+-- a part was tested on a number that was read for the field v
 read : (bytes n : List ℕ) (part : Part) (z : Bool) (w v : ℕ) → z ≡ has_part bytes n w part → w ≡ v → z ≡ has_part bytes n v part
 read bytes n part z w v p q = p ∙ ap (λ (y : ℕ). has_part bytes n y part) q
 

@@ -1,5 +1,4 @@
 -- `resolver::in_package` meets its contract. One law of Steps for each return. Assumes nothing.
--- the tables that are asked, whatever the others are
 use mathlib.Core.Path.{◌≡◌}
 use mathlib.Core.List.{[]}
 use mathlib.Core.Option.{Option, some}
@@ -16,6 +15,7 @@ use Rattle.resolver.proofs.Rows.{impl-row, type_row, group-row}
 use Rattle.resolver.proofs.in_package.Goals as goal
 use Rattle.resolver.proofs.in_package.Goals.{In-At, In-At-find_group, In-At-find_type, Start}
 
+-- the tables that are asked, whatever the others are
 abbrev model : Start → Tables → Tables
 model s o = with_names s.args.bytes.now s.args.n.now (with_types s.args.t.now s.args.q.now s.args.u.now o)
 

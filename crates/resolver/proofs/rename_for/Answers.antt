@@ -1,5 +1,4 @@
 -- `resolver::rename_for` meets its contract. One law of Steps for each return. Assumes nothing.
--- the tables that are asked, whatever the others are
 use mathlib.Core.Path.{ap, ◌∙◌}
 use mathlib.Core.Option.{Option}
 use Prim.Native.Nat.{ℕ}
@@ -15,6 +14,7 @@ use Rattle.resolver.proofs.Steps.{classifier-rename, no-rename, group-rename}
 use Rattle.resolver.proofs.rename_for.Goals as goal
 use Rattle.resolver.proofs.rename_for.Goals.{Start}
 
+-- the tables that are asked, whatever the others are
 abbrev model : Start → Tables → Tables
 model s o = with_names s.args.bytes.now s.args.n.now (with_r s.args.r.now o)
 

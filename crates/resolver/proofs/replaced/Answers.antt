@@ -1,5 +1,4 @@
 -- `resolver::replaced` meets its contract. One law of Steps for each return. Assumes nothing.
--- the tables that are asked, whatever the others are
 use mathlib.Core.Path.{◌≡◌}
 use mathlib.Core.List.{[]}
 use mathlib.Core.Option.{Option, some}
@@ -17,6 +16,7 @@ use Rattle.resolver.proofs.Rows.{rename-row}
 use Rattle.resolver.proofs.replaced.Goals as goal
 use Rattle.resolver.proofs.replaced.Goals.{In-At-find_rename, Start}
 
+-- the tables that are asked, whatever the others are
 abbrev model : Start → Tables → Tables
 model s o = with_names s.args.bytes.now s.args.n.now (with_r s.args.r.now o)
 

@@ -1,5 +1,4 @@
 -- `resolver::resolve_classifier` meets its contract. One law of Steps for each return. Assumes nothing.
--- the tables that are asked, whatever the others are
 use mathlib.Core.Option.{Option}
 use Prim.Native.Nat.{ℕ}
 use borrow.Author.Rules.{rules}
@@ -12,6 +11,7 @@ use Rattle.resolver.proofs.Steps.{by-package, no-asker, by-asker}
 use Rattle.resolver.proofs.resolve_classifier.Goals as goal
 use Rattle.resolver.proofs.resolve_classifier.Goals.{Start}
 
+-- the tables that are asked, whatever the others are
 abbrev model : Start → Tables → Tables
 model s o = with_packages s.args.bytes.now s.args.n.now s.args.p.now s.args.i.now s.args.t.now s.args.q.now s.args.u.now s.args.r.now o
 

@@ -1,5 +1,4 @@
 -- `resolver::resolve_in_package` meets its contract. One law of Steps for each return. Assumes nothing.
--- the tables that are asked, whatever the others are
 use Prim.Native.Nat.{ℕ}
 use borrow.Author.Rules.{rules}
 use mathlib.Core.Option.{Option}
@@ -12,6 +11,7 @@ use Rattle.resolver.proofs.Steps.{package-none, package-some}
 use Rattle.resolver.proofs.resolve_in_package.Goals as goal
 use Rattle.resolver.proofs.resolve_in_package.Goals.{Start}
 
+-- the tables that are asked, whatever the others are
 abbrev model : Start → Tables → Tables
 model s o = with_names s.args.bytes.now s.args.n.now (with_p s.args.p.now (with_types s.args.t.now s.args.q.now s.args.u.now o))
 

@@ -1,5 +1,4 @@
 -- `resolver::with_package` meets its contract. One law of Steps. Assumes nothing.
--- the tables that are asked, whatever the others are
 use borrow.Author.Rules.{rules}
 use Rattle.as5506.specs.Tables.{Tables, ref}
 use Rattle.lent.specs.Lent.{with_names, with_p, with_r, with_types}
@@ -7,6 +6,7 @@ use Rattle.resolver.proofs.Steps.{with-package}
 use Rattle.resolver.proofs.with_package.Goals as goal
 use Rattle.resolver.proofs.with_package.Goals.{Start}
 
+-- the tables that are asked, whatever the others are
 abbrev model : Start → Tables → Tables
 model s o = with_names s.args.bytes.now s.args.n.now (with_p s.args.p.now (with_types s.args.t.now s.args.q.now s.args.u.now (with_r s.args.r.now o)))
 

@@ -1,5 +1,4 @@
 -- `resolver::without_package` meets its contract. One law of Steps for each return. Assumes nothing.
--- the tables that are asked, whatever the others are
 use mathlib.Core.Bool.{true}
 use mathlib.Core.Path.{◌≡◌, sym, ◌∙◌}
 use mathlib.Core.List.{[]}
@@ -19,6 +18,7 @@ use Rattle.resolver.proofs.Rows.{rename-for-row}
 use Rattle.resolver.proofs.without_package.Goals as goal
 use Rattle.resolver.proofs.without_package.Goals.{After-is_found, In-At, Start}
 
+-- the tables that are asked, whatever the others are
 abbrev model : Start → Tables → Tables
 model s o = with_packages s.args.bytes.now s.args.n.now s.args.p.now s.args.i.now s.args.t.now s.args.q.now s.args.u.now s.args.r.now o
 

@@ -1,5 +1,4 @@
 -- `trace::is_step` meets its contract. Part by part, up to the first that fails: one law of Scan for each return. Assumes nothing.
--- the tables that the call is lent
 use Rattle.trace.proofs.Scan.{not_own, no_sub, near_sub, no-near-feature, by-feature}
 use Rattle.columns.specs.Side.{side_of}
 use Rattle.as5506.specs.Tables.{Side as TheSide}
@@ -10,6 +9,7 @@ use Rattle.lent.specs.Lent.{connections_in}
 use Rattle.trace.proofs.is_step.Goals as goal
 use Rattle.trace.proofs.is_step.Goals.{Start}
 
+-- the tables that the call is lent
 abbrev model : Start → Tables
 model s = connections_in s.args.bytes.now s.args.n.now s.args.x.now
 

@@ -1,5 +1,4 @@
 -- `semantic::diagnostics::diagnose_edge` meets its contract. One law of DiagLaws for each return. Assumes nothing.
--- the tables that the call is lent
 use Rattle.semantic.proofs.DiagLaws.{room-count, edge_none, edge-written}
 use Rattle.as5506.specs.Tables.{Tables, present, c_parent}
 use Rattle.lent.specs.Lent.{wiring_in}
@@ -11,6 +10,7 @@ use borrow.Author.Rules.{rules}
 use Rattle.semantic.proofs.diagnostics.diagnose_edge.Goals as goal
 use Rattle.semantic.proofs.diagnostics.diagnose_edge.Goals.{Start}
 
+-- the tables that the call is lent
 abbrev wiring : Start → Tables
 wiring s = wiring_in s.args.bytes.now s.args.n.now s.args.c.now s.args.x.now
 

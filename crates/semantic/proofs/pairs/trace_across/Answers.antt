@@ -1,5 +1,4 @@
 -- `semantic::pairs::trace_across` meets its contract. By the pattern: one law of PairLaws for each. Assumes nothing.
--- the tables that the call is lent
 use Rattle.semantic.proofs.PairLaws.{across-one, across-all}
 use Rattle.as5506.specs.Tables.{Tables}
 use Rattle.lent.specs.Lent.{wiring_in}
@@ -8,6 +7,7 @@ use borrow.Author.Rules.{rules}
 use Rattle.semantic.proofs.pairs.trace_across.Goals as goal
 use Rattle.semantic.proofs.pairs.trace_across.Goals.{Start}
 
+-- the tables that the call is lent
 abbrev wiring : Start → Tables
 wiring s = wiring_in s.args.bytes.now s.args.n.now s.args.c.now s.args.x.now
 

@@ -1,5 +1,4 @@
 -- `semantic::pairs::trace_edge` meets its contract. One law of PairLaws for each return. Assumes nothing.
--- the tables that the call is lent
 use Rattle.semantic.proofs.PairLaws.{edge-below, edge-root}
 use Rattle.as5506.specs.Tables.{Tables}
 use Rattle.lent.specs.Lent.{wiring_in}
@@ -10,6 +9,7 @@ use borrow.Author.Rules.{rules}
 use Rattle.semantic.proofs.pairs.trace_edge.Goals as goal
 use Rattle.semantic.proofs.pairs.trace_edge.Goals.{Start}
 
+-- the tables that the call is lent
 abbrev wiring : Start → Tables
 wiring s = wiring_in s.args.bytes.now s.args.n.now s.args.c.now s.args.x.now
 
