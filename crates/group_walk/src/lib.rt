@@ -3,6 +3,8 @@
 // is done with a feature is `sink::take_feature`. A walk may make 65,536 visits, and most of them change nothing: names that have come, outputs
 // that are full. So a table `calm` has a number for each group type and level: 0, or how many visits a visit there makes that is known to change
 // nothing. Such a visit is passed over, and its visits are counted.
+#![tactic(auto)]
+
 ghost use Rattle.std.specs.Prelude.{◌&&◌, ◌≡◌, [], eqb, get_or, take};
 ghost use Rattle.as5506.specs.Tables.{e_holder, e_holder_kind, present};
 ghost use Rattle.as5506.specs.Groups.{turned};

@@ -79,7 +79,7 @@ abbrev pub with_packages : (bytes n p i t q u r : List ℕ) → Tables → Table
 with_packages bytes n p i t q u r o = with_names bytes n (with_p p (with_i i (with_types t q u (with_r r o))))
 
 -- The tables in the slices that a contract names: `tables_lent` in a `requires`; in an `ensures` `tables_at`, `wiring_at` and the like as they are
--- when the call begins, and `tables_left` as it leaves them.
+-- when the call begins; of a call that fills them, `tables_to_fill` as it begins and `tables_left` as it leaves them.
 abbrev pub Lent : Type 0
 Lent = Bor (List ℕ)
 
@@ -94,6 +94,10 @@ tables_at bytes n c f x p i t q u e r m =
 -- a table that a call fills
 abbrev pub Filling : Type 0
 Filling = MutBor (List ℕ)
+
+abbrev pub tables_to_fill : (bytes n c f x p i t q u e r m : Both Filling Filling) → Tables
+tables_to_fill bytes n c f x p i t q u e r m =
+    tables_of bytes.entry.now n.entry.now c.entry.now f.entry.now x.entry.now p.entry.now i.entry.now t.entry.now q.entry.now u.entry.now e.entry.now r.entry.now m.entry.now
 
 abbrev pub tables_left : (bytes n c f x p i t q u e r m : Both Filling Filling) → Tables
 tables_left bytes n c f x p i t q u e r m =

@@ -1,11 +1,13 @@
 // Replays the cases of stdin and prints a line for each, which must be that of stdout: the answer in full, and a checksum of every slice as it is
 // afterwards. A case is a line `V` with fourteen fields as in a sheet (the length of the sheet, of the byte table and of the twelve tables that are
 // lent), then the sheet's bytes. The lent slices are parts of larger ones, so that the checksums also show what stands behind them.
+#![tactic(auto)]
+
 ghost use Rattle.std.specs.Prelude.{◌≡◌, ◌≤◌, length};
 ghost use Rattle.sheet_trials.specs.Ends.{Ends};
 
-use libc::STDOUT_FILENO;
 use sheet::{Counts, SheetRead};
+use std::io::Read;
 
 // The most cases of a file.
 const CASES: usize = 100000;
@@ -16,48 +18,48 @@ const NAMES: usize = 8200;
 
 const OTHERS: usize = 2700;
 
-fn print(text: &[u8]) {
-    io::write_all(STDOUT_FILENO, text);
+fn print(rt: &impl Print, text: &[u8]) {
+    let _ = rt.write_all(text);
 }
 
 // A space and the number.
-fn print_number(n: u64) {
-    print(b" ");
-    io::print_decimal(STDOUT_FILENO, n);
+fn print_number(rt: &impl Print, n: u64) {
+    print(rt, b" ");
+    let _ = print!(rt; "{n}");
 }
 
-fn print_count(n: usize) {
-    print_number(n as u64);
+fn print_count(rt: &impl Print, n: usize) {
+    print_number(rt, n as u64);
 }
 
-fn print_counts(c: Counts) {
-    print(b"read");
-    print_count(c.bytes);
-    print_count(c.n);
-    print_count(c.c);
-    print_count(c.f);
-    print_count(c.x);
-    print_count(c.p);
-    print_count(c.i);
-    print_count(c.t);
-    print_count(c.q);
-    print_count(c.u);
-    print_count(c.e);
-    print_count(c.r);
-    print_count(c.m);
+fn print_counts(rt: &impl Print, c: Counts) {
+    print(rt, b"read");
+    print_count(rt, c.bytes);
+    print_count(rt, c.n);
+    print_count(rt, c.c);
+    print_count(rt, c.f);
+    print_count(rt, c.x);
+    print_count(rt, c.p);
+    print_count(rt, c.i);
+    print_count(rt, c.t);
+    print_count(rt, c.q);
+    print_count(rt, c.u);
+    print_count(rt, c.e);
+    print_count(rt, c.r);
+    print_count(rt, c.m);
 }
 
-fn print_refusal(r: as5506::Refusal) {
-    print(b"refused");
-    print_number(r.number as u64);
-    print_number(r.place as u64);
-    print_number(r.letter as u64);
+fn print_refusal(rt: &impl Print, r: as5506::Refusal) {
+    print(rt, b"refused");
+    print_number(rt, r.number as u64);
+    print_number(rt, r.place as u64);
+    print_number(rt, r.letter as u64);
 }
 
-fn print_answer(z: SheetRead) {
+fn print_answer(rt: &impl Print, z: SheetRead) {
     match z {
-        SheetRead::Read(c) => print_counts(c),
-        SheetRead::Refused(r) => print_refusal(r),
+        SheetRead::Read(c) => print_counts(rt, c),
+        SheetRead::Refused(r) => print_refusal(rt, r),
     }
 }
 
@@ -84,6 +86,7 @@ fn checksum_bytes(t: &[u8]) -> u64 {
 
 // The checksums of all slices.
 fn print_slices(
+    rt: &impl Print,
     bytes: &[u8],
     n: &[u32],
     c: &[u32],
@@ -98,20 +101,20 @@ fn print_slices(
     r: &[u32],
     m: &[u32],
 ) {
-    print_number(checksum_bytes(bytes));
-    print_number(checksum(n));
-    print_number(checksum(c));
-    print_number(checksum(f));
-    print_number(checksum(x));
-    print_number(checksum(p));
-    print_number(checksum(i));
-    print_number(checksum(t));
-    print_number(checksum(q));
-    print_number(checksum(u));
-    print_number(checksum(e));
-    print_number(checksum(r));
-    print_number(checksum(m));
-    print(b"\n");
+    print_number(rt, checksum_bytes(bytes));
+    print_number(rt, checksum(n));
+    print_number(rt, checksum(c));
+    print_number(rt, checksum(f));
+    print_number(rt, checksum(x));
+    print_number(rt, checksum(p));
+    print_number(rt, checksum(i));
+    print_number(rt, checksum(t));
+    print_number(rt, checksum(q));
+    print_number(rt, checksum(u));
+    print_number(rt, checksum(e));
+    print_number(rt, checksum(r));
+    print_number(rt, checksum(m));
+    print(rt, b"\n");
 }
 
 // A length from the file, if the slice is that long.
@@ -142,6 +145,7 @@ fn sevens() -> [u32; OTHERS]
 
 // Lends as much of each slice, which is full of sevens, as a case says, and prints the answer and every slice.
 fn replay(
+    rt: &impl Print,
     sheet: &[u8],
     b_end: usize,
     n_end: usize,
@@ -188,13 +192,14 @@ fn replay(
         &mut r[..r_end],
         &mut m[..m_end],
     );
-    print_answer(z);
-    print_slices(&bytes, &n, &c, &f, &x, &p, &i, &t, &q, &u, &e, &r, &m);
+    print_answer(rt, z);
+    print_slices(rt, &bytes, &n, &c, &f, &x, &p, &i, &t, &q, &u, &e, &r, &m);
 }
 
 // A case's sheet, with what the case lends.
-fn replay_sheet(sheet: &[u8], lengths: [u32; 13]) {
+fn replay_sheet(rt: &impl Print, sheet: &[u8], lengths: [u32; 13]) {
     replay(
+        rt,
         sheet,
         end_of(lengths[0], BYTES),
         end_of(lengths[1], NAMES),
@@ -213,25 +218,26 @@ fn replay_sheet(sheet: &[u8], lengths: [u32; 13]) {
 }
 
 // Reads a case and replays it; false where there is none.
-fn next_case() -> bool {
-    if !cases::begins() {
+fn next_case(rt: &impl Print, input: &mut impl Read) -> bool {
+    if !cases::begins(input) {
         return false;
     }
-    let length = cases::number();
+    let length = cases::number(input);
     let mut lengths = [0u32; 13];
-    cases::numbers(&mut lengths);
-    cases::byte();
+    cases::numbers(input, &mut lengths);
+    cases::byte(input);
     let mut sheet = [0u8; BYTES];
-    let end = cases::bytes(&mut sheet, length);
-    replay_sheet(lent::part(&sheet, 0, end), lengths);
+    let end = cases::bytes(input, &mut sheet, length);
+    replay_sheet(rt, lent::part(&sheet, 0, end), lengths);
     true
 }
 
-fn main() {
+fn main(rt: HostRuntime) {
+    let mut input = rt.stdin();
     let mut left = CASES;
     while 0 < left {
         left -= 1;
-        if !next_case() {
+        if !next_case(&rt, &mut input) {
             return;
         }
     }
