@@ -31,6 +31,7 @@ fn print(rt: &impl Print, text: &[u8]) {
     let _ = rt.write_all(text);
 }
 
+// The number in decimal digits.
 fn print_decimal(rt: &impl Print, n: u64) {
     let _ = print!(rt; "{n}");
 }
