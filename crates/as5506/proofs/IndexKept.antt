@@ -9,7 +9,7 @@ use borrow.Author.Tests.{le-ltb}
 use lib.Dec.{T, eqb, ltb, eqb→eq}
 use lib.ListN.{length, get_or, take, drop, replicate, take-append-drop}
 use Rattle.as5506.specs.Lists.{up_to, is_nil, each}
-use Rattle.as5506.specs.Tables.{Tables, Letter, letter_n, letter_c, letter_f, letter_x, letter_p, letter_i, letter_t, letter_q, letter_u, letter_e, letter_r, letter_m}
+use Rattle.as5506.specs.Tables.{Tables, letter_n, letter_c, letter_f, letter_x, letter_p, letter_i, letter_t, letter_q, letter_u, letter_e, letter_r, letter_m}
 use Rattle.as5506.specs.Columns.{letter_byte}
 use Rattle.as5506.specs.Answers.{Refusal, given, fault}
 use Rattle.as5506.specs.Fields.{space}

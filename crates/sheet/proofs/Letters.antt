@@ -14,7 +14,7 @@ use Rattle.as5506.specs.Columns.{order, rank, letter_byte, Column, columns, lett
 use Rattle.as5506.specs.Fields.{fields_fit, field_numbers}
 use Rattle.as5506.specs.Lists.{span, put_if, keep, first_of, all_of}
 use Rattle.as5506.specs.Sheet.{letter_of}
-use Rattle.as5506.specs.Tables.{Letter, letter_n, letter_c, letter_f, letter_x, letter_p, letter_i, letter_t, letter_q, letter_u, letter_e, letter_r, width}
+use Rattle.as5506.specs.Tables.{Letter, letter_n, width}
 use Rattle.as5506.proofs.Letters.{each-letter, row-cells as width-cells}
 use Rattle.fields.specs.Fields.{columns_by, marks_of, is_sized}
 use Rattle.fields.proofs.Laws.{columns-fit, columns-numbers, columns-bytes, columns-cells}

@@ -8,10 +8,9 @@ use Rattle.lent.specs.Lent.{components_in}
 use lib.ListN.{length}
 use native.Mathlib.Omega.{arith}
 use native.Mathlib.Nat.{zero-add}
-use mathlib.Core.Logic.{⊎_elim}
-use mathlib.Core.Path.{◌≡◌, ap, ◌∙◌}
+use mathlib.Core.Path.{ap, ◌∙◌}
 use mathlib.Core.List.{List}
-use Prim.Native.Nat.{ℕ, ◌-◌, ◌≤◌, ◌+◌}
+use Prim.Native.Nat.{ℕ, ◌+◌}
 use Rattle.children.proofs.count_children.Goals as goal
 use Rattle.children.proofs.count_children.Goals.{then-is_found, else-is_found, Start}
 

@@ -4,7 +4,6 @@ use Rattle.as5506.specs.Tables.{name_in}
 use Rattle.lent.specs.Lent.{components_in}
 use Rattle.children.specs.declared.Rule.{Rule}
 use mathlib.Core.Path.{◌≡◌, subst}
-use borrow.Author.Rules.{rules}
 use Rattle.children.proofs.find_child_by_name.Goals as goal
 
 pub returns : goal.returns

@@ -1,13 +1,12 @@
 -- `children::finds` meets its contract. The invariant: the rows that the rule finds are those from row i on. The measure: the rows that are left. Assumes nothing.
-use Rattle.children.proofs.Scan.{rows_from, rows-miss, some-found, none_found}
+use Rattle.children.proofs.Scan.{rows-miss, some-found, none_found}
 use Rattle.children.specs.Found.{is_found}
 use Rattle.as5506.specs.Tables.{name_in}
 use Rattle.as5506.proofs.Laws.{answered}
 use Rattle.lent.specs.Lent.{components_in}
 use native.Mathlib.Omega.{arith}
 use mathlib.Core.Bool.{Bool}
-use mathlib.Core.Path.{◌≡◌, refl, ◌∙◌}
-use Prim.Native.Nat.{◌-◌}
+use mathlib.Core.Path.{refl, ◌∙◌}
 use Rattle.children.proofs.finds.Goals as goal
 use Rattle.children.proofs.finds.Goals.{After-is_found}
 

@@ -1,12 +1,8 @@
 -- `children::finds` meets its contract. The invariant: the rows that the rule finds are those from row i on. The measure: the rows that are left. Assumes nothing.
-use Rattle.children.proofs.Scan.{rows_from, rows-miss, some-found, none_found}
-use Rattle.children.specs.Found.{is_found}
+use Rattle.children.proofs.Scan.{rows_from}
 use Rattle.as5506.specs.Tables.{name_in}
-use Rattle.as5506.proofs.Laws.{answered}
 use Rattle.lent.specs.Lent.{components_in}
-use native.Mathlib.Omega.{arith}
-use mathlib.Core.Bool.{Bool}
-use mathlib.Core.Path.{◌≡◌, refl, ◌∙◌}
+use mathlib.Core.Path.{◌≡◌}
 use Prim.Native.Nat.{◌-◌}
 use Rattle.children.proofs.finds.Given as goal
 

@@ -1,7 +1,6 @@
 -- `children::is_behind` meets its contract. One law of Scan for each return. Assumes nothing.
 use Rattle.children.proofs.Scan.{behind-start, behind-same, behind-other}
 use mathlib.Core.Path.{refl}
-use borrow.Author.Rules.{rules}
 use Rattle.children.proofs.is_behind.Goals as goal
 
 pub returns-then-from-eq0 : goal.returns-then-from-eq0

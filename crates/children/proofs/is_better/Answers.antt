@@ -1,6 +1,5 @@
 -- `children::is_better` meets its contract. One law of Scan for each return. Assumes nothing.
 use Rattle.children.proofs.Scan.{better-first, better-by-place}
-use borrow.Author.Rules.{rules}
 use Rattle.children.proofs.is_better.Goals as goal
 
 pub returns-then-best-c : goal.returns-then-best-c

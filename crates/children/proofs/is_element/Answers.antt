@@ -1,6 +1,5 @@
 -- `children::is_element` meets its contract. One law of Scan for each return. Assumes nothing.
 use Rattle.children.proofs.Scan.{element-not, element-is}
-use borrow.Author.Rules.{rules}
 use borrow.Author.Tests.{not-true, not-false}
 use mathlib.Core.Path.{ap}
 use mathlib.Core.Bool.{not}

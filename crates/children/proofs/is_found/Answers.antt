@@ -1,6 +1,5 @@
 -- `children::is_found` meets its contract. One law of Scan for each return. Assumes nothing.
 use Rattle.children.proofs.Scan.{other-parent, own-parent}
-use borrow.Author.Rules.{rules}
 use Rattle.children.proofs.is_found.Goals as goal
 
 pub returns-then-parent_of-owner : goal.returns-then-parent_of-owner

@@ -2,7 +2,6 @@
 use Rattle.children.proofs.Scan.{other-parent, own-parent, behind-any, better-any, next-unfound, next-before, next-worse, next-found}
 use borrow.Author.Tests.{not-true, not-false}
 use mathlib.Core.Path.{sym, ◌∙◌}
-use borrow.Author.Rules.{rules}
 use mathlib.Core.Path.{ap}
 use mathlib.Core.Bool.{not}
 use Rattle.children.proofs.is_next.Goals as goal

@@ -1,6 +1,5 @@
 -- `children::name_fits` meets its contract. One law of Scan for each rule. Assumes nothing.
 use Rattle.children.proofs.Scan.{fits-exact, fits-base}
-use borrow.Author.Rules.{rules}
 use Rattle.children.proofs.name_fits.Goals as goal
 
 pub returns-in-Exact : goal.returns-in-Exact

@@ -1,12 +1,8 @@
 -- `children::next_by_rule` meets its contract. The invariant: of the rows below i, `best` is the next child, or there is none. The measure: the rows that
 -- are left. Assumes nothing.
-use Rattle.children.proofs.Scan.{Best, best-start, best-taken, best-left, best-whole, best-inside, children-none, children-next}
-use Rattle.children.specs.Found.{is_next}
+use Rattle.children.proofs.Scan.{Best}
 use Rattle.as5506.specs.Tables.{name_in, c_count}
-use Rattle.as5506.proofs.Laws.{answered}
 use Rattle.lent.specs.Lent.{components_in}
-use native.Mathlib.Omega.{arith}
-use mathlib.Core.Logic.{⊎_elim}
 use Prim.Native.Nat.{◌-◌, ◌≤◌}
 use Rattle.children.proofs.next_by_rule.Given as goal
 

@@ -4,7 +4,6 @@ use Rattle.as5506.specs.Names.{bracket}
 use Rattle.as5506.specs.Lists.{has}
 use mathlib.Core.Bool.{true, false}
 use mathlib.Core.Path.{refl, sym, ap, ◌∙◌}
-use borrow.Author.Rules.{rules}
 use Rattle.children.proofs.rule_for.Goals as goal
 
 pub returns-then-finds : goal.returns-then-finds

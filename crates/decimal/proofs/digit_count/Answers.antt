@@ -1,9 +1,5 @@
 -- `decimal::digit_count` meets its contract: the powers so far are reached, so the number has that many digits at least. Assumes nothing.
-use Prim.Native.Nat.{◌-◌, ◌≤◌}
 use native.Mathlib.Omega.{arith}
-use borrow.Author.Rules.{rules}
-use lib.ListN.{length}
-use Rattle.as5506.specs.Text.{digits}
 use Rattle.decimal.proofs.Digits.{digits-some, digits-short}
 use Rattle.decimal.proofs.Powers.{count-more, count-found}
 use Rattle.decimal.proofs.digit_count.Goals as goal

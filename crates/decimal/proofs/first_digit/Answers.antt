@@ -1,6 +1,6 @@
 -- `decimal::first_digit` meets its contract: the loop's invariant is `Subtracting`. Assumes nothing.
 use native.Mathlib.Omega.{arith}
-use Rattle.decimal.proofs.Spelt.{Subtracting, subtracting-start, subtracting-turn, subtracting-below, subtracting-end}
+use Rattle.decimal.proofs.Spelt.{subtracting-start, subtracting-turn, subtracting-below, subtracting-end}
 use Rattle.decimal.proofs.first_digit.Goals as goal
 
 pub loop-rest-init : goal.loop-rest-init

@@ -1,6 +1,5 @@
 -- `decimal::first_digit` meets its contract: the loop's invariant is `Subtracting`. Assumes nothing.
-use native.Mathlib.Omega.{arith}
-use Rattle.decimal.proofs.Spelt.{Subtracting, subtracting-start, subtracting-turn, subtracting-below, subtracting-end}
+use Rattle.decimal.proofs.Spelt.{Subtracting}
 use Rattle.decimal.proofs.first_digit.Given as goal
 
 abbrev pub invariant-loop-rest : goal.invariant-loop-rest

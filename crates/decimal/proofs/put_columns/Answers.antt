@@ -1,13 +1,7 @@
 -- `decimal::put_columns` meets its contract: the loop's invariant is `Printing`: the columns of what is left are still to be printed. Assumes nothing.
 use mathlib.Core.Path.{refl}
-use Prim.Native.Nat.{◌-◌}
 use native.Mathlib.Omega.{arith}
-use borrow.Author.Rules.{rules}
-use lib.ListN.{length, drop}
-use Rattle.as5506.specs.Lists.{each}
-use Rattle.as5506.specs.Text.{column}
-use Rattle.decimal.specs.Powers.{PowersOfTen}
-use Rattle.lent.proofs.Added.{Printing, printing-start, printing-turn, printing-end}
+use Rattle.lent.proofs.Added.{printing-start, printing-turn, printing-end}
 use Rattle.decimal.proofs.Columns.{columns-next, columns-done}
 use Rattle.decimal.proofs.put_columns.Goals as goal
 

@@ -1,11 +1,7 @@
 -- `decimal::put_digits` meets its contract: the loop's invariant is `Printing`: the digits of what is left are still to be printed. Assumes nothing.
 use mathlib.Core.Path.{refl}
-use Prim.Native.Nat.{◌^◌, ◌≤◌, ◌<◌}
 use native.Mathlib.Omega.{arith}
-use borrow.Author.Rules.{rules}
-use Rattle.decimal.specs.Powers.{PowersOfTen}
-use Rattle.decimal.specs.Spelt.{spelt}
-use Rattle.lent.proofs.Added.{Printing, printing-start, printing-turn, printing-end, added-as, added-piece, added_then}
+use Rattle.lent.proofs.Added.{printing-start, printing-turn, printing-end, added-as, added-piece, added_then}
 use Rattle.decimal.proofs.Spelt.{spelt-below, spelt-over, spelt-power, spelt-next, spelt-done}
 use Rattle.decimal.proofs.put_digits.Goals as goal
 

@@ -1,5 +1,4 @@
 -- `endpoint::classifier` meets its contract. One law of Steps for each return. Assumes nothing.
-use borrow.Author.Rules.{rules}
 use Rattle.as5506.specs.Tables.{Tables}
 use Rattle.lent.specs.Lent.{with_e}
 use Rattle.endpoint.proofs.Steps.{no-classifier, from-component, from-classifier}

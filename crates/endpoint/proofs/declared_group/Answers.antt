@@ -1,16 +1,11 @@
 -- `endpoint::declared_group` meets its contract. The invariant: the definition's row is the first from row i on. The measure: the rows that are left. Assumes nothing.
-use mathlib.Core.Path.{◌≡◌, sym, ap, ◌∙◌}
-use Prim.Native.Nat.{◌-◌, ◌/◌}
+use mathlib.Core.Path.{sym, ap, ◌∙◌}
+use Prim.Native.Nat.{◌/◌}
 use native.Mathlib.Omega.{arith}
 use lib.ListN.{length}
-use borrow.Author.Rules.{rules}
-use Rattle.as5506.specs.Lists.{span, keep, first_of}
-use Rattle.as5506.specs.Tables.{Tables, width, letter_e}
-use Rattle.as5506.specs.Names.{key}
-use Rattle.as5506.specs.GroupList.{declared_group}
+use Rattle.as5506.specs.Lists.{first_of}
+use Rattle.as5506.specs.Tables.{width, letter_e}
 use Rattle.as5506.proofs.Scans.{keep-hit, keep-miss, keep-done}
-use Rattle.lent.specs.Lent.{declared_in}
-use Rattle.endpoint.specs.Ends.{is_declared}
 use Rattle.endpoint.proofs.Scan.{declared-scan}
 use Rattle.endpoint.proofs.declared_group.Goals as goal
 

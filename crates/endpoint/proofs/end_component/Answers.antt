@@ -1,5 +1,4 @@
 -- `endpoint::end_component` meets its contract. One law of Steps for each return. Assumes nothing.
-use borrow.Author.Rules.{rules}
 use Rattle.columns.specs.Side.{side_of}
 use Rattle.endpoint.proofs.Steps.{end-owner, end-child}
 use Rattle.endpoint.proofs.end_component.Goals as goal

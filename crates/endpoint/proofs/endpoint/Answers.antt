@@ -2,7 +2,6 @@
 use mathlib.Core.Path.{◌≡◌, refl}
 use mathlib.Core.Option.{none}
 use borrow.Author.Tests.{not-true, not-false}
-use borrow.Author.Rules.{rules}
 use Rattle.as5506.specs.Tables.{Tables}
 use Rattle.lent.specs.Lent.{with_c, with_f, with_e, with_packages}
 use Rattle.as5506.specs.GroupList.{is_group_feature, type_of, declared_group, typed_by, endpoint}

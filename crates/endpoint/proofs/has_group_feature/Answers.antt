@@ -1,16 +1,10 @@
 -- `endpoint::has_group_feature` meets its contract. The invariant: the definition's answer is whether a row from i on is a group of that name. The measure: the rows that are left. Assumes nothing.
-use mathlib.Core.Path.{◌≡◌, sym, ap, ◌∙◌}
-use Prim.Native.Nat.{◌-◌, ◌/◌}
+use mathlib.Core.Path.{sym, ap, ◌∙◌}
+use Prim.Native.Nat.{◌/◌}
 use native.Mathlib.Omega.{arith}
 use lib.ListN.{length}
-use borrow.Author.Rules.{rules}
-use Rattle.as5506.specs.Lists.{span, keep}
-use Rattle.as5506.specs.Tables.{Tables, width, letter_f}
-use Rattle.as5506.specs.Names.{key}
-use Rattle.as5506.specs.GroupList.{is_group_feature}
+use Rattle.as5506.specs.Tables.{width, letter_f}
 use Rattle.as5506.proofs.Scans.{keep-hit, keep-miss, keep-done}
-use Rattle.lent.specs.Lent.{features_in}
-use Rattle.endpoint.specs.Ends.{is_group}
 use Rattle.endpoint.proofs.Scan.{some_of, feature-scan}
 use Rattle.endpoint.proofs.has_group_feature.Goals as goal
 

@@ -1,6 +1,5 @@
 -- `endpoint::is_group_connection` meets its contract. Part by part, up to the first that fails. Assumes nothing.
 use mathlib.Core.Path.{ap}
-use borrow.Author.Rules.{rules}
 use Rattle.as5506.specs.Tables.{present}
 use Rattle.as5506.specs.GroupList.{is_group_connection}
 use Rattle.endpoint.proofs.Tests.{equal, other}

@@ -1,5 +1,4 @@
 -- `endpoint::is_group_feature` meets its contract. Part by part, up to the first that fails. Assumes nothing.
-use borrow.Author.Rules.{rules}
 use Rattle.as5506.specs.Groups.{feature_kind_group}
 use Rattle.as5506.proofs.Laws.{part-fails, part-holds}
 use Rattle.lent.specs.Lent.{features_in}

@@ -1,7 +1,6 @@
 -- `fields::decimal`: a 0 in front stands alone. Assumes nothing.
 use mathlib.Core.Path.{◌∙◌}
 use native.Mathlib.Omega.{arith}
-use borrow.Author.Rules.{rules}
 use Rattle.fields.proofs.Laws.{decimal-none, decimal-plain, decimal-zero, decimal-leading}
 use Rattle.fields.proofs.decimal.Goals as goal
 

@@ -1,14 +1,10 @@
 -- `fields::digits`: the number so far, continued by the digits that are left, is the whole field's. Assumes nothing.
-use mathlib.Core.Path.{◌≡◌, refl, sym, ◌∙◌}
-use Prim.Native.Nat.{◌-◌, ◌*◌, ◌≤◌, ◌<◌}
+use mathlib.Core.Path.{refl, sym, ◌∙◌}
 use native.Mathlib.Omega.{arith}
 use borrow.Author.Rules.{rules}
 use borrow.Author.Tests.{le-leb, lt-leb}
-use lib.ListN.{length, drop}
 use Rattle.as5506.proofs.Laws.{and-false}
-use Rattle.as5506.specs.Tables.{two_to32}
 use Rattle.fields.proofs.Laws.{digits-bad, digits-large, digits-next, digits-end}
-use Rattle.fields.specs.Fields.{spelt}
 use Rattle.fields.proofs.digits.Goals as goal
 
 pub loop-i-init : goal.loop-i-init

@@ -1,6 +1,5 @@
 -- `fields::field_fits`: by cases of the field. Assumes nothing.
 use mathlib.Core.Path.{sym, ap, ◌∙◌}
-use borrow.Author.Rules.{rules}
 use Rattle.as5506.specs.Fields.{fits}
 use Rattle.fields.proofs.Laws.{value-fits, dash-fits, bad-fits}
 use Rattle.fields.specs.Fields.{shown, column}

@@ -1,6 +1,5 @@
 -- `fields::field_number`: by cases of the field; its number has 32 bits. Assumes nothing.
-use mathlib.Core.Path.{sym, subst}
-use borrow.Author.Rules.{rules}
+use mathlib.Core.Path.{subst}
 use Rattle.fields.specs.Fields.{shown, Short}
 use Rattle.fields.specs.declared.Field.{Field as Read}
 use Rattle.fields.proofs.field_number.Goals as goal

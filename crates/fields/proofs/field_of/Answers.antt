@@ -1,6 +1,5 @@
 -- `fields::field_of`: behind the spaces stands a lone `-`, or a number, or the field is bad. Assumes nothing.
 use mathlib.Core.Path.{sym, ◌∙◌}
-use borrow.Author.Rules.{rules}
 use Rattle.fields.proofs.Laws.{field-dash, field-number}
 use Rattle.fields.proofs.field_of.Goals as goal
 

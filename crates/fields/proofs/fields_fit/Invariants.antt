@@ -1,15 +1,10 @@
 -- `fields::fields_fit`: the fields that are left fit exactly if all do. Assumes nothing.
-use mathlib.Core.Bool.{◌&&◌}
-use mathlib.Core.Path.{◌≡◌, sym, ap, ap₂, ◌∙◌}
-use Prim.Native.Nat.{ℕ, ◌+◌, ◌-◌, ◌/◌, ◌%◌}
-use native.Mathlib.Nat.{add-sub_cancel_left}
-use native.Mathlib.Omega.{arith}
-use borrow.Author.Rules.{rules}
-use lib.ListN.{length, take, drop}
+use mathlib.Core.Path.{◌≡◌}
+use Prim.Native.Nat.{◌+◌}
+use lib.ListN.{length, drop}
 use Rattle.as5506.specs.Columns.{line_bytes}
-use Rattle.as5506.specs.Fields.{field_of, fits, fields_fit}
-use Rattle.fields.proofs.Laws.{bytes-step, fits-step, fits-end}
-use Rattle.fields.specs.Fields.{column, columns_by}
+use Rattle.as5506.specs.Fields.{fields_fit}
+use Rattle.fields.specs.Fields.{columns_by}
 use Rattle.fields.proofs.fields_fit.Given as goal
 
 abbrev pub invariant-loop-left : goal.invariant-loop-left

@@ -1,5 +1,4 @@
 -- `fields::is_dash`: a lone `-` is one byte. Assumes nothing.
-use borrow.Author.Rules.{rules}
 use Rattle.fields.proofs.Laws.{dash-here, dash-not}
 use Rattle.fields.proofs.is_dash.Goals as goal
 

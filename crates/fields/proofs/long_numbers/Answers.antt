@@ -1,6 +1,5 @@
 -- `fields::long_numbers`: by cases of the field. Assumes nothing.
 use mathlib.Core.Path.{sym, ap}
-use borrow.Author.Rules.{rules}
 use Rattle.as5506.specs.Fields.{long_numbers}
 use Rattle.fields.specs.Fields.{shown}
 use Rattle.fields.specs.declared.Field.{Field as Read}

@@ -3,7 +3,6 @@ use mathlib.Core.Path.{sym, ap, ◌∙◌}
 use mathlib.Core.List.{[], ◌∷◌}
 use Prim.Native.Nat.{ℕ, ◌+◌}
 use native.Mathlib.Omega.{arith}
-use borrow.Author.Rules.{rules}
 use lib.Seq.{sets}
 use Rattle.fields.proofs.Laws.{cells-short, cells-long, numbers-short, numbers-long}
 use Rattle.fields.specs.Fields.{shown}

@@ -1,13 +1,12 @@
 -- `fields::put_fields`: the numbers that are left, written from here on, give the table with all of them. Assumes nothing.
 use mathlib.Core.Path.{◌≡◌, sym, ap, subst, ◌∙◌}
-use Prim.Native.Nat.{ℕ, ◌+◌, ◌-◌, ◌/◌, ◌%◌, ◌≤◌, ◌<◌}
+use Prim.Native.Nat.{ℕ, ◌+◌, ◌-◌, ◌/◌, ◌%◌}
 use native.Mathlib.Nat.{add-sub_cancel_left}
 use native.Mathlib.Omega.{arith}
-use borrow.Author.Rules.{rules}
 use lib.ListN.{length, take, drop, length-drop}
 use lib.Seq.{sets, length-sets, length-take-le}
-use Rattle.as5506.specs.Columns.{field_bytes, line_bytes, row_cells}
-use Rattle.as5506.specs.Fields.{Field, field_of, numbers_of, field_numbers}
+use Rattle.as5506.specs.Columns.{field_bytes, line_bytes}
+use Rattle.as5506.specs.Fields.{Field, field_of, numbers_of}
 use Rattle.fields.proofs.Laws.{field-short, bytes-step, cells-step, numbers-step, numbers-end}
 use Rattle.fields.specs.Fields.{shown, Short, column, columns_by}
 use Rattle.fields.proofs.put_fields.Goals as goal

@@ -1,15 +1,11 @@
 -- `fields::put_fields`: the numbers that are left, written from here on, give the table with all of them. Assumes nothing.
-use mathlib.Core.Path.{◌≡◌, sym, ap, subst, ◌∙◌}
-use Prim.Native.Nat.{ℕ, ◌+◌, ◌-◌, ◌/◌, ◌%◌, ◌≤◌, ◌<◌}
-use native.Mathlib.Nat.{add-sub_cancel_left}
-use native.Mathlib.Omega.{arith}
-use borrow.Author.Rules.{rules}
-use lib.ListN.{length, take, drop, length-drop}
-use lib.Seq.{sets, length-sets, length-take-le}
-use Rattle.as5506.specs.Columns.{field_bytes, line_bytes, row_cells}
-use Rattle.as5506.specs.Fields.{Field, field_of, numbers_of, field_numbers}
-use Rattle.fields.proofs.Laws.{field-short, bytes-step, cells-step, numbers-step, numbers-end}
-use Rattle.fields.specs.Fields.{shown, Short, column, columns_by}
+use mathlib.Core.Path.{◌≡◌}
+use Prim.Native.Nat.{◌+◌, ◌≤◌}
+use lib.ListN.{length, drop}
+use lib.Seq.{sets}
+use Rattle.as5506.specs.Columns.{line_bytes, row_cells}
+use Rattle.as5506.specs.Fields.{field_numbers}
+use Rattle.fields.specs.Fields.{columns_by}
 use Rattle.fields.proofs.put_fields.Given as goal
 
 abbrev pub invariant-loop-left : goal.invariant-loop-left

@@ -1,11 +1,8 @@
 -- `fields::spaces`: the spaces of what is left are those of the whole field. Assumes nothing.
-use mathlib.Core.Path.{◌≡◌, refl, sym, ◌∙◌}
+use mathlib.Core.Path.{◌≡◌}
 use Prim.Native.Nat.{◌-◌, ◌≤◌}
-use borrow.Author.Rules.{rules}
-use borrow.Author.Tests.{eq-eqb, ne_eqb}
 use lib.ListN.{length, drop}
 use Rattle.as5506.specs.Fields.{unspaced}
-use Rattle.fields.proofs.Laws.{spaces-step, spaces-end}
 use Rattle.fields.proofs.spaces.Given as goal
 
 abbrev pub invariant-loop-i : goal.invariant-loop-i

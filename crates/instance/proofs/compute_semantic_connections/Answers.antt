@@ -1,7 +1,6 @@
 -- `instance::compute_semantic_connections` meets its contract: what it gives stands in outputs that were zeros, and after a refusal they are cleared. Assumes nothing.
 use Rattle.instance.proofs.Answers.{given-call, refused-call}
 use Rattle.as5506.specs.Tables.{Tables, tables_of}
-use borrow.Author.Rules.{rules}
 use Rattle.instance.proofs.compute_semantic_connections.Goals as goal
 use Rattle.instance.proofs.compute_semantic_connections.Goals.{Start}
 

@@ -2,7 +2,6 @@
 use Rattle.instance.proofs.Answers.{can-trace, tables-refused, lists-11, lists-12, lists-both}
 use Rattle.tables.proofs.Answers.{accepted-is}
 use Rattle.as5506.specs.Tables.{Tables, tables_of}
-use borrow.Author.Rules.{rules}
 use Rattle.instance.proofs.list.Goals as goal
 use Rattle.instance.proofs.list.Goals.{Start}
 

@@ -5,7 +5,6 @@ use Rattle.as5506.specs.Tables.{Tables, Ref, ref}
 use Rattle.lent.specs.Lent.{with_packages, names_in}
 use Rattle.resolver.proofs.Answers.{located}
 use Rattle.links.proofs.Rows.{link-means}
-use borrow.Author.Rules.{rules}
 use Rattle.links.proofs.link.Goals as goal
 use Rattle.links.proofs.link.Goals.{Start}
 

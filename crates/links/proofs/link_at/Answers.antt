@@ -2,7 +2,6 @@
 use Rattle.as5506.specs.Tables.{Tables, Ref, ref}
 use Rattle.lent.specs.Lent.{with_packages}
 use Rattle.links.proofs.Rows.{at_none, at_some}
-use borrow.Author.Rules.{rules}
 use Rattle.links.proofs.link_at.Goals as goal
 use Rattle.links.proofs.link_at.Goals.{Start}
 

@@ -2,7 +2,6 @@
 use Rattle.as5506.specs.Tables.{Tables}
 use Rattle.lent.specs.Lent.{with_e, with_packages}
 use Rattle.links.proofs.Rows.{nested-none, nested-other, nested-at}
-use borrow.Author.Rules.{rules}
 use Rattle.links.proofs.link_feature.Goals as goal
 use Rattle.links.proofs.link_feature.Goals.{Start}
 

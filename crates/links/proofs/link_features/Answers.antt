@@ -1,14 +1,10 @@
 -- `links::link_features` meets its contract. The invariant: the links from row `row` on are left to write. The measure: the rows that are left. Assumes nothing.
-use mathlib.Core.Path.{◌≡◌, refl, ap, ◌∙◌}
-use Prim.Native.Nat.{◌-◌, ◌/◌}
+use mathlib.Core.Path.{refl, ap, ◌∙◌}
 use native.Mathlib.Nat.{div-le_self}
 use native.Mathlib.Omega.{arith}
 use lib.ListN.{length, length-set}
-use borrow.Author.Rules.{rules}
-use Rattle.as5506.specs.Tables.{Tables, width, letter_e}
-use Rattle.lent.specs.Lent.{with_e, with_packages}
-use Rattle.links.specs.Links.{nested_link}
-use Rattle.links.proofs.Rows.{Filling, filling-all, filling-turn, filling-end}
+use Rattle.as5506.specs.Tables.{width, letter_e}
+use Rattle.links.proofs.Rows.{filling-all, filling-turn, filling-end}
 use Rattle.links.proofs.link_features.Goals as goal
 
 pub loop-row-init : goal.loop-row-init

@@ -1,6 +1,5 @@
 -- `links::link_groups` meets its contract. Each table is what its function leaves. Assumes nothing.
 use Rattle.lent.specs.Lent.{with_e}
-use borrow.Author.Rules.{rules}
 use Rattle.links.proofs.link_groups.Goals as goal
 
 pub returns : goal.returns

@@ -1,13 +1,10 @@
 -- `links::link_types` meets its contract. The invariant: in both tables the links from row `row` on are left to write. The measure: the rows that are left. Assumes nothing.
-use mathlib.Core.Path.{◌≡◌, refl, ap, ◌∙◌}
-use Prim.Native.Nat.{◌-◌, ◌/◌}
+use mathlib.Core.Path.{refl, ap, ◌∙◌}
 use native.Mathlib.Omega.{arith}
 use lib.ListN.{length, length-set}
-use borrow.Author.Rules.{rules}
-use Rattle.as5506.specs.Tables.{Tables, width, letter_u}
+use Rattle.as5506.specs.Tables.{Tables}
 use Rattle.lent.specs.Lent.{with_packages}
-use Rattle.links.specs.Links.{extends_link, inverse_link}
-use Rattle.links.proofs.Rows.{extends-at, inverse-at, Filling, filling-all, filling-turn, filling-end}
+use Rattle.links.proofs.Rows.{extends-at, inverse-at, filling-all, filling-turn, filling-end}
 use Rattle.links.proofs.link_types.Goals as goal
 use Rattle.links.proofs.link_types.Goals.{Start}
 

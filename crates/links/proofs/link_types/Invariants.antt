@@ -1,13 +1,11 @@
 -- `links::link_types` meets its contract. The invariant: in both tables the links from row `row` on are left to write. The measure: the rows that are left. Assumes nothing.
-use mathlib.Core.Path.{◌≡◌, refl, ap, ◌∙◌}
+use mathlib.Core.Path.{◌≡◌}
 use Prim.Native.Nat.{◌-◌, ◌/◌}
-use native.Mathlib.Omega.{arith}
-use lib.ListN.{length, length-set}
-use borrow.Author.Rules.{rules}
+use lib.ListN.{length}
 use Rattle.as5506.specs.Tables.{Tables, width, letter_u}
 use Rattle.lent.specs.Lent.{with_packages}
 use Rattle.links.specs.Links.{extends_link, inverse_link}
-use Rattle.links.proofs.Rows.{extends-at, inverse-at, Filling, filling-all, filling-turn, filling-end}
+use Rattle.links.proofs.Rows.{Filling}
 use Rattle.links.proofs.link_types.Given as goal
 
 abbrev pub invariant-loop-row : goal.invariant-loop-row

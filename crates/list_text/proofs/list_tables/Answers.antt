@@ -1,5 +1,4 @@
 -- `list_text::list_tables` meets its contract: what the listings leave in their outputs is printed as the definition's list. Assumes nothing.
-use borrow.Author.Rules.{rules}
 use mathlib.Core.Path.{refl}
 use native.Mathlib.Omega.{arith}
 use lib.ListN.{length}

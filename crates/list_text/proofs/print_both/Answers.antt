@@ -1,5 +1,4 @@
 -- `list_text::print_both` meets its contract: the list stands in the output, or the line of refusal 15 does. Assumes nothing.
-use borrow.Author.Rules.{rules}
 use mathlib.Core.Path.{◌∙◌}
 use mathlib.Core.List.{List}
 use Prim.Native.Nat.{ℕ}

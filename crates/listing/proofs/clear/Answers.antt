@@ -1,5 +1,4 @@
 -- `listing::clear` meets its contract. Each output is what its call leaves. Assumes nothing.
-use borrow.Author.Rules.{rules}
 use Rattle.listing.proofs.clear.Goals as goal
 
 pub returns : goal.returns

@@ -3,7 +3,6 @@ use Rattle.listing.proofs.Answers.{traced-call, then-accepted, both-call, group-
 use Rattle.listing.specs.Answer.{outputs}
 use mathlib.Core.Path.{◌∙◌}
 use Rattle.as5506.specs.Tables.{tables_of}
-use borrow.Author.Rules.{rules}
 use Rattle.listing.proofs.list_connections.Goals as goal
 
 pub list_accepted-requires : goal.list_accepted-requires

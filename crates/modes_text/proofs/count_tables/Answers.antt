@@ -1,5 +1,4 @@
 -- `modes_text::count_tables` meets its contract: the number that is counted is printed as the definition's line. Assumes nothing.
-use borrow.Author.Rules.{rules}
 use mathlib.Core.Path.{refl}
 use lib.ListN.{length}
 use Rattle.as5506.specs.Tables.{Tables, tables_of}

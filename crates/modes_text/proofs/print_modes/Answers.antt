@@ -1,5 +1,4 @@
 -- `modes_text::print_modes` meets its contract: the line stands in the output, or the line of refusal 15 does. Assumes nothing.
-use borrow.Author.Rules.{rules}
 use mathlib.Core.Bool.{cond}
 use mathlib.Core.Path.{◌∙◌}
 use mathlib.Core.List.{List, [], ◌∷◌}

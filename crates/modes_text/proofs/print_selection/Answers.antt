@@ -1,5 +1,4 @@
 -- `modes_text::print_selection` meets its contract: the two lines stand in the output, or the line of refusal 15 does. Assumes nothing.
-use borrow.Author.Rules.{rules}
 use mathlib.Core.Path.{◌∙◌}
 use mathlib.Core.List.{List, ◌++◌}
 use Prim.Native.Nat.{ℕ}

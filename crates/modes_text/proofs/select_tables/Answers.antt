@@ -1,5 +1,4 @@
 -- `modes_text::select_tables` meets its contract: what the call leaves in its outputs is printed as the definition's lines. Assumes nothing.
-use borrow.Author.Rules.{rules}
 use mathlib.Core.Path.{◌≡◌, refl, sym}
 use mathlib.Core.List.{List}
 use Prim.Native.Nat.{ℕ, ◌≤◌}

@@ -1,5 +1,4 @@
 -- `on_sheet::do_task` meets its contract: each task by its own call. Assumes nothing.
-use borrow.Author.Rules.{rules}
 use mathlib.Core.Path.{◌≡◌, refl}
 use mathlib.Core.List.{List}
 use Prim.Native.Nat.{ℕ}

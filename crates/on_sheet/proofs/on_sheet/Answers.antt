@@ -2,7 +2,6 @@
 use mathlib.Core.Path.{refl, sym}
 use Prim.Native.Nat.{◌*◌, ◌≤◌}
 use native.Mathlib.Omega.{arith}
-use borrow.Author.Rules.{rules}
 use lib.Seq.{length-take-le}
 use lib.ListN.{length}
 use Rattle.as5506.specs.Tables.{Tables, tables_of, Letter, letter_n, letter_c, letter_f, letter_x, letter_p, letter_i, letter_t, letter_q, letter_u, letter_e, letter_r, letter_m, table, width}

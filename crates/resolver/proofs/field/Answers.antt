@@ -2,7 +2,6 @@
 use Prim.Native.Nat.{◌+◌, ◌*◌, ◌≤◌}
 use native.Mathlib.Omega.{arith}
 use lib.ListN.{length}
-use borrow.Author.Rules.{rules}
 use Rattle.resolver.proofs.Scan.{row_within}
 use Rattle.resolver.proofs.field.Goals as goal
 use Rattle.resolver.proofs.field.Goals.{Start}

@@ -1,12 +1,11 @@
 -- `resolver::find_row` meets its contract. The invariant: the first row with the key, from `start` on, is the first from `row` on. The measure: the rows that are left. Assumes nothing.
 use mathlib.Core.Path.{◌≡◌, refl, sym, ap, ◌∙◌}
 use mathlib.Core.Bool.{Bool}
-use Prim.Native.Nat.{ℕ, ◌+◌, ◌*◌, ◌-◌, ◌/◌, ◌≤◌}
+use Prim.Native.Nat.{ℕ, ◌+◌, ◌*◌, ◌/◌, ◌≤◌}
 use native.Mathlib.Omega.{arith}
 use native.Mathlib.Nat.{div-le_self}
 use lib.ListN.{length}
-use borrow.Author.Rules.{rules}
-use Rattle.as5506.specs.Lists.{span, keep, first_of}
+use Rattle.as5506.specs.Lists.{first_of}
 use Rattle.resolver.specs.Keys.{row_has_key, rows_with_key}
 use Rattle.resolver.proofs.Scan.{row_within}
 use Rattle.as5506.proofs.Scans.{keep-hit, keep-miss, keep-done}

@@ -1,15 +1,9 @@
 -- `resolver::find_row` meets its contract. The invariant: the first row with the key, from `start` on, is the first from `row` on. The measure: the rows that are left. Assumes nothing.
-use mathlib.Core.Path.{◌≡◌, refl, sym, ap, ◌∙◌}
-use mathlib.Core.Bool.{Bool}
-use Prim.Native.Nat.{ℕ, ◌+◌, ◌*◌, ◌-◌, ◌/◌, ◌≤◌}
-use native.Mathlib.Omega.{arith}
-use native.Mathlib.Nat.{div-le_self}
+use mathlib.Core.Path.{◌≡◌}
+use Prim.Native.Nat.{◌-◌, ◌/◌}
 use lib.ListN.{length}
-use borrow.Author.Rules.{rules}
 use Rattle.as5506.specs.Lists.{span, keep, first_of}
 use Rattle.resolver.specs.Keys.{row_has_key, rows_with_key}
-use Rattle.resolver.proofs.Scan.{row_within}
-use Rattle.as5506.proofs.Scans.{keep-hit, keep-miss, keep-done}
 use Rattle.resolver.proofs.find_row.Given as goal
 
 abbrev pub invariant-loop-row : goal.invariant-loop-row

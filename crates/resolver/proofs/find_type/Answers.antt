@@ -1,6 +1,5 @@
 -- `resolver::find_type` meets its contract. The scan by its key is the definition's. Assumes nothing.
 use mathlib.Core.Path.{◌≡◌, ◌∙◌}
-use borrow.Author.Rules.{rules}
 use Rattle.as5506.specs.Lists.{first_of}
 use Rattle.as5506.specs.Tables.{Tables}
 use Rattle.lent.specs.Lent.{with_names, with_t}

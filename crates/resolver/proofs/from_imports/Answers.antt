@@ -3,14 +3,13 @@ use mathlib.Core.Path.{◌≡◌, sym, ap, ◌∙◌}
 use mathlib.Core.List.{[], map}
 use mathlib.Core.Bool.{false}
 use mathlib.Core.Option.{some}
-use Prim.Native.Nat.{ℕ, ◌-◌, ◌/◌, ◌≤◌, ◌<◌}
+use Prim.Native.Nat.{ℕ, ◌/◌, ◌≤◌, ◌<◌}
 use native.Mathlib.Omega.{arith}
 use lib.ListN.{length}
-use borrow.Author.Rules.{rules}
 use Rattle.as5506.specs.Names.{key}
 use Rattle.as5506.specs.Lists.{first_of}
 use Rattle.as5506.specs.Tables.{Tables, Ref, ref}
-use Rattle.as5506.specs.Resolve.{Resolved as Meant, package_named, in_found, first_found, from_imports}
+use Rattle.as5506.specs.Resolve.{Resolved as Meant, package_named, in_found, first_found}
 use Rattle.lent.specs.Lent.{with_names, with_p, with_i, with_types, names_in}
 use Rattle.resolver.specs.declared.Resolved.{Resolved}
 use Rattle.resolver.specs.Found.{row_of, found}

@@ -1,22 +1,12 @@
 -- `resolver::from_imports` meets its contract. The invariant: what the imports from row `start` on give is what all give. The measure: the rows that are left. Assumes nothing.
-use mathlib.Core.Path.{◌≡◌, sym, ap, ◌∙◌}
-use mathlib.Core.List.{[], map}
-use mathlib.Core.Bool.{false}
-use mathlib.Core.Option.{some}
-use Prim.Native.Nat.{ℕ, ◌-◌, ◌/◌, ◌≤◌, ◌<◌}
-use native.Mathlib.Omega.{arith}
+use mathlib.Core.Path.{◌≡◌}
+use mathlib.Core.List.{map}
+use Prim.Native.Nat.{ℕ, ◌-◌, ◌/◌}
 use lib.ListN.{length}
-use borrow.Author.Rules.{rules}
-use Rattle.as5506.specs.Names.{key}
-use Rattle.as5506.specs.Lists.{first_of}
 use Rattle.as5506.specs.Tables.{Tables, Ref, ref}
-use Rattle.as5506.specs.Resolve.{Resolved as Meant, package_named, in_found, first_found, from_imports}
-use Rattle.lent.specs.Lent.{with_names, with_p, with_i, with_types, names_in}
-use Rattle.resolver.specs.declared.Resolved.{Resolved}
-use Rattle.resolver.specs.Found.{row_of, found}
-use Rattle.resolver.proofs.Keys.{import-found}
-use Rattle.resolver.proofs.Scan.{at_row, no_row}
-use Rattle.resolver.proofs.Steps.{imported, imports_from, imports-start, imports-end, import-row, import-hit, import-miss}
+use Rattle.as5506.specs.Resolve.{first_found, from_imports}
+use Rattle.lent.specs.Lent.{with_names, with_p, with_i, with_types}
+use Rattle.resolver.proofs.Steps.{imported, imports_from}
 use Rattle.resolver.proofs.from_imports.Given as goal
 
 abbrev pub invariant-loop-row : goal.invariant-loop-row

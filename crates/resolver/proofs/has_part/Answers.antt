@@ -1,6 +1,5 @@
 -- `resolver::has_part` meets its contract. By the parts of a key. Assumes nothing.
 use mathlib.Core.Path.{◌∙◌}
-use borrow.Author.Rules.{rules}
 use Rattle.resolver.specs.Keys.{has_part}
 use Rattle.resolver.proofs.has_part.Goals as goal
 

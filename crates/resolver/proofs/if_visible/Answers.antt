@@ -1,7 +1,6 @@
 -- `resolver::if_visible` meets its contract. By the two tests. Assumes nothing.
 use mathlib.Core.Path.{◌≡◌}
 use native.Mathlib.Omega.{arith}
-use borrow.Author.Rules.{rules}
 use borrow.Author.Tests.{eq-eqb, ne_eqb}
 use Rattle.resolver.proofs.if_visible.Goals as goal
 

@@ -4,7 +4,6 @@ use mathlib.Core.List.{[]}
 use mathlib.Core.Option.{Option, some}
 use Prim.Native.Nat.{ℕ}
 use native.Mathlib.Omega.{arith}
-use borrow.Author.Rules.{rules}
 use Rattle.as5506.specs.Names.{key}
 use Rattle.as5506.specs.Tables.{Tables, Ref, ref}
 use Rattle.as5506.specs.Resolve.{impl_named, type_named, group_named}

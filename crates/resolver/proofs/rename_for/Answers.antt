@@ -2,7 +2,6 @@
 use mathlib.Core.Path.{ap, ◌∙◌}
 use mathlib.Core.Option.{Option}
 use Prim.Native.Nat.{ℕ}
-use borrow.Author.Rules.{rules}
 use Rattle.as5506.specs.Names.{key}
 use Rattle.as5506.specs.Lists.{first_of}
 use Rattle.as5506.specs.Tables.{Tables, Ref, ref}

@@ -1,7 +1,6 @@
 -- `resolver::resolve_classifier` meets its contract. One law of Steps for each return. Assumes nothing.
 use mathlib.Core.Option.{Option}
 use Prim.Native.Nat.{ℕ}
-use borrow.Author.Rules.{rules}
 use Rattle.as5506.specs.Names.{key}
 use Rattle.as5506.specs.Tables.{Tables, Ref, ref}
 use Rattle.as5506.specs.Resolve.{package_named}

@@ -1,6 +1,5 @@
 -- `resolver::resolve_in_package` meets its contract. One law of Steps for each return. Assumes nothing.
 use Prim.Native.Nat.{ℕ}
-use borrow.Author.Rules.{rules}
 use mathlib.Core.Option.{Option}
 use Rattle.as5506.specs.Names.{key}
 use Rattle.as5506.specs.Tables.{Tables, Ref, ref}

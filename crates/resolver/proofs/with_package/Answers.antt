@@ -1,5 +1,4 @@
 -- `resolver::with_package` meets its contract. One law of Steps. Assumes nothing.
-use borrow.Author.Rules.{rules}
 use Rattle.as5506.specs.Tables.{Tables, ref}
 use Rattle.lent.specs.Lent.{with_names, with_p, with_r, with_types}
 use Rattle.resolver.proofs.Steps.{with-package}

@@ -6,7 +6,6 @@ use mathlib.Core.Option.{Option, some}
 use Prim.Native.Nat.{ℕ, ◌/◌, ◌<◌}
 use native.Mathlib.Omega.{arith}
 use lib.ListN.{length}
-use borrow.Author.Rules.{rules}
 use Rattle.as5506.specs.Lists.{first_of}
 use Rattle.as5506.specs.Tables.{Tables, Ref, ref}
 use Rattle.as5506.specs.Resolve.{in_package, renames_for}

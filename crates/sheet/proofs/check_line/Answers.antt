@@ -5,7 +5,6 @@ use mathlib.Core.Option.{some}
 use mathlib.Core.Path.{◌≡◌, sym, ◌∙◌}
 use Prim.Native.Nat.{ℕ}
 use native.Mathlib.Omega.{arith}
-use borrow.Author.Rules.{rules}
 use borrow.Author.Tests.{lt-ltb, le-ltb, not-true, not-false}
 use Rattle.as5506.specs.Columns.{rank}
 use Rattle.as5506.specs.Sheet.{letter_of, is_earlier}

@@ -1,24 +1,21 @@
 -- `sheet::check_lines`: the answer of the lines that are left is the sheet's. Assumes nothing.
 use mathlib.Core.List.{List, [], ◌∷◌}
 use mathlib.Core.Path.{◌≡◌, refl, sym, ap, ◌∙◌}
-use Prim.Native.Nat.{ℕ, ◌+◌, ◌-◌, ◌*◌, ◌≤◌}
+use Prim.Native.Nat.{ℕ, ◌-◌}
 use native.Mathlib.Nat.{zero-mul}
 use native.Mathlib.Numerals.{add-one}
 use native.Mathlib.Omega.{arith}
 use borrow.Author.Rules.{rules}
 use lib.ListN.{length, take, drop}
 use Rattle.as5506.specs.Columns.{rank}
-use Rattle.as5506.specs.Sheet.{lines_of, lines_with, name_bytes, placed}
-use Rattle.as5506.specs.Tables.{Letter, width}
+use Rattle.as5506.specs.Tables.{width}
 use Rattle.sheet.proofs.Check.{Good, good, numbers-small, counted_none, answer-end, answer-unended, answer-bad, answer-good}
 use Rattle.as5506.proofs.Letters.{each-letter}
 use Rattle.sheet.proofs.Letters.{rank_below}
 use Rattle.sheet.proofs.Lines.{no_lines, line-length, last_line, next-line}
 use Rattle.sheet.proofs.Put.{bytes_small}
 use Rattle.sheet.proofs.Rows.{none-with, names-none, names-split}
-use Rattle.sheet.specs.Steps.{rank_of, lent_by, Counted, answer_from}
-use Rattle.sheet.specs.declared.Room.{Room}
-use Rattle.sheet.specs.declared.Seen.{Seen}
+use Rattle.sheet.specs.Steps.{rank_of, lent_by, answer_from}
 use Rattle.sheet.specs.declared.SheetRead.TheVariants.{Read}
 use Rattle.sheet.proofs.check_lines.Goals as goal
 use Rattle.sheet.proofs.check_lines.Goals.{Else-number-ne0}

@@ -1,6 +1,5 @@
 -- `sheet::check_sheet`: no. 1, then the lines. Assumes nothing.
 use mathlib.Core.Path.{◌∙◌}
-use borrow.Author.Rules.{rules}
 use Rattle.sheet.proofs.Check.{answer-long, answer-short}
 use Rattle.sheet.proofs.check_sheet.Goals as goal
 

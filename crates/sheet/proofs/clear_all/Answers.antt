@@ -1,5 +1,4 @@
 -- `sheet::clear_all`: each slice by its own call. Assumes nothing.
-use borrow.Author.Rules.{rules}
 use Rattle.as5506.proofs.Letters.{each-letter}
 use Rattle.sheet.proofs.clear_all.Goals as goal
 

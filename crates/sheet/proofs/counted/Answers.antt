@@ -1,6 +1,5 @@
 -- `sheet::counted`: the rows of each letter are the numbers in its table by its width. Assumes nothing.
 use mathlib.Core.Path.{refl}
-use borrow.Author.Rules.{rules}
 use Rattle.sheet.proofs.Check.{counted-rows}
 use Rattle.sheet.proofs.counted.Goals as goal
 

@@ -1,11 +1,7 @@
 -- `sheet::index_from`: the byte is not among those passed. Assumes nothing.
-use mathlib.Core.Path.{◌≡◌}
-use Prim.Native.Nat.{◌+◌, ◌-◌, ◌≤◌}
 use native.Mathlib.Omega.{arith}
 use borrow.Author.Rules.{rules}
-use lib.ListN.{length, drop}
 use Rattle.sheet.proofs.Lines.{index-here, index-step, index-end}
-use Rattle.sheet.specs.Steps.{index_of}
 use Rattle.sheet.proofs.index_from.Goals as goal
 
 pub returns-then-s-i : goal.returns-then-s-i

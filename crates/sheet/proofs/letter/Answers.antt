@@ -2,7 +2,6 @@
 use mathlib.Core.Path.{ap, ◌∙◌}
 use Prim.Native.Nat.{ℕ}
 use native.Mathlib.Omega.{arith}
-use borrow.Author.Rules.{rules}
 use Rattle.sheet.proofs.Letters.{letters, letter-rank}
 use Rattle.sheet.specs.Steps.{index_of}
 use Rattle.sheet.proofs.letter.Goals as goal

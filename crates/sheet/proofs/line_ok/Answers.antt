@@ -1,7 +1,6 @@
 -- `sheet::line_ok`: N or another letter. Assumes nothing.
 use mathlib.Core.Path.{sym, ap, ◌∙◌}
 use Prim.Native.Nat.{ℕ}
-use borrow.Author.Rules.{rules}
 use Rattle.as5506.specs.Sheet.{keeps_rules}
 use Rattle.sheet.specs.Steps.{letter_at}
 use Rattle.sheet.proofs.line_ok.Goals as goal

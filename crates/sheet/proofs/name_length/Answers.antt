@@ -1,6 +1,5 @@
 -- `sheet::name_length`: of an N line what stands behind the letter and a space. Assumes nothing.
 use mathlib.Core.Path.{sym, ◌∙◌}
-use borrow.Author.Rules.{rules}
 use Rattle.sheet.proofs.Put.{bytes-own, bytes-other, bytes-short}
 use Rattle.sheet.proofs.name_length.Goals as goal
 

@@ -5,11 +5,11 @@ use Prim.Native.Nat.{ℕ, ◌+◌, ◌-◌, ◌≤◌}
 use native.Mathlib.Numerals.{add-one}
 use native.Mathlib.Omega.{arith}
 use borrow.Author.Rules.{rules}
-use lib.ListN.{length, drop, get_or, length-set}
+use lib.ListN.{length, get_or, length-set}
 use Rattle.as5506.specs.Sheet.{lines_with, line_name, placed}
 use Rattle.as5506.specs.Tables.{letter_n}
 use Rattle.sheet.proofs.Order.{Turn, turn}
-use Rattle.sheet.proofs.Put.{Writing, left-all, writing_start, name-room, placed-room, placed-turn, left-from, writing-end, none-placed}
+use Rattle.sheet.proofs.Put.{left-all, writing_start, name-room, placed-room, placed-turn, left-from, writing-end, none-placed}
 use Rattle.sheet.specs.Steps.{texts}
 use Rattle.sheet.proofs.put_name_rows.Goals as goal
 use Rattle.sheet.proofs.put_name_rows.Goals.{After-index_from-end}

@@ -1,15 +1,10 @@
 -- `sheet::put_name_rows`: the rows that are left, written from here on, give the table with all of them. Assumes nothing.
-use mathlib.Core.List.{List, map}
-use mathlib.Core.Path.{◌≡◌, refl, sym, ◌∙◌}
-use Prim.Native.Nat.{ℕ, ◌+◌, ◌-◌, ◌≤◌}
-use native.Mathlib.Numerals.{add-one}
-use native.Mathlib.Omega.{arith}
-use borrow.Author.Rules.{rules}
-use lib.ListN.{length, drop, get_or, length-set}
+use mathlib.Core.List.{map}
+use Prim.Native.Nat.{◌-◌, ◌≤◌}
+use lib.ListN.{length, drop}
 use Rattle.as5506.specs.Sheet.{lines_with, line_name, placed}
 use Rattle.as5506.specs.Tables.{letter_n}
-use Rattle.sheet.proofs.Order.{Turn, turn}
-use Rattle.sheet.proofs.Put.{Writing, left-all, writing_start, name-room, placed-room, placed-turn, left-from, writing-end, none-placed}
+use Rattle.sheet.proofs.Put.{Writing}
 use Rattle.sheet.specs.Steps.{texts}
 use Rattle.sheet.proofs.put_name_rows.Given as goal
 

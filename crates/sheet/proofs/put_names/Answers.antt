@@ -9,7 +9,7 @@ use Rattle.as5506.specs.Lists.{each}
 use Rattle.as5506.specs.Sheet.{lines_with, line_name}
 use Rattle.as5506.specs.Tables.{letter_n}
 use Rattle.sheet.proofs.Order.{line_from, Turn, turn}
-use Rattle.sheet.proofs.Put.{Writing, left-all, writing_start, name-room, names-room, names-turn, writing-end}
+use Rattle.sheet.proofs.Put.{left-all, writing_start, name-room, names-room, names-turn, writing-end}
 use Rattle.sheet.specs.Steps.{texts}
 use Rattle.sheet.proofs.put_names.Goals as goal
 use Rattle.sheet.proofs.put_names.Goals.{After-index_from-end}

@@ -2,7 +2,6 @@
 use mathlib.Core.Path.{sym, ap, ◌∙◌}
 use Prim.Native.Nat.{ℕ, ◌+◌}
 use native.Mathlib.Omega.{arith}
-use borrow.Author.Rules.{rules}
 use lib.ListN.{drop}
 use Rattle.sheet.proofs.Check.{row-fields, row-length}
 use Rattle.sheet.proofs.Letters.{bytes-at, fit_at, line_at, rank-at, bytes-few}

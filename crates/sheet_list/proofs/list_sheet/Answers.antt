@@ -1,5 +1,4 @@
 -- `sheet_list::list_sheet` meets its contract. Assumes nothing.
-use borrow.Author.Rules.{rules}
 use Rattle.sheet_list.proofs.Into.{text-into}
 use Rattle.sheet_list.proofs.list_sheet.Goals as goal
 

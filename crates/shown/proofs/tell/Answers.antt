@@ -1,7 +1,6 @@
 -- `shown::tell` meets its contract: the refusal's line stands in the output, or the output is cleared again. Assumes nothing.
 use mathlib.Core.Path.{ap, ◌∙◌}
 use native.Mathlib.Omega.{arith}
-use borrow.Author.Rules.{rules}
 use Rattle.as5506.specs.Lists.{zeros}
 use Rattle.shown.proofs.Fits.{stands, cleared}
 use Rattle.shown.proofs.tell.Goals as goal

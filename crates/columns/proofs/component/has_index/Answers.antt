@@ -1,7 +1,6 @@
 -- `columns::component::has_index` meets its contract. Assumes nothing.
 use mathlib.Core.Path.{ap}
 use Prim.Native.Nat.{ℕ}
-use borrow.Author.Rules.{rules}
 use lib.Dec.{eqb}
 use Rattle.columns.proofs.component.has_index.Goals as goal
 

@@ -1,7 +1,6 @@
 -- `columns::connection::feature_of` meets its contract. By the side. Assumes nothing.
 use mathlib.Core.Path.{sym, ap, ◌∙◌}
 use mathlib.Core.List.{[]}
-use borrow.Author.Rules.{rules}
 use Rattle.as5506.specs.Tables.{x_feat}
 use Rattle.lent.specs.Lent.{connections_in}
 use Rattle.columns.specs.Side.{side_of}

@@ -1,6 +1,5 @@
 -- `lent::bytes::byte_at` meets its contract: past the end the default is read. Assumes nothing.
 use mathlib.Core.Path.{sym}
-use borrow.Author.Rules.{rules}
 use lib.ListN.{get_or-eq_default}
 use Rattle.lent.proofs.bytes.byte_at.Goals as goal
 

@@ -1,8 +1,7 @@
 -- `lent::bytes::clear_bytes` meets its contract: the loop's invariant is `Cleared`: the first i places are 0. Assumes nothing.
 use Prim.Native.Nat.{◌-◌}
-use borrow.Author.Rules.{rules}
 use lib.ListN.{length}
-use Rattle.lent.proofs.Turns.{Cleared, cleared-start, cleared-turn, cleared-end}
+use Rattle.lent.proofs.Turns.{Cleared}
 use Rattle.lent.proofs.bytes.clear_bytes.Given as goal
 
 abbrev pub invariant-loop-i : goal.invariant-loop-i

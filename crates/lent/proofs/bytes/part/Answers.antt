@@ -1,5 +1,4 @@
 -- `lent::bytes::part` meets its contract: one law for each of the three returns. Assumes nothing.
-use borrow.Author.Rules.{rules}
 use Rattle.lent.proofs.Turns.{part_none, part-some, part-rest}
 use Rattle.lent.proofs.bytes.part.Goals as goal
 

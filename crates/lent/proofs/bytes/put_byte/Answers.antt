@@ -1,6 +1,5 @@
 -- `lent::bytes::put_byte` meets its contract: past the end `set` leaves the list. Assumes nothing.
 use mathlib.Core.Path.{sym}
-use borrow.Author.Rules.{rules}
 use lib.Seq.{set_out}
 use Rattle.lent.proofs.bytes.put_byte.Goals as goal
 

@@ -1,9 +1,6 @@
 -- `lent::bytes::put_bytes` meets its contract: the loop's invariant is `Putting`: what is left of the block is still to be written. Assumes nothing.
-use Prim.Native.Nat.{◌-◌}
 use native.Mathlib.Omega.{arith}
-use borrow.Author.Rules.{rules}
-use lib.ListN.{length}
-use Rattle.lent.proofs.Turns.{Putting, putting-start, putting-turn, putting-full, putting-end}
+use Rattle.lent.proofs.Turns.{putting-start, putting-turn, putting-full, putting-end}
 use Rattle.lent.proofs.bytes.put_bytes.Goals as goal
 
 pub loop-k-init : goal.loop-k-init

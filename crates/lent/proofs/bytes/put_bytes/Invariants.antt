@@ -1,9 +1,7 @@
 -- `lent::bytes::put_bytes` meets its contract: the loop's invariant is `Putting`: what is left of the block is still to be written. Assumes nothing.
 use Prim.Native.Nat.{◌-◌}
-use native.Mathlib.Omega.{arith}
-use borrow.Author.Rules.{rules}
 use lib.ListN.{length}
-use Rattle.lent.proofs.Turns.{Putting, putting-start, putting-turn, putting-full, putting-end}
+use Rattle.lent.proofs.Turns.{Putting}
 use Rattle.lent.proofs.bytes.put_bytes.Given as goal
 
 abbrev pub invariant-loop-k : goal.invariant-loop-k

@@ -1,8 +1,5 @@
 -- `lent::numbers::clear_numbers` meets its contract: the loop's invariant is `Cleared`: the first i places are 0. Assumes nothing.
-use Prim.Native.Nat.{◌-◌}
-use borrow.Author.Rules.{rules}
-use lib.ListN.{length}
-use Rattle.lent.proofs.Turns.{Cleared, cleared-start, cleared-turn, cleared-end}
+use Rattle.lent.proofs.Turns.{cleared-start, cleared-turn, cleared-end}
 use Rattle.lent.proofs.numbers.clear_numbers.Goals as goal
 
 pub loop-i-init : goal.loop-i-init

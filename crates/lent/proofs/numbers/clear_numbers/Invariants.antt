@@ -1,8 +1,7 @@
 -- `lent::numbers::clear_numbers` meets its contract: the loop's invariant is `Cleared`: the first i places are 0. Assumes nothing.
 use Prim.Native.Nat.{◌-◌}
-use borrow.Author.Rules.{rules}
 use lib.ListN.{length}
-use Rattle.lent.proofs.Turns.{Cleared, cleared-start, cleared-turn, cleared-end}
+use Rattle.lent.proofs.Turns.{Cleared}
 use Rattle.lent.proofs.numbers.clear_numbers.Given as goal
 
 abbrev pub invariant-loop-i : goal.invariant-loop-i

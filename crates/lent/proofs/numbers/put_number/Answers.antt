@@ -1,6 +1,5 @@
 -- `lent::numbers::put_number` meets its contract: past the end `set` leaves the list. Assumes nothing.
 use mathlib.Core.Path.{sym}
-use borrow.Author.Rules.{rules}
 use lib.Seq.{set_out}
 use Rattle.lent.proofs.numbers.put_number.Goals as goal
 

@@ -1,9 +1,6 @@
 -- `lent::numbers::put_numbers` meets its contract: the loop's invariant is `Putting`: what is left of the block is still to be written. Assumes nothing.
-use Prim.Native.Nat.{◌-◌}
 use native.Mathlib.Omega.{arith}
-use borrow.Author.Rules.{rules}
-use lib.ListN.{length}
-use Rattle.lent.proofs.Turns.{Putting, putting-start, putting-turn, putting-full, putting-end}
+use Rattle.lent.proofs.Turns.{putting-start, putting-turn, putting-full, putting-end}
 use Rattle.lent.proofs.numbers.put_numbers.Goals as goal
 
 pub loop-k-init : goal.loop-k-init

@@ -1,9 +1,7 @@
 -- `semantic::diagnostics::diagnose_across` meets its contract. The three diagnostics one after the other are the definition's. Assumes nothing.
 use Rattle.lent.specs.Lent.{wiring_in}
 use Rattle.semantic.proofs.DiagLaws.{room-count, across-room, across-room-2, across-written}
-use Prim.Native.Nat.{◌-◌}
 use native.Mathlib.Omega.{arith}
-use borrow.Author.Rules.{rules}
 use Rattle.semantic.proofs.diagnostics.diagnose_across.Goals as goal
 use Rattle.semantic.proofs.diagnostics.diagnose_across.Goals.{Start}
 

@@ -1,14 +1,9 @@
 -- `semantic::diagnostics::diagnose_connections` meets its contract. The invariant: the diagnostics of the X rows from i on remain to be written. The measure: the rows that are left. Assumes nothing.
-use Rattle.semantic.proofs.DiagLaws.{diags-end, diags-turn, diags-full}
 use Rattle.semantic.specs.Diagnostics.{diags_from}
-use borrow.Author.Rules.{rules}
-use Rattle.trace.proofs.Writing.{Remains, remains-start}
+use Rattle.trace.proofs.Writing.{Remains}
 use Rattle.as5506.specs.Layout.{diag_block, diag_numbers}
-use Rattle.as5506.specs.Tables.{Tables}
 use Rattle.lent.specs.Lent.{wiring_in}
 use Prim.Native.Nat.{◌-◌, ◌≤◌}
-use native.Mathlib.Omega.{arith}
-use mathlib.Core.Path.{◌∙◌}
 use Rattle.semantic.proofs.diagnostics.diagnose_connections.Given as goal
 
 abbrev pub invariant-loop-i : goal.invariant-loop-i

@@ -4,9 +4,8 @@ use Rattle.as5506.specs.Tables.{Tables, present, c_parent}
 use Rattle.lent.specs.Lent.{wiring_in}
 use Rattle.trace.proofs.Writing.{written_none, written_as}
 use Rattle.columns.specs.Side.{side_of}
-use Prim.Native.Nat.{ℕ, ◌-◌}
+use Prim.Native.Nat.{ℕ}
 use mathlib.Core.Path.{sym, ap, ◌∙◌}
-use borrow.Author.Rules.{rules}
 use Rattle.semantic.proofs.diagnostics.diagnose_edge.Goals as goal
 use Rattle.semantic.proofs.diagnostics.diagnose_edge.Goals.{Start}
 

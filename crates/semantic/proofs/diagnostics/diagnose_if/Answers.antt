@@ -1,8 +1,6 @@
 -- `semantic::diagnostics::diagnose_if` meets its contract. One law of DiagLaws for each return. Assumes nothing.
 use Rattle.semantic.proofs.DiagLaws.{if-not, if-count, if-full}
 use borrow.Author.Tests.{not-true, not-false}
-use Prim.Native.Nat.{◌-◌}
-use borrow.Author.Rules.{rules}
 use mathlib.Core.Path.{ap}
 use mathlib.Core.Bool.{not}
 use Rattle.semantic.proofs.diagnostics.diagnose_if.Goals as goal

@@ -1,7 +1,6 @@
 -- `semantic::diagnostics::put_diagnostic` meets its contract. The block that is written is the diagnostic's. Assumes nothing.
 use Rattle.semantic.proofs.DiagLaws.{diag-written}
 use Rattle.trace.proofs.Writing.{written_over}
-use borrow.Author.Rules.{rules}
 use Rattle.semantic.proofs.diagnostics.put_diagnostic.Goals as goal
 
 pub returns-then-out-count : goal.returns-then-out-count

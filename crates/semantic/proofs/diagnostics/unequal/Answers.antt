@@ -4,7 +4,6 @@ use Rattle.name.specs.declared.ConnectionPattern.{ConnectionPattern}
 use lib.Dec.{eqb}
 use mathlib.Core.Bool.{◌&&◌, not}
 use mathlib.Core.Path.{sym, ap}
-use borrow.Author.Rules.{rules}
 use Rattle.semantic.proofs.diagnostics.unequal.Goals as goal
 
 pub returns-in-OneToOne : goal.returns-in-OneToOne

@@ -1,6 +1,5 @@
 -- `semantic::ends::count_named` meets its contract. The number of found children, for the owner and the name that the connection has. Assumes nothing.
 use Rattle.semantic.proofs.Naming.{named_count}
-use borrow.Author.Rules.{rules}
 use Rattle.semantic.proofs.ends.count_named.Goals as goal
 
 pub returns : goal.returns

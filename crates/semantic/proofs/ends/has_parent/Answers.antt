@@ -2,7 +2,6 @@
 use Rattle.as5506.specs.Tables.{present}
 use Prim.Native.Nat.{ℕ}
 use mathlib.Core.Path.{ap}
-use borrow.Author.Rules.{rules}
 use Rattle.semantic.proofs.ends.has_parent.Goals as goal
 
 pub returns : goal.returns

@@ -1,6 +1,5 @@
 -- `semantic::ends::next_named` meets its contract. The search for a child, for the owner and the name that the connection has. Assumes nothing.
 use Rattle.semantic.proofs.Naming.{named-next}
-use borrow.Author.Rules.{rules}
 use Rattle.semantic.proofs.ends.next_named.Goals as goal
 
 pub returns : goal.returns

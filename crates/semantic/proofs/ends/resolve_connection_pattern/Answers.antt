@@ -3,9 +3,8 @@ use Rattle.as5506.specs.Tracing.{one_to_one}
 use Rattle.as5506.specs.Names.{is_one_to_one}
 use Rattle.as5506.specs.Tables.{present, name_in}
 use mathlib.Core.Bool.{◌&&◌}
-use Prim.Native.Nat.{ℕ, ◌-◌}
+use Prim.Native.Nat.{ℕ}
 use mathlib.Core.Path.{ap, ◌∙◌}
-use borrow.Author.Rules.{rules}
 use Rattle.semantic.proofs.ends.resolve_connection_pattern.Goals as goal
 
 pub returns : goal.returns

@@ -3,7 +3,6 @@ use Rattle.as5506.proofs.Laws.{missing-is, present-is}
 use Rattle.semantic.proofs.Naming.{shape_is}
 use mathlib.Core.Bool.{true, false}
 use mathlib.Core.Path.{refl}
-use borrow.Author.Rules.{rules}
 use Rattle.semantic.proofs.ends.shape_of.Goals as goal
 
 pub returns-then-feature_of : goal.returns-then-feature_of

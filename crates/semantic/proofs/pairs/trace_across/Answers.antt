@@ -2,8 +2,6 @@
 use Rattle.semantic.proofs.PairLaws.{across-one, across-all}
 use Rattle.as5506.specs.Tables.{Tables}
 use Rattle.lent.specs.Lent.{wiring_in}
-use Prim.Native.Nat.{◌-◌}
-use borrow.Author.Rules.{rules}
 use Rattle.semantic.proofs.pairs.trace_across.Goals as goal
 use Rattle.semantic.proofs.pairs.trace_across.Goals.{Start}
 

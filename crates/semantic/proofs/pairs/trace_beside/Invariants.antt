@@ -1,17 +1,10 @@
 -- `semantic::pairs::trace_beside` meets its contract. The invariant: the rows of the children from row j on remain to be written. The measure: how many those children are. Assumes nothing.
-use Rattle.semantic.proofs.PairLaws.{named-fewer, beside_end, beside-turn, beside-full}
 use Rattle.semantic.specs.Rows.{named_from, rows_beside}
-use Rattle.children.proofs.Scan.{inside-at}
-use borrow.Author.Rules.{rules}
-use Rattle.trace.proofs.Writing.{Remains, remains-start}
+use Rattle.trace.proofs.Writing.{Remains}
 use Rattle.columns.specs.Side.{side_of}
 use Rattle.as5506.specs.Layout.{traced_block, row_numbers}
-use Rattle.as5506.specs.Tables.{Tables}
 use Rattle.lent.specs.Lent.{wiring_in}
 use lib.ListN.{length}
-use Prim.Native.Nat.{◌-◌}
-use native.Mathlib.Omega.{arith}
-use mathlib.Core.Path.{◌∙◌}
 use Rattle.semantic.proofs.pairs.trace_beside.Given as goal
 
 abbrev pub invariant-loop-k : goal.invariant-loop-k

@@ -2,9 +2,7 @@
 use Rattle.semantic.proofs.PairLaws.{rows-at, faulty-rows, neither-rows}
 use Rattle.semantic.proofs.Naming.{shape_same}
 use Rattle.trace.proofs.Writing.{written_none, written_as}
-use Prim.Native.Nat.{◌-◌}
 use mathlib.Core.Path.{◌∙◌}
-use borrow.Author.Rules.{rules}
 use Rattle.semantic.proofs.pairs.trace_connection.Goals as goal
 
 pub returns-in-Faulty : goal.returns-in-Faulty

@@ -1,14 +1,9 @@
 -- `semantic::pairs::trace_connections` meets its contract. The invariant: the rows of the X rows from i on remain to be written. The measure: the rows of X that are left. Assumes nothing.
-use Rattle.semantic.proofs.PairLaws.{rows_end, rows-turn, rows-full}
 use Rattle.semantic.specs.Rows.{rows_from}
-use borrow.Author.Rules.{rules}
-use Rattle.trace.proofs.Writing.{Remains, remains-start}
+use Rattle.trace.proofs.Writing.{Remains}
 use Rattle.as5506.specs.Layout.{traced_block, row_numbers}
-use Rattle.as5506.specs.Tables.{Tables}
 use Rattle.lent.specs.Lent.{wiring_in}
 use Prim.Native.Nat.{◌-◌, ◌≤◌}
-use native.Mathlib.Omega.{arith}
-use mathlib.Core.Path.{◌∙◌}
 use Rattle.semantic.proofs.pairs.trace_connections.Given as goal
 
 abbrev pub invariant-loop-i : goal.invariant-loop-i

@@ -3,9 +3,7 @@ use Rattle.semantic.proofs.PairLaws.{edge-below, edge-root}
 use Rattle.as5506.specs.Tables.{Tables}
 use Rattle.lent.specs.Lent.{wiring_in}
 use Rattle.columns.specs.Side.{side_of}
-use Prim.Native.Nat.{◌-◌}
 use mathlib.Core.Path.{sym, ◌∙◌}
-use borrow.Author.Rules.{rules}
 use Rattle.semantic.proofs.pairs.trace_edge.Goals as goal
 use Rattle.semantic.proofs.pairs.trace_edge.Goals.{Start}
 

@@ -1,7 +1,5 @@
 -- `semantic::pairs::trace_on` meets its contract. By the side. Assumes nothing.
 use Rattle.semantic.proofs.PairLaws.{on-source, on-destination}
-use Prim.Native.Nat.{◌-◌}
-use borrow.Author.Rules.{rules}
 use Rattle.semantic.proofs.pairs.trace_on.Goals as goal
 
 pub returns-in-Source : goal.returns-in-Source

@@ -1,14 +1,9 @@
 -- `semantic::pairs::trace_one_to_one` meets its contract. The invariant: the rows of the source children from s on and the destination children from d on, pair by pair, remain to be written. The measure: how many source children are left. Assumes nothing.
 use Rattle.semantic.proofs.PairLaws.{named-fewer, zip_end, zip-end-short, zip_turn, zip-full}
-use Rattle.semantic.specs.Rows.{named_from, rows_zip}
 use Rattle.children.proofs.Scan.{inside-at}
-use Rattle.as5506.specs.Tables.{Tables, source, destination}
-use borrow.Author.Rules.{rules}
-use Rattle.trace.proofs.Writing.{Remains, remains-start}
-use Rattle.as5506.specs.Layout.{traced_block, row_numbers}
+use Rattle.as5506.specs.Tables.{Tables, source}
+use Rattle.trace.proofs.Writing.{remains-start}
 use Rattle.lent.specs.Lent.{wiring_in}
-use lib.ListN.{length}
-use Prim.Native.Nat.{◌-◌}
 use native.Mathlib.Omega.{arith}
 use mathlib.Core.Path.{◌∙◌}
 use Rattle.semantic.proofs.pairs.trace_one_to_one.Goals as goal

@@ -1,10 +1,8 @@
 -- `semantic::pairs::trace_pair` meets its contract. The tracer's rows are the pair's. Assumes nothing.
 use Rattle.semantic.proofs.PairLaws.{pair-written, limit-low}
 use Rattle.trace.specs.Ends.{chain_places, Fit}
-use Prim.Native.Nat.{◌-◌}
 use native.Mathlib.Omega.{arith}
 use mathlib.Core.Path.{refl}
-use borrow.Author.Rules.{rules}
 use Rattle.semantic.proofs.pairs.trace_pair.Goals as goal
 use Rattle.semantic.proofs.pairs.trace_pair.Goals.{Start}
 

@@ -1,5 +1,4 @@
 -- `text::diagnostics::connection_name` meets its contract: the connection's first field is its name. Assumes nothing.
-use borrow.Author.Rules.{rules}
 use Rattle.text.proofs.Messages.{connection-named}
 use Rattle.text.proofs.diagnostics.connection_name.Goals as goal
 use Rattle.text.proofs.diagnostics.connection_name.Goals.{Start}

@@ -1,5 +1,4 @@
 -- `text::diagnostics::put_diagnostic` meets its contract: its pieces, one behind the other, are the diagnostic's text. Assumes nothing.
-use borrow.Author.Rules.{rules}
 use lib.ListN.{get_or}
 use lib.Dec.{ltb}
 use Rattle.as5506.specs.Lists.{each, bytes_of}

@@ -1,7 +1,6 @@
 -- `text::diagnostics::put_message` meets its contract: by the code, the pieces are the message. Assumes nothing.
 use mathlib.Core.Path.{◌≡◌}
 use native.Mathlib.Omega.{arith}
-use borrow.Author.Rules.{rules}
 use Rattle.lent.proofs.Added.{added-as, added_none, added-piece, added_then}
 use Rattle.text.proofs.Messages.{message-none, message-endpoint, message-source, message-destination, message-sizes, message-unmatched}
 use Rattle.text.proofs.diagnostics.put_message.Goals as goal

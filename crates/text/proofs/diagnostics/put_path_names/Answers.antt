@@ -1,5 +1,4 @@
 -- `text::diagnostics::put_path_names` meets its contract: by the code, the two lines are the path names'. Assumes nothing.
-use borrow.Author.Rules.{rules}
 use Rattle.lent.proofs.Added.{added-as, added_then}
 use Rattle.text.proofs.Messages.{at_line, path-owner, path-feature}
 use Rattle.text.proofs.diagnostics.put_path_names.Goals as goal

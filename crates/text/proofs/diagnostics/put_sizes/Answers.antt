@@ -1,5 +1,4 @@
 -- `text::diagnostics::put_sizes` meets its contract: five pieces, one behind the other. Assumes nothing.
-use borrow.Author.Rules.{rules}
 use Rattle.lent.proofs.Added.{added-as, added-piece, added_then}
 use Rattle.decimal.proofs.Columns.{decimal-bare}
 use Rattle.text.proofs.diagnostics.put_sizes.Goals as goal

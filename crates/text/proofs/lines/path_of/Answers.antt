@@ -1,7 +1,6 @@
 -- `text::lines::path_of` meets its contract: the path ends with its length or with the block. Assumes nothing.
 use mathlib.Core.Path.{sym}
 use native.Mathlib.Omega.{arith}
-use borrow.Author.Rules.{rules}
 use Rattle.text.proofs.Blocks.{path-within, path-whole}
 use Rattle.text.proofs.lines.path_of.Goals as goal
 

@@ -1,5 +1,4 @@
 -- `text::lines::put_between` meets its contract: three pieces, one behind the other. Assumes nothing.
-use borrow.Author.Rules.{rules}
 use Rattle.lent.proofs.Added.{added-piece, added_then}
 use Rattle.text.proofs.lines.put_between.Goals as goal
 

@@ -1,5 +1,4 @@
 -- `text::lines::put_counts` meets its contract: its pieces, one behind the other, are the line's text. Assumes nothing.
-use borrow.Author.Rules.{rules}
 use Rattle.lent.proofs.Added.{added-as, added-piece, added_then}
 use Rattle.text.proofs.Blocks.{counts-pieces}
 use Rattle.text.proofs.lines.put_counts.Goals as goal

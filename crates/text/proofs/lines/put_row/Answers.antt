@@ -3,7 +3,6 @@ use mathlib.Core.Path.{sym}
 use mathlib.Core.List.{◌++◌}
 use Prim.Native.Nat.{◌≤◌}
 use native.Mathlib.Omega.{arith}
-use borrow.Author.Rules.{rules}
 use lib.ListN.{length}
 use lib.Seq.{length-take-le}
 use Rattle.as5506.specs.Lists.{bytes_of}

@@ -1,6 +1,5 @@
 -- `text::list::behind` meets its contract: past the end, up to the end, or short of it, nothing else is dropped. Assumes nothing.
 use native.Mathlib.Omega.{arith}
-use borrow.Author.Rules.{rules}
 use Rattle.text.proofs.Blocks.{behind-past, behind-end, behind-is}
 use Rattle.text.proofs.list.behind.Goals as goal
 

@@ -1,5 +1,4 @@
 -- `text::list::names_behind` meets its contract: three names are dropped, one behind the other. Assumes nothing.
-use borrow.Author.Rules.{rules}
 use Rattle.text.proofs.Blocks.{names-behind}
 use Rattle.text.proofs.list.names_behind.Goals as goal
 use Rattle.text.proofs.list.names_behind.Goals.{After-behind-second, After-behind-third, Start}

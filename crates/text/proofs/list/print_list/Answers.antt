@@ -1,5 +1,4 @@
 -- `text::list::print_list` meets its contract: its five parts, one behind the other, are the list. Assumes nothing.
-use borrow.Author.Rules.{rules}
 use Rattle.as5506.specs.Lists.{each}
 use Rattle.as5506.specs.Layout.{rows_back, group_rows_back, diags_back}
 use Rattle.as5506.specs.Text.{row_text, diag_text}

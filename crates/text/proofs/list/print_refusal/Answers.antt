@@ -1,5 +1,4 @@
 -- `text::list::print_refusal` meets its contract: its pieces, one behind the other, are the refusal's line. Assumes nothing.
-use borrow.Author.Rules.{rules}
 use Rattle.lent.proofs.Added.{added-as, added-piece, added_then}
 use Rattle.text.proofs.Blocks.{refusal-pieces}
 use Rattle.text.proofs.Printed.{added-printed}

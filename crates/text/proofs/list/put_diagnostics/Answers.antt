@@ -3,13 +3,12 @@ use mathlib.Core.Path.{sym, ap}
 use Prim.Native.Nat.{ℕ, ◌+◌, ◌-◌, ◌*◌}
 use native.Mathlib.Nat.{sub-zero}
 use native.Mathlib.Omega.{arith}
-use borrow.Author.Rules.{rules}
 use lib.ListN.{take, drop}
 use Rattle.as5506.specs.Layout.{diag_numbers, diag_back, diags_back}
 use Rattle.as5506.specs.Lists.{each}
 use Rattle.as5506.specs.Text.{diag_text}
 use Rattle.lent.specs.Lent.{wiring_in}
-use Rattle.lent.proofs.Added.{Printing, printing-start, printing-turn, printing-end}
+use Rattle.lent.proofs.Added.{printing-start, printing-turn, printing-end}
 use Rattle.text.proofs.Blocks.{part_length, diag-text-next, diag-text-done}
 use Rattle.text.proofs.list.put_diagnostics.Goals as goal
 use Rattle.text.proofs.list.put_diagnostics.Goals.{At-loop-i, In-loop-i, Start}

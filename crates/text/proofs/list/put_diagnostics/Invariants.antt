@@ -1,16 +1,11 @@
 -- `text::list::put_diagnostics` meets its contract: the loop's invariant is `Printing`: the diagnostics from i on are still to be printed. Assumes nothing.
-use mathlib.Core.Path.{sym, ap}
-use Prim.Native.Nat.{ℕ, ◌+◌, ◌-◌, ◌*◌}
-use native.Mathlib.Nat.{sub-zero}
-use native.Mathlib.Omega.{arith}
-use borrow.Author.Rules.{rules}
-use lib.ListN.{take, drop}
-use Rattle.as5506.specs.Layout.{diag_numbers, diag_back, diags_back}
+use Prim.Native.Nat.{◌-◌, ◌*◌}
+use lib.ListN.{drop}
+use Rattle.as5506.specs.Layout.{diag_numbers, diags_back}
 use Rattle.as5506.specs.Lists.{each}
 use Rattle.as5506.specs.Text.{diag_text}
 use Rattle.lent.specs.Lent.{wiring_in}
-use Rattle.lent.proofs.Added.{Printing, printing-start, printing-turn, printing-end}
-use Rattle.text.proofs.Blocks.{part_length, diag-text-next, diag-text-done}
+use Rattle.lent.proofs.Added.{Printing}
 use Rattle.text.proofs.list.put_diagnostics.Given as goal
 
 abbrev pub invariant-loop-i : goal.invariant-loop-i

@@ -1,14 +1,12 @@
 -- `text::list::put_group` meets its contract: the loop's invariant is `Printing`: the rows from row i on, whose names begin at place `at`, are still to be printed. Assumes nothing.
 use mathlib.Core.Path.{sym, ap}
-use Prim.Native.Nat.{ℕ, ◌-◌, ◌*◌}
+use Prim.Native.Nat.{ℕ, ◌*◌}
 use native.Mathlib.Nat.{sub-zero}
 use native.Mathlib.Omega.{arith}
-use borrow.Author.Rules.{rules}
-use lib.ListN.{drop}
 use Rattle.as5506.specs.Layout.{row_numbers, group_rows_back}
 use Rattle.as5506.specs.Lists.{each}
 use Rattle.as5506.specs.Text.{row_text}
-use Rattle.lent.proofs.Added.{Printing, printing-start, printing-turn, printing-end}
+use Rattle.lent.proofs.Added.{printing-start, printing-turn, printing-end}
 use Rattle.text.proofs.Blocks.{part_length, group-text-next, group-text-done}
 use Rattle.text.proofs.list.put_group.Goals as goal
 use Rattle.text.proofs.list.put_group.Goals.{At-loop-i, In-loop-i, Start}

@@ -1,5 +1,4 @@
 -- `text::list::put_traced_row` meets its contract: the row by its block, with the names of the tables. Assumes nothing.
-use borrow.Author.Rules.{rules}
 use Rattle.lent.proofs.Added.{added-as}
 use Rattle.text.proofs.Blocks.{traced-named}
 use Rattle.text.proofs.list.put_traced_row.Goals as goal

@@ -1,5 +1,4 @@
 -- `text::modes::print_modes` meets its contract: the line of two numbers, by whether the list was cut. Assumes nothing.
-use borrow.Author.Rules.{rules}
 use mathlib.Core.Bool.{Bool, cond}
 use mathlib.Core.Path.{ap}
 use mathlib.Core.List.{[], ◌∷◌}

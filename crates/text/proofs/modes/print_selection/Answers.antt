@@ -1,5 +1,4 @@
 -- `text::modes::print_selection` meets its contract: its pieces, one behind the other, are the two lines. Assumes nothing.
-use borrow.Author.Rules.{rules}
 use Rattle.lent.proofs.Added.{added-as, added-piece, added_then}
 use Rattle.text.proofs.Blocks.{selection-pieces}
 use Rattle.text.proofs.Printed.{added-printed}
