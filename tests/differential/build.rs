@@ -3,12 +3,12 @@
 use std::path::Path;
 
 fn main() {
-    let folder = Path::new(env!("CARGO_MANIFEST_DIR")).join("../../target/staticlib");
+    let folder = Path::new(env!("CARGO_MANIFEST_DIR")).join("../../crates/conlist_c/out");
     println!("cargo:rustc-link-search=native={}", folder.display());
     let archive = folder.join("libconlist_c.a");
     assert!(
         archive.exists(),
-        "{} is missing: `rt staticlib conlist_c` writes it",
+        "{} is missing: tests/libraries builds it",
         archive.display()
     );
     println!("cargo:rerun-if-changed={}", archive.display());

@@ -50,11 +50,9 @@ fn the_originals_have_their_checksums() {
 #[test]
 fn the_crate_takes_the_originals() {
     for file in FILES {
-        let taken = here().join("spar-hir-def/src").join(file);
-        let original = originals().join(CRATE).join(file);
-        assert!(fs::symlink_metadata(&taken).unwrap().is_symlink());
-        let taken = fs::canonicalize(taken).unwrap();
-        assert_eq!(taken, fs::canonicalize(original).unwrap());
+        let taken = fs::read(here().join("spar-hir-def/src").join(file)).unwrap();
+        let original = fs::read(originals().join(CRATE).join(file)).unwrap();
+        assert!(taken == original, "{file}");
     }
 }
 

@@ -1,5 +1,6 @@
-//! The five original files, as symbolic links to `docs/src`, beside stand-ins
-//! for the modules of the original crate that they lean on.
+//! The five original files, as copies of those in `docs/src` (a test holds them
+//! to these), beside stand-ins for the modules of the original crate that they
+//! lean on.
 
 #![allow(dead_code, clippy::all)]
 
