@@ -4,7 +4,6 @@
 --     Scans         what is left of a scan of rows, and what it keeps
 --     Sorted        lists in an order, and rows sorted by keys
 --     Members       the entries of mapped, joined and cut lists; lists of different entries
---     Next          the next of sorted rows, by a scan that keeps the best so far
 --     Letters       the orders of letters agree with each other
 --     Fields        what a field of few columns can say, and the fields of a line one by one
 --     Answers       answers that are given or refused
@@ -27,7 +26,6 @@ pub mod Laws
 pub mod Scans
 pub mod Sorted
 pub mod Members
-pub mod Next
 pub mod Letters
 pub mod Fields
 pub mod Answers

@@ -1,8 +1,12 @@
 // The numbers of document 01 that the code needs, and a refusal. The definition is in specs/.
 #![tactic(auto)]
 
+mod reason;
+
 ghost use Rattle.std.specs.Prelude.{◌≡◌};
 ghost use Rattle.as5506.specs.Answers.{nowhere, refusal, told};
+
+pub use reason::Reason;
 
 pub const MISSING: u32 = 4294967295;
 

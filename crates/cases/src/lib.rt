@@ -2,28 +2,17 @@
 // the reader; the programs hand over standard input.
 #![tactic(auto)]
 
-ghost use Rattle.std.specs.Prelude.{◌≡◌, ◌≤◌, min, length, take, drop};
+ghost use Rattle.std.specs.Prelude.{◌≡◌, ◌≤◌, min, length, drop};
 
+use fields::Mark;
 use std::io::Read;
 
 const LINE_FEED: u8 = 10;
 
-// Reads into a slice to its end, or to that of the file. Where reading fails, the places that are left stay as they are.
-fn read_full<R: Read>(input: &mut R, into: &mut [u8]) {
-    let mut done: usize = 0;
-    while done < into.len() {
-        match input.read(&mut into[done..]) {
-            Ok(0) => return,
-            Ok(more) => done += more,
-            Err(_) => return,
-        }
-    }
-}
-
 // The next byte, a line feed at the end of the file.
 pub fn byte<R: Read>(input: &mut R) -> u8 {
     let mut byte = [LINE_FEED; 1];
-    read_full(input, &mut byte);
+    let _ = stdio::read_full(input, &mut byte);
     byte[0]
 }
 
@@ -35,38 +24,26 @@ pub fn begins<R: Read>(input: &mut R) -> bool {
 // The next number; `-` is a missing one.
 pub fn number<R: Read>(input: &mut R) -> u32 {
     let mut field = [b' '; 6];
-    read_full(input, &mut field);
-    let line = [
-        b'V', field[0], field[1], field[2], field[3], field[4], field[5],
-    ];
+    let _ = stdio::read_full(input, &mut field);
     let mut value = [0u32; 1];
-    fields::put_fields(&line, 1, 0, &mut value, 0);
+    fields::put_fields(&field, &[Mark::Needed], &mut value, 0);
     value[0]
 }
 
 // The next numbers, as many as the slice has.
 pub fn numbers<R: Read>(input: &mut R, out: &mut [u32]) {
-    let mut i: usize = 0;
-    while i < out.len() {
-        out[i] = number(input);
-        i += 1;
+    for place in out.iter_mut() {
+        *place = number(input);
     }
 }
 
-// A length, no longer than the slice.
-fn end_of(len: u32, t: &[u8]) -> usize
-    ensures { (result ≡ min len (length t.now)) × (result ≡ length (take result t.now)) }
-{
-    let wanted = len as usize;
-    if wanted < t.len() { wanted } else { t.len() }
-}
-
-// Reads so many bytes into the front of a slice, no more than it has places: how many these are. What stands behind them stays.
+// Reads so many bytes into the front of a slice, no more than it has places: how many these are. Where reading fails, and behind them, what stands there
+// stays.
 pub fn bytes<R: Read>(input: &mut R, out: &mut [u8], len: u32) -> usize
     ensures { (result ≡ min len (length out.old)) × (drop result out.new ≡ drop result out.old) }
 {
-    let end = end_of(len, out);
-    read_full(input, &mut out[..end]);
+    let end = out.len().min(len as usize);
+    let _ = stdio::read_full(input, &mut out[..end]);
     end
 }
 
@@ -74,14 +51,12 @@ pub fn bytes<R: Read>(input: &mut R, out: &mut [u8], len: u32) -> usize
 pub fn line<R: Read>(input: &mut R, out: &mut [u8]) -> usize
     ensures { (result ≤ length out.old) × (drop result out.new ≡ drop result out.old) }
 {
-    let mut i: usize = 0;
-    while i < out.len() {
+    for i in 0..out.len() {
         let b = byte(input);
         if b == LINE_FEED {
             return i;
         }
         out[i] = b;
-        i += 1;
     }
-    i
+    out.len()
 }

@@ -1,15 +1,12 @@
 -- The children that a name finds, in the order of the drawing: what the scans of this crate look for. Assumes nothing.
-use Rattle.std.specs.Prelude.{Bool, true, false, ◌&&◌, ◌||◌, List, [], ◌∷◌, ℕ, zero, suc, ◌+◌, ◌<◌, eqb, ltb}
+use Rattle.std.specs.Prelude.{Bool, true, false, ◌&&◌, List, [], ◌∷◌, ℕ, zero, suc, ◌+◌, ◌<◌, eqb, ltb, Option, Some, None}
 use Rattle.as5506.specs.Lists.{up_to, keep, is_nil, has, sort_by}
 use Rattle.as5506.specs.Tables.{Tables, c_count, c_parent, c_place}
 use Rattle.as5506.specs.Names.{bracket}
 use Rattle.as5506.specs.Tracing.{is_named, is_element}
 use Rattle.as5506.specs.Drawing.{is_before}
-use Rattle.lent.specs.Lent.{components_in}
 use Rattle.children.specs.declared.Rule.{Rule}
 use Rattle.children.specs.declared.Rule.TheVariants.{Exact, Base}
-use Rattle.children.specs.declared.Child.{Child}
-use Rattle.children.specs.declared.Child.TheVariants.{At, Nothing}
 
 -- component i by a rule: "byte-equal names", or "an array index" and a "name up to the first `[`" that "is equal folded"
 unfoldable pub fits : Tables → Rule → List ℕ → ℕ → Bool
@@ -32,12 +29,13 @@ is_from m rule p w from j = is_found m rule p w j && stands_from m from j
 unfoldable pub children_from : Tables → Rule → ℕ → List ℕ → ℕ → List ℕ
 children_from m rule p w from = sort_by (c_place m) (keep (is_from m rule p w from) (up_to (c_count m)))
 
--- component i comes before `best`, a component of a smaller row, or the count of all where there is none yet
-unfoldable pub is_better : Tables → ℕ → ℕ → Bool
-is_better m best i = eqb best (c_count m) || ltb (c_place m i) (c_place m best)
+-- component i comes before `best`, a component of a smaller row, or there is none yet
+unfoldable pub is_better : Tables → Option ℕ → ℕ → Bool
+is_better m None i = true
+is_better m (Some best) i = ltb (c_place m i) (c_place m best)
 
 -- of the rows below i, `best` is the next child, or there is none: whether i takes its place
-unfoldable pub is_next : Tables → Rule → ℕ → List ℕ → ℕ → ℕ → ℕ → Bool
+unfoldable pub is_next : Tables → Rule → ℕ → List ℕ → ℕ → Option ℕ → ℕ → Bool
 is_next m rule p w from best i = is_from m rule p w from i && is_better m best i
 
 -- "if none and the wanted name has no `[`"
@@ -55,11 +53,11 @@ unfoldable pub found_from : Tables → ℕ → List ℕ → ℕ → List ℕ
 found_from m p w from = children_from m (rule_for m p w) p w from
 
 -- the children that an answer stands for, where g gives those from `from` on: none, or its own and those behind it
-abbrev pub after_child : (ℕ → List ℕ) → Child → List ℕ
-after_child g Nothing = []
-after_child g (At i) = i ∷ g (i + 1)
+abbrev pub after_child : (ℕ → List ℕ) → Option ℕ → List ℕ
+after_child g None = []
+after_child g (Some i) = i ∷ g (i + 1)
 
 -- an answer's child is a row of C
-abbrev pub Inside : List ℕ → Child → Type 0
-Inside c Nothing = Unit {0}
-Inside c (At i) = i < c_count (components_in [] [] c)
+abbrev pub Inside : Tables → Option ℕ → Type 0
+Inside m None = Unit {0}
+Inside m (Some i) = i < c_count m

@@ -10,5 +10,5 @@ pub fn field_at(t: &[u32], width: usize, i: usize, j: usize) -> u32
     if t.len() / 2 < i {
         return 0;
     }
-    lent::number_at(t, i * width + j)
+    lent::get_or(t, i * width + j, 0)
 }

@@ -1,5 +1,7 @@
-// The fields of the rows of C, F, X, U, E and M, by name; what a search by key reads of P, I, T, Q, U and R is in crate resolver. A table is lent as one
-// run of numbers, row behind row; a row goes by its number, from 0. Every function takes any row number: past the end 0 is read.
+// The fields of the rows of C, F, X, U, E and M, by name; what a search by key reads of P, I, T, Q, U and R is in crate resolver. A row
+// goes by its number, from 0. Every function takes any row number: past the end 0 is read.
+// The functions differ in a column alone, and stand beside one another: each contract cites the definition's own word for its column, which one
+// function of any column would have to be handed.
 #![tactic(auto)]
 
 pub mod component;
@@ -9,6 +11,9 @@ pub mod feature;
 mod field;
 pub mod group_type;
 pub mod mode;
+mod reference;
+
+pub use reference::Reference;
 
 // The two ends of a connection.
 #[derive(Clone, Copy)]

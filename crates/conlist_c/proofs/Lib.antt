@@ -1,8 +1,6 @@
 -- Laws of the exported calls.
 --
 --     Records   from what a listing leaves in its output of diagnostics to the records
---     Filled    what a loop leaves that stores record after record
 --     Laid      from a listing in the front of the numbers that are lent for records to all of them, and to the records
 pub mod Records
-mod Filled
 mod Laid

@@ -6,6 +6,7 @@ use Prim.Native.Nat.{ℕ, zero, suc, ◌+◌, ◌-◌, ◌*◌, ◌≤◌, ◌<�
 use native.Mathlib.Nat.{sub-zero, suc-sub-suc}
 use native.Mathlib.Omega.{arith}
 use lib.ListN.{length, get_or, replicate}
+use lib.Seq.{ext_get_or}
 use Rattle.as5506.specs.Lists.{each, zeros, padded}
 use Rattle.as5506.specs.Rows.{Diag}
 use Rattle.as5506.specs.Layout.{diag_block}
@@ -15,21 +16,26 @@ use Rattle.conlist_c.specs.Records.{record_at, records_from, record_of, blank}
 
 -- ---- as many as are asked for, each in its place
 
-pub records-length : (ns : List ℕ) (i n : ℕ) → length (records_from ns i n) ≡ n
+records-length : (ns : List ℕ) (i n : ℕ) → length (records_from ns i n) ≡ n
 unfolding records_from
 records-length ns i zero = refl
 records-length ns i (suc n) = ap suc (records-length ns (suc i) n)
 
-pub records-at : (ns : List ℕ) (i n k : ℕ) (d : Diagnostic) → k < n → get_or (records_from ns i n) k d ≡ record_at ns (i + k)
+records-at : (ns : List ℕ) (i n k : ℕ) (d : Diagnostic) → k < n → get_or (records_from ns i n) k d ≡ record_at ns (i + k)
 unfolding records_from
 records-at ns i zero k d h = absurd (omega arith)
 records-at ns i (suc n) zero d h = ap (record_at ns) (omega arith)
 records-at ns i (suc n) (suc k) d h = records-at ns (suc i) n k d (omega arith) ∙ ap (record_at ns) (omega arith)
 
+-- a list that has each record in its place
+pub records_are : (ns : List ℕ) (ys : List Diagnostic) (n : ℕ) → length ys ≡ n → ((k : ℕ) → k < n → get_or ys k (record_at ns 0) ≡ record_at ns k) → ys ≡ records_from ns 0 n
+records_are ns ys n e h =
+    ext_get_or (record_at ns 0) ys (records_from ns 0 n) (e ∙ sym (records-length ns 0 n)) (λ k l. let m : k < n = omega (arith, l, e) in h k m ∙ ap (record_at ns) (omega arith) ∙ sym (records-at ns 0 n k (record_at ns 0) m))
+
 -- ---- one record
 
 -- a record whose four numbers stand in its places
-pub record_is : (ns : List ℕ) (i a b c d : ℕ) → a ≡ get_or ns (i * 4) 0 → b ≡ get_or ns (i * 4 + 1) 0 → c ≡ get_or ns (i * 4 + 2) 0 → d ≡ get_or ns (i * 4 + 3) 0
+record_is : (ns : List ℕ) (i a b c d : ℕ) → a ≡ get_or ns (i * 4) 0 → b ≡ get_or ns (i * 4 + 1) 0 → c ≡ get_or ns (i * 4 + 2) 0 → d ≡ get_or ns (i * 4 + 3) 0
     → record { code = a; connection = b; first = c; second = d } ≡ record_at ns i
 unfolding record_at
 record_is ns i a b c d p q r s = λ j. record { code = p j; connection = q j; first = r j; second = s j }

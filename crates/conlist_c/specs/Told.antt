@@ -2,21 +2,21 @@
 -- where it answers so. Assumes nothing.
 use Rattle.std.specs.Prelude.{◌≡◌, List, ℕ}
 use Rattle.as5506.specs.Tables.{Tables}
-use Rattle.as5506.specs.Answers.{Answer}
+use Rattle.as5506.specs.Answers.{Answer, handed}
 use Rattle.as5506.specs.Listing.{TracedList, GroupList, BothLists}
 use Rattle.instance.specs.Answer.{TracedAs, listed as traced_listed}
 use Rattle.group_list.specs.Answer.{GroupListedAs, listed as group_listed}
 use Rattle.listing.specs.Answer.{Outputs, BothAs, listed as both_listed}
-use Rattle.conlist_c.specs.Numbers.{traced_numbers, group_numbers, both_numbers}
+use Rattle.conlist_c.specs.Numbers.{answer_numbers, traced_numbers, group_numbers, both_numbers}
 
 pub record TracedTold (wanted : Answer TracedList) (m : Tables) (rows numbers told' rows' numbers' : List ℕ) : Type 0 where
-  pub told : told' ≡ traced_numbers (traced_listed wanted)
-  pub outputs-hold : TracedAs wanted m rows numbers (traced_listed wanted) rows' numbers'
+  pub told : told' ≡ answer_numbers 3 traced_numbers (handed traced_listed wanted)
+  pub outputs-hold : TracedAs wanted m rows numbers (handed traced_listed wanted) rows' numbers'
 
 pub record GroupTold (wanted : Answer GroupList) (rows names numbers told' rows' names' numbers' : List ℕ) : Type 0 where
-  pub told : told' ≡ group_numbers (group_listed wanted)
-  pub outputs-hold : GroupListedAs wanted rows names numbers (group_listed wanted) rows' names' numbers'
+  pub told : told' ≡ answer_numbers 3 group_numbers (handed group_listed wanted)
+  pub outputs-hold : GroupListedAs wanted rows names numbers (handed group_listed wanted) rows' names' numbers'
 
 pub record BothTold (wanted : Answer BothLists) (m : Tables) (o : Outputs) (told' : List ℕ) (p : Outputs) : Type 0 where
-  pub told : told' ≡ both_numbers (both_listed wanted)
-  pub outputs-hold : BothAs wanted m o (both_listed wanted) p
+  pub told : told' ≡ answer_numbers 5 both_numbers (handed both_listed wanted)
+  pub outputs-hold : BothAs wanted m o (handed both_listed wanted) p

@@ -1,11 +1,70 @@
 // Both listings.
 ghost use Rattle.lent.specs.Lent.{tables_at};
+ghost use Rattle.lent.specs.Model.{model};
 ghost use Rattle.listing.specs.Answer.{outputs, answer_for};
 ghost use Rattle.conlist_c.specs.Told.{BothTold};
 ghost use Rattle.conlist_c.specs.WithRecords.{both_for, BothRecords};
 
-use super::diagnostic::Diagnostic;
-use super::{diagnostic, numbers};
+use crate::diagnostic::{self, Diagnostic};
+use crate::numbers;
+use lent::Tables;
+
+// Lists as `list_connections` does, with what is told of it: 0, the traced rows and diagnostics and the group rows and diagnostics that were written, or
+// a refusal's number, place and letter and two zeros.
+fn list(
+    m: &Tables,
+    rows: &mut [u32],
+    diagnostics: &mut [u32],
+    group_rows: &mut [u32],
+    names: &mut [u8],
+    group_diagnostics: &mut [u32],
+) -> [u64; 5]
+    ensures { BothTold
+        (answer_for (model m.now) (outputs rows.old diagnostics.old group_rows.old names.old group_diagnostics.old))
+        (model m.now)
+        (outputs rows.old diagnostics.old group_rows.old names.old group_diagnostics.old) result
+        (outputs rows.new diagnostics.new group_rows.new names.new group_diagnostics.new) }
+{
+    numbers::told(listing::list_connections(
+        m,
+        rows,
+        diagnostics,
+        group_rows,
+        names,
+        group_diagnostics,
+    ))
+}
+
+// The same with room for no more diagnostics than `count` and `group_count` records.
+fn list_for(
+    m: &Tables,
+    rows: &mut [u32],
+    numbers: &mut [u32],
+    group_rows: &mut [u32],
+    names: &mut [u8],
+    group_numbers: &mut [u32],
+    count: usize,
+    group_count: usize,
+) -> [u64; 5]
+    ensures { BothTold
+        (both_for (model m.now) (outputs rows.old numbers.old group_rows.old names.old group_numbers.old) count group_count)
+        (model m.now)
+        (outputs rows.old numbers.old group_rows.old names.old group_numbers.old) result
+        (outputs rows.new numbers.new group_rows.new names.new group_numbers.new) }
+{
+    let end = diagnostic::numbers_for(numbers.len(), count);
+    let group_end = diagnostic::numbers_for(group_numbers.len(), group_count);
+    numbers.fill(0);
+    group_numbers.fill(0);
+    list(
+        m,
+        rows,
+        &mut numbers[..end],
+        group_rows,
+        names,
+        &mut group_numbers[..group_end],
+    )
+}
 
 // Lists as `list_connections` does. `told` then holds 0, the traced rows and diagnostics and the group rows and diagnostics that were written, or a
 // refusal's number, place and letter and two zeros.
@@ -38,7 +97,7 @@ pub extern "C" fn conlist_list_connections(
         (outputs rows.old diagnostics.old group_rows.old names.old group_diagnostics.old) told.new
         (outputs rows.new diagnostics.new group_rows.new names.new group_diagnostics.new) }
 {
-    let answer = listing::list_connections(
+    let model = Tables {
         bytes,
         n,
         c,
@@ -52,71 +111,14 @@ pub extern "C" fn conlist_list_connections(
         e,
         r,
         m,
+    };
+    *told = list(
+        &model,
         rows,
         diagnostics,
         group_rows,
         names,
         group_diagnostics,
-    );
-    *told = numbers::both(answer);
-}
-
-// Lists as `list_connections` does, with room for no more diagnostics than `count` and `group_count` records. `told` as above.
-fn list_for(
-    bytes: &[u8],
-    n: &[u32],
-    c: &[u32],
-    f: &[u32],
-    x: &[u32],
-    p: &[u32],
-    i: &[u32],
-    t: &[u32],
-    q: &[u32],
-    u: &[u32],
-    e: &[u32],
-    r: &[u32],
-    m: &[u32],
-    rows: &mut [u32],
-    numbers: &mut [u32],
-    group_rows: &mut [u32],
-    names: &mut [u8],
-    group_numbers: &mut [u32],
-    count: usize,
-    group_count: usize,
-    told: &mut [u64; 5],
-)
-    ensures { BothTold
-        (both_for (tables_at bytes n c f x p i t q u e r m)
-        (outputs rows.old numbers.old group_rows.old names.old group_numbers.old)
-        count group_count)
-        (tables_at bytes n c f x p i t q u e r m)
-        (outputs rows.old numbers.old group_rows.old names.old group_numbers.old) told.new
-        (outputs rows.new numbers.new group_rows.new names.new group_numbers.new) }
-{
-    let end = diagnostic::numbers_for(numbers.len(), count);
-    let group_end = diagnostic::numbers_for(group_numbers.len(), group_count);
-    lent::clear_numbers(numbers);
-    lent::clear_numbers(group_numbers);
-    conlist_list_connections(
-        bytes,
-        n,
-        c,
-        f,
-        x,
-        p,
-        i,
-        t,
-        q,
-        u,
-        e,
-        r,
-        m,
-        rows,
-        &mut numbers[..end],
-        group_rows,
-        names,
-        &mut group_numbers[..group_end],
-        told,
     );
 }
 
@@ -153,9 +155,7 @@ pub extern "C" fn conlist_list_connections_with_records(
         (outputs rows.new numbers.new group_rows.new names.new group_numbers.new)
         out.new group_out.new }
 {
-    let count = out.len();
-    let group_count = group_out.len();
-    list_for(
+    let model = Tables {
         bytes,
         n,
         c,
@@ -169,14 +169,16 @@ pub extern "C" fn conlist_list_connections_with_records(
         e,
         r,
         m,
+    };
+    *told = list_for(
+        &model,
         rows,
         numbers,
         group_rows,
         names,
         group_numbers,
-        count,
-        group_count,
-        told,
+        out.len(),
+        group_out.len(),
     );
     diagnostic::fill_records(out, numbers);
     diagnostic::fill_records(group_out, group_numbers);

@@ -3,9 +3,10 @@ ghost use Rattle.std.specs.Prelude.{◌≡◌};
 ghost use Rattle.lent.specs.Lent.{tables_at};
 ghost use Rattle.as5506.specs.Refusals.{faults};
 ghost use Rattle.tables.specs.Answer.{checked};
-ghost use Rattle.conlist_c.specs.Numbers.{checked_numbers};
+ghost use Rattle.conlist_c.specs.Numbers.{answer_numbers, none_numbers};
 
-use super::numbers;
+use crate::numbers;
+use lent::Tables;
 
 // Checks as `check_tables` does. `told` then holds zeros, or a refusal's number, place and letter.
 #[unsafe(no_mangle)]
@@ -25,8 +26,22 @@ pub extern "C" fn conlist_check_tables(
     m: &[u32],
     told: &mut [u64; 3],
 )
-    ensures { told.new ≡ checked_numbers (checked (faults (tables_at bytes n c f x p i t q u e r m))) }
+    ensures { told.new ≡ answer_numbers 3 none_numbers (checked (faults (tables_at bytes n c f x p i t q u e r m))) }
 {
-    let answer = tables::check_tables(bytes, n, c, f, x, p, i, t, q, u, e, r, m);
-    *told = numbers::checked(answer);
+    let model = Tables {
+        bytes,
+        n,
+        c,
+        f,
+        x,
+        p,
+        i,
+        t,
+        q,
+        u,
+        e,
+        r,
+        m,
+    };
+    *told = numbers::told(tables::check_tables(&model));
 }

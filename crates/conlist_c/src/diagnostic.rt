@@ -16,26 +16,25 @@ pub struct Diagnostic {
 }
 
 // Record i of the numbers. Memory holds fewer than 2^60 records, of sixteen bytes each, so the places of its numbers do not overflow.
+#[tactic(auto, unfolding(crate::specs::Records::record_at))]
 fn record_at(numbers: &[u32], i: usize) -> Diagnostic
     requires { i < 1152921504606846976 }
     ensures { result ≡ record_at numbers.now i }
 {
     Diagnostic {
-        code: lent::number_at(numbers, i * DIAGNOSTIC_NUMBERS),
-        connection: lent::number_at(numbers, i * DIAGNOSTIC_NUMBERS + 1),
-        first: lent::number_at(numbers, i * DIAGNOSTIC_NUMBERS + 2),
-        second: lent::number_at(numbers, i * DIAGNOSTIC_NUMBERS + 3),
+        code: lent::get_or(numbers, i * DIAGNOSTIC_NUMBERS, 0),
+        connection: lent::get_or(numbers, i * DIAGNOSTIC_NUMBERS + 1, 0),
+        first: lent::get_or(numbers, i * DIAGNOSTIC_NUMBERS + 2, 0),
+        second: lent::get_or(numbers, i * DIAGNOSTIC_NUMBERS + 3, 0),
     }
 }
 
-// Fills every record from the numbers that a listing has left, with zeros past their end.
+// Fills every record from the numbers that a listing has left, with zeros past their end, where `chunks_exact` has no numbers for a record.
 pub fn fill_records(out: &mut [Diagnostic], numbers: &[u32])
     ensures { out.new ≡ records_from numbers.now 0 (length out.old) }
 {
-    let mut i = 0;
-    while i < out.len() {
-        out[i] = record_at(numbers, i);
-        i += 1;
+    for (i, record) in out.iter_mut().enumerate() {
+        *record = record_at(numbers, i);
     }
 }
 
@@ -43,8 +42,5 @@ pub fn fill_records(out: &mut [Diagnostic], numbers: &[u32])
 pub fn numbers_for(numbers: usize, records: usize) -> usize
     ensures { (result ≤ numbers) × (result / diag_numbers ≡ min records (numbers / diag_numbers)) }
 {
-    if records < numbers / DIAGNOSTIC_NUMBERS {
-        return records * DIAGNOSTIC_NUMBERS;
-    }
-    numbers
+    records.saturating_mul(DIAGNOSTIC_NUMBERS).min(numbers)
 }

@@ -1,10 +1,12 @@
 // The expansion of a feature group.
 ghost use Rattle.std.specs.Prelude.{◌≡◌};
+ghost use Rattle.as5506.specs.Answers.{handed};
 ghost use Rattle.lent.specs.Lent.{tables_at};
 ghost use Rattle.feature_group.specs.Answer.{expanded, answer_for, ExpandedInto};
-ghost use Rattle.conlist_c.specs.Numbers.{expanded_numbers};
+ghost use Rattle.conlist_c.specs.Numbers.{answer_numbers, expanded_numbers};
 
-use super::numbers;
+use crate::numbers;
+use lent::Tables;
 
 // Expands as `expand_feature_group` does. `told` then holds 0, the features that were written and the visits that were made, or a refusal's number,
 // place and letter.
@@ -29,11 +31,25 @@ pub extern "C" fn conlist_expand_feature_group(
     inverse: bool,
     told: &mut [u64; 3],
 )
-    ensures told_after { told.new ≡ expanded_numbers (expanded (answer_for (tables_at bytes n c f x p i t q u e r m) out.old from type_name inverse)) }
-    ensures expanded_into { ExpandedInto (tables_at bytes n c f x p i t q u e r m) out.old from type_name inverse (expanded (answer_for (tables_at bytes n c f x p i t q u e r m) out.old from type_name inverse)) out.new }
+    ensures told_after { told.new ≡ answer_numbers 3 expanded_numbers (handed expanded (answer_for (tables_at bytes n c f x p i t q u e r m) out.old from type_name inverse)) }
+    ensures expanded_into { ExpandedInto (tables_at bytes n c f x p i t q u e r m) out.old from type_name inverse (handed expanded (answer_for (tables_at bytes n c f x p i t q u e r m) out.old from type_name inverse)) out.new }
 {
-    let answer = feature_group::expand_feature_group(
-        bytes, n, c, f, x, p, i, t, q, u, e, r, m, out, from, type_name, inverse,
-    );
-    *told = numbers::expanded(answer);
+    let model = Tables {
+        bytes,
+        n,
+        c,
+        f,
+        x,
+        p,
+        i,
+        t,
+        q,
+        u,
+        e,
+        r,
+        m,
+    };
+    *told = numbers::told(feature_group::expand_feature_group(
+        &model, out, from, type_name, inverse,
+    ));
 }

@@ -1,11 +1,36 @@
 // The group listing.
 ghost use Rattle.lent.specs.Lent.{tables_at};
+ghost use Rattle.lent.specs.Model.{model};
 ghost use Rattle.group_list.specs.Answer.{answer_for};
 ghost use Rattle.conlist_c.specs.Told.{GroupTold};
 ghost use Rattle.conlist_c.specs.WithRecords.{group_for, GroupRecords};
 
-use super::diagnostic::Diagnostic;
-use super::{diagnostic, numbers};
+use crate::diagnostic::{self, Diagnostic};
+use crate::numbers;
+use lent::Tables;
+
+// Lists as `expand_feature_group_connections` does, with what is told of it: 0, the rows and the diagnostics that were written, or a refusal's number,
+// place and letter.
+fn expand(m: &Tables, rows: &mut [u32], names: &mut [u8], diagnostics: &mut [u32]) -> [u64; 3]
+    ensures { GroupTold (answer_for (model m.now) rows.old names.old diagnostics.old) rows.old names.old diagnostics.old result rows.new names.new diagnostics.new }
+{
+    numbers::told(group_list::expand_feature_group_connections(m, rows, names, diagnostics))
+}
+
+// The same with room for no more diagnostics than `count` records.
+fn expand_for(
+    m: &Tables,
+    rows: &mut [u32],
+    names: &mut [u8],
+    numbers: &mut [u32],
+    count: usize,
+) -> [u64; 3]
+    ensures { GroupTold (group_for (model m.now) rows.old names.old numbers.old count) rows.old names.old numbers.old result rows.new names.new numbers.new }
+{
+    let end = diagnostic::numbers_for(numbers.len(), count);
+    numbers.fill(0);
+    expand(m, rows, names, &mut numbers[..end])
+}
 
 // Lists as `expand_feature_group_connections` does. `told` then holds 0, the rows and the diagnostics that were written, or a refusal's number, place
 // and letter.
@@ -33,7 +58,7 @@ pub extern "C" fn conlist_expand_feature_group_connections(
         (answer_for (tables_at bytes n c f x p i t q u e r m) rows.old names.old diagnostics.old)
         rows.old names.old diagnostics.old told.new rows.new names.new diagnostics.new }
 {
-    let answer = group_list::expand_feature_group_connections(
+    let model = Tables {
         bytes,
         n,
         c,
@@ -47,59 +72,8 @@ pub extern "C" fn conlist_expand_feature_group_connections(
         e,
         r,
         m,
-        rows,
-        names,
-        diagnostics,
-    );
-    *told = numbers::group(answer);
-}
-
-// Lists as `expand_feature_group_connections` does, with room for no more diagnostics than `count` records. `told` as above.
-fn expand_for(
-    bytes: &[u8],
-    n: &[u32],
-    c: &[u32],
-    f: &[u32],
-    x: &[u32],
-    p: &[u32],
-    i: &[u32],
-    t: &[u32],
-    q: &[u32],
-    u: &[u32],
-    e: &[u32],
-    r: &[u32],
-    m: &[u32],
-    rows: &mut [u32],
-    names: &mut [u8],
-    numbers: &mut [u32],
-    count: usize,
-    told: &mut [u64; 3],
-)
-    ensures { GroupTold
-        (group_for (tables_at bytes n c f x p i t q u e r m) rows.old names.old numbers.old count)
-        rows.old names.old numbers.old told.new rows.new names.new numbers.new }
-{
-    let end = diagnostic::numbers_for(numbers.len(), count);
-    lent::clear_numbers(numbers);
-    conlist_expand_feature_group_connections(
-        bytes,
-        n,
-        c,
-        f,
-        x,
-        p,
-        i,
-        t,
-        q,
-        u,
-        e,
-        r,
-        m,
-        rows,
-        names,
-        &mut numbers[..end],
-        told,
-    );
+    };
+    *told = expand(&model, rows, names, diagnostics);
 }
 
 // Lists as `expand_feature_group_connections` does, with the diagnostics in the caller's records: there is room for as many as there are records,
@@ -130,9 +104,21 @@ pub extern "C" fn conlist_expand_feature_group_connections_with_records(
         rows.old names.old numbers.old out.old
         told.new rows.new names.new numbers.new out.new }
 {
-    let count = out.len();
-    expand_for(
-        bytes, n, c, f, x, p, i, t, q, u, e, r, m, rows, names, numbers, count, told,
-    );
+    let model = Tables {
+        bytes,
+        n,
+        c,
+        f,
+        x,
+        p,
+        i,
+        t,
+        q,
+        u,
+        e,
+        r,
+        m,
+    };
+    *told = expand_for(&model, rows, names, numbers, out.len());
     diagnostic::fill_records(out, numbers);
 }

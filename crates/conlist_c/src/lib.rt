@@ -1,4 +1,5 @@
-// The library for Rust and C. Each slice crosses as two arguments, a pointer and a count; an answer is told in numbers.
+// The library for Rust and C. Each slice crosses as two arguments, a pointer and a count, so a call lists the thirteen tables and its outputs one by
+// one; inside, the tables are one `Tables`. An answer is told in numbers.
 #![tactic(auto)]
 
 mod both;

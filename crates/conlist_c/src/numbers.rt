@@ -1,158 +1,128 @@
 // An answer as numbers.
-ghost use Rattle.std.specs.Prelude.{◌≡◌, cond};
-ghost use Rattle.conlist_c.specs.Numbers.{read_numbers, checked_numbers, expanded_numbers, traced_numbers, group_numbers, both_numbers, counted_numbers, selected_numbers};
+ghost use Rattle.std.specs.Prelude.{◌≡◌, ◌≤◌, List, ℕ};
+ghost use Rattle.conlist_c.specs.Numbers.{refused_numbers, answer_numbers, none_numbers, read_numbers, expanded_numbers, traced_numbers, group_numbers, both_numbers, modes_numbers, selected_numbers};
 
+use as5506::Refusal;
 use feature_group::Expanded;
 use group_list::GroupListed;
 use instance::Listed;
 use listing::Both;
-use operation_modes::{Counted, Selected};
-use sheet::SheetRead;
-use tables::Checked;
+use operation_modes::{Modes, Selected};
+use sheet::Counts;
 
-// The reader's.
-pub fn read(answer: SheetRead) -> [u64; 14]
-    ensures { result ≡ read_numbers answer }
+// What is told as N numbers where it is given: 0, and what there is of each thing.
+pub trait Given<const N: usize> {
+    ghost numbers: { Self → List ℕ };
+
+    fn numbers(self) -> [u64; N]
+        ensures { result ≡ numbers self };
+}
+
+// An answer as N numbers: what is given, or the refusal's number, which is never 0, its place and its letter, and zeros.
+pub fn told<T: Given<N>, const N: usize>(answer: Result<T, Refusal>) -> [u64; N]
+    requires { 3 ≤ N }
+    ensures { result ≡ answer_numbers N T.numbers answer }
 {
     match answer {
-        SheetRead::Read(k) => [
-            0,
-            k.bytes as u64,
-            k.n as u64,
-            k.c as u64,
-            k.f as u64,
-            k.x as u64,
-            k.p as u64,
-            k.i as u64,
-            k.t as u64,
-            k.q as u64,
-            k.u as u64,
-            k.e as u64,
-            k.r as u64,
-            k.m as u64,
-        ],
-        SheetRead::Refused(reason) => [
-            reason.number as u64,
-            reason.place as u64,
-            reason.letter as u64,
-            0,
-            0,
-            0,
-            0,
-            0,
-            0,
-            0,
-            0,
-            0,
-            0,
-            0,
-        ],
+        Ok(given) => given.numbers(),
+        Err(reason) => refused(reason),
     }
 }
 
-// That of the tables' checks.
-pub fn checked(answer: Checked) -> [u64; 3]
-    ensures { result ≡ checked_numbers answer }
+fn refused<const N: usize>(reason: Refusal) -> [u64; N]
+    requires { 3 ≤ N }
+    ensures { result ≡ refused_numbers N reason }
 {
-    match answer {
-        Checked::Accepted => [0, 0, 0],
-        Checked::Refused(reason) => [
-            reason.number as u64,
-            reason.place as u64,
-            reason.letter as u64,
-        ],
+    let mut told = [0; N];
+    told[0] = u64::from(reason.number);
+    told[1] = u64::from(reason.place);
+    told[2] = u64::from(reason.letter);
+    told
+}
+
+// Tables that are accepted.
+impl Given<3> for () {
+    ghost numbers = { none_numbers };
+
+    fn numbers(self) -> [u64; 3] {
+        [0; 3]
     }
 }
 
-// An expansion's.
-pub fn expanded(answer: Expanded) -> [u64; 3]
-    ensures { result ≡ expanded_numbers answer }
-{
-    match answer {
-        Expanded::Features(k, visits) => [0, k as u64, visits as u64],
-        Expanded::Refused(reason) => [
-            reason.number as u64,
-            reason.place as u64,
-            reason.letter as u64,
-        ],
-    }
-}
+impl Given<14> for Counts {
+    ghost numbers = { read_numbers };
 
-// The traced listing's.
-pub fn traced(answer: Listed) -> [u64; 3]
-    ensures { result ≡ traced_numbers answer }
-{
-    match answer {
-        Listed::Rows(k, d) => [0, k as u64, d as u64],
-        Listed::Refused(reason) => [
-            reason.number as u64,
-            reason.place as u64,
-            reason.letter as u64,
-        ],
-    }
-}
-
-// The group listing's.
-pub fn group(answer: GroupListed) -> [u64; 3]
-    ensures { result ≡ group_numbers answer }
-{
-    match answer {
-        GroupListed::Rows(k, d) => [0, k as u64, d as u64],
-        GroupListed::Refused(reason) => [
-            reason.number as u64,
-            reason.place as u64,
-            reason.letter as u64,
-        ],
-    }
-}
-
-// That of both listings.
-pub fn both(answer: Both) -> [u64; 5]
-    ensures { result ≡ both_numbers answer }
-{
-    match answer {
-        Both::Rows(k, d, l, g) => [0, k as u64, d as u64, l as u64, g as u64],
-        Both::Refused(reason) => [
-            reason.number as u64,
-            reason.place as u64,
-            reason.letter as u64,
+    fn numbers(self) -> [u64; 14] {
+        [
             0,
+            self.bytes as u64,
+            self.n as u64,
+            self.c as u64,
+            self.f as u64,
+            self.x as u64,
+            self.p as u64,
+            self.i as u64,
+            self.t as u64,
+            self.q as u64,
+            self.u as u64,
+            self.e as u64,
+            self.r as u64,
+            self.m as u64,
+        ]
+    }
+}
+
+impl Given<3> for Expanded {
+    ghost numbers = { expanded_numbers };
+
+    fn numbers(self) -> [u64; 3] {
+        [0, self.features as u64, u64::from(self.visits)]
+    }
+}
+
+impl Given<3> for Listed {
+    ghost numbers = { traced_numbers };
+
+    fn numbers(self) -> [u64; 3] {
+        [0, self.rows as u64, self.diagnostics as u64]
+    }
+}
+
+// As `Listed`: these are two types of two crates, and one impl for both would need a trait that is longer than the second.
+impl Given<3> for GroupListed {
+    ghost numbers = { group_numbers };
+
+    fn numbers(self) -> [u64; 3] {
+        [0, self.rows as u64, self.diagnostics as u64]
+    }
+}
+
+impl Given<5> for Both {
+    ghost numbers = { both_numbers };
+
+    fn numbers(self) -> [u64; 5] {
+        [
             0,
-        ],
+            self.traced.rows as u64,
+            self.traced.diagnostics as u64,
+            self.group.rows as u64,
+            self.group.diagnostics as u64,
+        ]
     }
 }
 
-// 1 or 0.
-fn flag(b: bool) -> u64
-    ensures { result ≡ cond b 1 0 }
-{
-    if b { 1 } else { 0 }
-}
+impl Given<3> for Modes {
+    ghost numbers = { modes_numbers };
 
-// That of the number of selections of modes.
-pub fn counted(answer: Counted) -> [u64; 3]
-    ensures { result ≡ counted_numbers answer }
-{
-    match answer {
-        Counted::Given(s) => [0, s.number as u64, flag(s.cut)],
-        Counted::Refused(reason) => [
-            reason.number as u64,
-            reason.place as u64,
-            reason.letter as u64,
-        ],
+    fn numbers(self) -> [u64; 3] {
+        [0, self.number as u64, u64::from(self.cut)]
     }
 }
 
-// That of a selection of modes.
-pub fn selected(answer: Selected) -> [u64; 3]
-    ensures { result ≡ selected_numbers answer }
-{
-    match answer {
-        Selected::Rows(k, b) => [0, k as u64, b as u64],
-        Selected::Refused(reason) => [
-            reason.number as u64,
-            reason.place as u64,
-            reason.letter as u64,
-        ],
+impl Given<3> for Selected {
+    ghost numbers = { selected_numbers };
+
+    fn numbers(self) -> [u64; 3] {
+        [0, self.rows as u64, self.bytes as u64]
     }
 }

@@ -3,9 +3,9 @@ ghost use Rattle.std.specs.Prelude.{◌≡◌};
 ghost use Rattle.lent.specs.Lent.{tables_to_fill, tables_left};
 ghost use Rattle.as5506.specs.Sheet.{lent_of, read_sheet};
 ghost use Rattle.sheet.specs.Read.{sheet_read, ReadInto};
-ghost use Rattle.conlist_c.specs.Numbers.{read_numbers};
+ghost use Rattle.conlist_c.specs.Numbers.{answer_numbers, read_numbers};
 
-use super::numbers;
+use crate::numbers;
 
 // Reads as `read_sheet` does. `told` then holds 0, the bytes of names and the rows of each letter that were read, or a refusal's number, place and
 // letter and zeros.
@@ -27,9 +27,8 @@ pub extern "C" fn conlist_read_sheet(
     m: &mut [u32],
     told: &mut [u64; 14],
 )
-    ensures told_after { told.new ≡ read_numbers (sheet_read (read_sheet (lent_of (tables_to_fill bytes n c f x p i t q u e r m)) sheet.now)) }
+    ensures told_after { told.new ≡ answer_numbers 14 read_numbers (sheet_read (read_sheet (lent_of (tables_to_fill bytes n c f x p i t q u e r m)) sheet.now)) }
     ensures read_into { ReadInto (tables_to_fill bytes n c f x p i t q u e r m) sheet.now (sheet_read (read_sheet (lent_of (tables_to_fill bytes n c f x p i t q u e r m)) sheet.now)) (tables_left bytes n c f x p i t q u e r m) }
 {
-    let answer = sheet::read_sheet(sheet, bytes, n, c, f, x, p, i, t, q, u, e, r, m);
-    *told = numbers::read(answer);
+    *told = numbers::told(sheet::read_sheet(sheet, bytes, n, c, f, x, p, i, t, q, u, e, r, m));
 }

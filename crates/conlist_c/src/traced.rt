@@ -1,11 +1,30 @@
 // The traced listing.
 ghost use Rattle.lent.specs.Lent.{tables_at};
+ghost use Rattle.lent.specs.Model.{model};
 ghost use Rattle.instance.specs.Answer.{answer_for};
 ghost use Rattle.conlist_c.specs.Told.{TracedTold};
 ghost use Rattle.conlist_c.specs.WithRecords.{traced_for, TracedRecords};
 
-use super::diagnostic::Diagnostic;
-use super::{diagnostic, numbers};
+use crate::diagnostic::{self, Diagnostic};
+use crate::numbers;
+use lent::Tables;
+
+// Lists as `compute_semantic_connections` does, with what is told of it: 0, the rows and the diagnostics that were written, or a refusal's number, place
+// and letter.
+fn trace(m: &Tables, rows: &mut [u32], diagnostics: &mut [u32]) -> [u64; 3]
+    ensures { TracedTold (answer_for (model m.now) rows.old diagnostics.old) (model m.now) rows.old diagnostics.old result rows.new diagnostics.new }
+{
+    numbers::told(instance::compute_semantic_connections(m, rows, diagnostics))
+}
+
+// The same with room for no more diagnostics than `count` records.
+fn trace_for(m: &Tables, rows: &mut [u32], numbers: &mut [u32], count: usize) -> [u64; 3]
+    ensures { TracedTold (traced_for (model m.now) rows.old numbers.old count) (model m.now) rows.old numbers.old result rows.new numbers.new }
+{
+    let end = diagnostic::numbers_for(numbers.len(), count);
+    numbers.fill(0);
+    trace(m, rows, &mut numbers[..end])
+}
 
 // Lists as `compute_semantic_connections` does. `told` then holds 0, the rows and the diagnostics that were written, or a refusal's number, place and
 // letter.
@@ -33,7 +52,7 @@ pub extern "C" fn conlist_compute_semantic_connections(
         (tables_at bytes n c f x p i t q u e r m)
         rows.old diagnostics.old told.new rows.new diagnostics.new }
 {
-    let answer = instance::compute_semantic_connections(
+    let model = Tables {
         bytes,
         n,
         c,
@@ -47,57 +66,8 @@ pub extern "C" fn conlist_compute_semantic_connections(
         e,
         r,
         m,
-        rows,
-        diagnostics,
-    );
-    *told = numbers::traced(answer);
-}
-
-// Lists as `compute_semantic_connections` does, with room for no more diagnostics than `count` records. `told` as above.
-fn trace_for(
-    bytes: &[u8],
-    n: &[u32],
-    c: &[u32],
-    f: &[u32],
-    x: &[u32],
-    p: &[u32],
-    i: &[u32],
-    t: &[u32],
-    q: &[u32],
-    u: &[u32],
-    e: &[u32],
-    r: &[u32],
-    m: &[u32],
-    rows: &mut [u32],
-    numbers: &mut [u32],
-    count: usize,
-    told: &mut [u64; 3],
-)
-    ensures { TracedTold
-        (traced_for (tables_at bytes n c f x p i t q u e r m) rows.old numbers.old count)
-        (tables_at bytes n c f x p i t q u e r m)
-        rows.old numbers.old told.new rows.new numbers.new }
-{
-    let end = diagnostic::numbers_for(numbers.len(), count);
-    lent::clear_numbers(numbers);
-    conlist_compute_semantic_connections(
-        bytes,
-        n,
-        c,
-        f,
-        x,
-        p,
-        i,
-        t,
-        q,
-        u,
-        e,
-        r,
-        m,
-        rows,
-        &mut numbers[..end],
-        told,
-    );
+    };
+    *told = trace(&model, rows, diagnostics);
 }
 
 // Lists as `compute_semantic_connections` does, with the diagnostics in the caller's records: there is room for as many as there are records, and for
@@ -126,9 +96,21 @@ pub extern "C" fn conlist_compute_semantic_connections_with_records(
         (tables_at bytes n c f x p i t q u e r m)
         rows.old numbers.old out.old told.new rows.new numbers.new out.new }
 {
-    let count = out.len();
-    trace_for(
-        bytes, n, c, f, x, p, i, t, q, u, e, r, m, rows, numbers, count, told,
-    );
+    let model = Tables {
+        bytes,
+        n,
+        c,
+        f,
+        x,
+        p,
+        i,
+        t,
+        q,
+        u,
+        e,
+        r,
+        m,
+    };
+    *told = trace_for(&model, rows, numbers, out.len());
     diagnostic::fill_records(out, numbers);
 }

@@ -1,13 +1,11 @@
 -- Laws of numbers over the end of columns. Assumes nothing.
 use mathlib.Core.Path.{◌≡◌, sym, ap}
 use mathlib.Core.List.{List, [], ◌++◌}
-use Prim.Native.Nat.{ℕ, zero, suc, ◌+◌, ◌-◌, ◌≤◌, ◌<◌}
+use Prim.Native.Nat.{ℕ, zero, suc, ◌-◌, ◌≤◌}
 use native.Mathlib.Nat.{sub-zero, zero-sub, suc-sub-suc}
-use native.Mathlib.Numerals.{add-one}
 use native.Mathlib.Omega.{arith}
-use lib.ListN.{length, get_or, take, drop, replicate, length-drop, drop_of_length-le}
-use lib.Seq.{drop-cons, drop-nil, take_all}
-use Rattle.as5506.specs.Lists.{each}
+use lib.ListN.{length, take, drop, replicate, length-drop}
+use lib.Seq.{drop-nil, take_all}
 use Rattle.as5506.specs.Fields.{space}
 use Rattle.as5506.specs.Text.{digits, column}
 
@@ -28,11 +26,3 @@ drop-replicate (suc k) (suc n) a = rw (suc-sub-suc n k) (drop-replicate k n a)
 pub decimal-column : (n : ℕ) → column n ≡ drop (length (digits n)) (replicate 6 space) ++ digits n
 unfolding column
 decimal-column n = ap (λ (l : List ℕ). l ++ digits n) (sym (drop-replicate (length (digits n)) 6 space))
-
--- ---- numbers, each in its columns
-
-pub columns-next : (ns : List ℕ) (i : ℕ) → i < length ns → each column (drop i ns) ≡ column (get_or ns i 0) ++ each column (drop (i + 1) ns)
-columns-next ns i h = rw (add-one i, drop-cons ns i 0)
-
-pub columns-done : (ns : List ℕ) (i : ℕ) → length ns ≤ i → each column (drop i ns) ≡ []
-columns-done ns i h = rw (drop_of_length-le ns h)

@@ -68,8 +68,8 @@ ten-more k = pow-suc 10 k ∙ mul_comm (10 ^ k) 10
 pub length-snoc : (d : List ℕ) (b : ℕ) → length (d ++ (b ∷ [])) ≡ suc (length d)
 length-snoc d b = omega (arith, length-append d (b ∷ []))
 
-pub digits-some : (n : ℕ) → 1 ≤ length (digits n)
-digits-some = by_digits (λ n d. 1 ≤ length d) (λ n h. omega arith) (λ n d h e. omega (arith, length-snoc d (48 + n % 10)))
+pub digits_some : (n : ℕ) → 1 ≤ length (digits n)
+digits_some = by_digits (λ n d. 1 ≤ length d) (λ n h. omega arith) (λ n d h e. omega (arith, length-snoc d (48 + n % 10)))
 
 -- a number that reaches ten to the k has more than k digits
 pub digits_long : (k n : ℕ) → 10 ^ k ≤ n → k < length (digits n)
@@ -84,8 +84,9 @@ digits_long k n h = by_digits (λ n d. (k : ℕ) → 10 ^ k ≤ n → k < length
     more n d h e (suc k) p = omega (arith, length-snoc d (48 + n % 10), e k (omega (arith, p, ten-more k)))
 
 -- one below it has no more than k, or one where k is 0
-pub digits-short : (k n : ℕ) → n < 10 ^ suc k → length (digits n) ≤ suc k
-digits-short k n h = by_digits (λ n d. (k : ℕ) → n < 10 ^ suc k → length d ≤ suc k) (λ n p k q. omega arith) more n k h
+pub digits_short : (k n : ℕ) → 0 < k → n < 10 ^ k → length (digits n) ≤ k
+digits_short zero n p h = absurd (omega (arith, p))
+digits_short (suc k) n p h = by_digits (λ n d. (k : ℕ) → n < 10 ^ suc k → length d ≤ suc k) (λ n p k q. omega arith) more n k h
   where
     more : (n : ℕ) (d : List ℕ) → 10 ≤ n → ((k : ℕ) → n / 10 < 10 ^ suc k → length d ≤ suc k) → (k : ℕ) → n < 10 ^ suc k
         → length (d ++ ((48 + n % 10) ∷ [])) ≤ suc k

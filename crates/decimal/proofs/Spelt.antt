@@ -4,12 +4,10 @@ use mathlib.Core.List.{List, [], ◌∷◌, ◌++◌}
 use Prim.Native.Nat.{ℕ, zero, suc, ◌+◌, ◌-◌, ◌*◌, ◌/◌, ◌%◌, ◌^◌, ◌≤◌, ◌<◌}
 use native.Mathlib.Nat.{mul_assoc, div-div-eq-div-mul, div-add-mod, mod-lt, mod-eq_of_lt, mod-eq-sub-mod, mul-add-mod_self_left, div-eq_of_lt, div-eq-sub-div, div-lt_iff_lt-mul}
 use native.Mathlib.Omega.{arith}
-use lib.ListN.{length, get_or, take, drop}
+use lib.ListN.{length, take, drop}
 use Rattle.as5506.specs.Text.{digits}
-use Rattle.decimal.specs.Powers.{PowersOfTen}
 use Rattle.decimal.specs.Spelt.{spelt}
 use Rattle.decimal.proofs.Digits.{by_digits, ten-pos, ten-more, length-snoc}
-use Rattle.decimal.proofs.Powers.{power_at}
 use Rattle.decimal.proofs.Columns.{columns-left}
 
 -- ---- the last digit
@@ -99,26 +97,20 @@ subtracting-end n p byte rest h s = (omega (arith, div-eq_of_lt h, s.digit), sym
 
 -- ---- digit by digit: k of them are left to print
 
-module _ {table : List ℕ} (powers : PowersOfTen table) (rest k : ℕ) (some : 0 < k) (short : k ≤ 20) where
-  power-next : get_or table (k - 1) 0 ≡ 10 ^ (k - 1)
-  power-next = power_at powers (k - 1) (omega (arith, some, short))
-
+module _ (rest k p : ℕ) (some : 0 < k) (power : p ≡ 10 ^ (k - 1)) where
   -- what the first digit is found by
-  pub spelt-power : rest < 10 ^ k → (0 < get_or table (k - 1) 0) × (rest < 10 * get_or table (k - 1) 0)
+  pub spelt-power : rest < 10 ^ k → (0 < p) × (rest < 10 * p)
   spelt-power below =
-      let e : k ≡ suc (k - 1) = omega (arith, some) in (
-        subst (λ (p : ℕ). 0 < p) (sym power-next) (ten-pos (k - 1)),
-        subst (λ (p : ℕ). rest < 10 * p) (sym power-next) (subst (λ (p : ℕ). rest < p) (ap (λ (j : ℕ). 10 ^ j) e ∙ ten-more (k - 1)) below),
-      )
+      let e : 10 ^ k ≡ 10 * 10 ^ (k - 1) = let e : k ≡ suc (k - 1) = omega (arith, some) in ap (λ (j : ℕ). 10 ^ j) e ∙ ten-more (k - 1) in
+      (omega (arith, power, ten-pos (k - 1)), omega (arith, power, e, below))
 
   -- the first digit, and those of what is left
-  pub spelt-next : (byte rest' : ℕ) → byte ≡ 48 + rest / get_or table (k - 1) 0 → rest' ≡ rest % get_or table (k - 1) 0
-      → (spelt k rest ≡ (byte ∷ []) ++ spelt (k - 1) rest') × (rest' < 10 ^ (k - 1))
+  pub spelt-next : (byte rest' : ℕ) → byte ≡ 48 + rest / p → rest' ≡ rest % p → (spelt k rest ≡ (byte ∷ []) ++ spelt (k - 1) rest') × (rest' < 10 ^ (k - 1))
   unfolding spelt
   spelt-next byte rest' d r =
       let e : k ≡ suc (k - 1) = omega (arith, some) in
-      let q : rest' ≡ rest % 10 ^ (k - 1) = r ∙ ap (λ (v : ℕ). rest % v) power-next in (
-        ap (λ (j : ℕ). spelt j rest) e ∙ ap₂ ◌∷◌ (sym (d ∙ ap (λ (v : ℕ). 48 + rest / v) power-next)) (ap (spelt (k - 1)) (sym q)),
+      let q : rest' ≡ rest % 10 ^ (k - 1) = r ∙ ap (λ (v : ℕ). rest % v) power in (
+        ap (λ (j : ℕ). spelt j rest) e ∙ ap₂ ◌∷◌ (sym (d ∙ ap (λ (v : ℕ). 48 + rest / v) power)) (ap (spelt (k - 1)) (sym q)),
         subst (λ (v : ℕ). v < 10 ^ (k - 1)) (sym q) (mod-lt rest (ten-pos (k - 1))),
       )
 

@@ -2,13 +2,14 @@
 // proofs/Columns.antt.
 #![tactic(auto)]
 
-ghost use Rattle.std.specs.Prelude.{◌≡◌, ◌++◌, ◌+◌, ◌*◌, ◌/◌, ◌%◌, ◌<◌, ◌≤◌, length, drop};
+ghost use Rattle.std.specs.Prelude.{◌≡◌, ◌++◌, ◌+◌, ◌*◌, ◌/◌, ◌%◌, ◌^◌, ◌<◌, ◌≤◌, length, drop};
 ghost use Rattle.as5506.specs.Lists.{each};
 ghost use Rattle.as5506.specs.Text.{digits, column};
-ghost use Rattle.lent.specs.Added.{Added};
+ghost use Rattle.output.specs.Put.{Put};
 ghost use Rattle.decimal.specs.Powers.{PowersOfTen};
 
-// The powers of ten that 64 bits hold, each ten times the one before.
+use output::Output;
+
 const POWERS: [usize; 20] = [
     1,
     10,
@@ -32,11 +33,26 @@ const POWERS: [usize; 20] = [
     10000000000000000000,
 ];
 
-// The table, to be taken once and lent: the compiled code lays a constant out wherever it is indexed.
-fn powers_of_ten() -> [usize; 20]
-    ensures { PowersOfTen result }
-{
-    POWERS
+// The powers of ten that 64 bits hold, each ten times the one before. They go from 1 upwards, so that small numbers, which are most, look at the front only.
+// Laid out once and lent: of a `static` the compiler puts the entries into the code, and compares with some of them by a shift (tests/no_division).
+#[derive(Drop)]
+struct Powers {
+    of_ten: [usize; 20],
+    ghost rule: { PowersOfTen of_ten },
+}
+
+impl Powers {
+    fn new() -> Powers {
+        Powers { of_ten: POWERS }
+    }
+
+    // The power at a place.
+    fn at(&self, k: usize) -> usize
+        requires { k < 20 }
+        ensures { result ≡ 10 ^ k }
+    {
+        self.of_ten[k]
+    }
 }
 
 // A digit, and what is left of its number.
@@ -51,86 +67,69 @@ fn first_digit(n: usize, power: usize) -> Digit
     requires { (0 < power) × (n < 10 * power) }
     ensures { (result.byte ≡ 48 + n / power) × (result.rest ≡ n % power) }
 {
-    let mut byte: u8 = b'0';
+    let mut byte = b'0';
     let mut rest = n;
     while power <= rest {
         rest -= power;
         byte += 1;
     }
-    Digit {
-        byte: byte,
-        rest: rest,
-    }
+    Digit { byte, rest }
 }
 
 // How many digits a number has: the lowest power beyond it, or all of the table.
-fn digit_count(n: usize, powers: &[usize; 20]) -> usize
-    requires { PowersOfTen powers.now }
+#[tactic(auto, using(crate::proofs::Digits::digits_some, crate::proofs::Digits::digits_short, crate::proofs::Digits::digits_long))]
+fn digit_count(n: usize, powers: &Powers) -> usize
     ensures { (result ≤ 20) × (result ≡ length (digits n)) }
 {
-    let mut k: usize = 1;
-    while k < 20 {
-        if n < powers[k] {
+    for k in 1..20 {
+        if n < powers.at(k) {
             return k;
         }
-        k += 1;
     }
-    k
+    20
 }
 
 // Prints n in decimal over the end of `columns`: what it leaves of them stands before it, and a longer number stands in full.
-fn put_digits(n: usize, powers: &[usize; 20], columns: &[u8], text: &mut [u8], used: usize) -> usize
-    requires { PowersOfTen powers.now }
-    ensures { Added (drop (length (digits n)) columns.now ++ digits n) text.old used text.new result }
+fn put_digits(n: usize, powers: &Powers, columns: &[u8], out: &mut Output)
+    ensures { Put (drop (length (digits n)) columns.now ++ digits n) out.old out.new }
 {
-    let mut k = digit_count(n, powers);
-    let left = lent::part(columns, k, columns.len());
-    let mut z = lent::append_bytes(text, used, left);
+    let count = digit_count(n, powers);
+    out.put(lent::part(columns, count, columns.len()));
     let mut rest = n;
-    while 0 < k {
-        k -= 1;
-        let d = first_digit(rest, powers[k]);
-        let digit = [d.byte];
-        z = lent::append_bytes(text, z, &digit);
-        rest = d.rest;
+    for k in (0..count).rev() {
+        let digit = first_digit(rest, powers.at(k));
+        out.put(&[digit.byte]);
+        rest = digit.rest;
     }
-    z
 }
 
 // The same over six columns.
-fn put_in_six(n: usize, powers: &[usize; 20], text: &mut [u8], used: usize) -> usize
-    requires { PowersOfTen powers.now }
-    ensures { Added (column n) text.old used text.new result }
+fn put_in_six(n: usize, powers: &Powers, out: &mut Output)
+    ensures { Put (column n) out.old out.new }
 {
-    put_digits(n, powers, b"      ", text, used)
+    put_digits(n, powers, b"      ", out)
 }
 
 // Prints n in decimal over the end of `columns`.
-pub fn put_decimal(n: usize, columns: &[u8], text: &mut [u8], used: usize) -> usize
-    ensures { Added (drop (length (digits n)) columns.now ++ digits n) text.old used text.new result }
+pub fn put_decimal(n: usize, columns: &[u8], out: &mut Output)
+    ensures { Put (drop (length (digits n)) columns.now ++ digits n) out.old out.new }
 {
-    let powers = powers_of_ten();
-    put_digits(n, &powers, columns, text, used)
+    put_digits(n, &Powers::new(), columns, out)
 }
 
 // Prints a number in six columns.
-pub fn put_column(n: usize, text: &mut [u8], used: usize) -> usize
-    ensures { Added (column n) text.old used text.new result }
+pub fn put_column(n: usize, out: &mut Output)
+    ensures { Put (column n) out.old out.new }
 {
-    let powers = powers_of_ten();
-    put_in_six(n, &powers, text, used)
+    put_in_six(n, &Powers::new(), out)
 }
 
 // Prints numbers, each in six columns.
-pub fn put_columns(numbers: &[u32], text: &mut [u8], used: usize) -> usize
-    ensures { Added (each column numbers.now) text.old used text.new result }
+pub fn put_columns(numbers: &[u32], out: &mut Output)
+    ensures { Put (each column numbers.now) out.old out.new }
 {
-    let powers = powers_of_ten();
-    let mut z = used;
-    let mut i: usize = 0;
-    while i < numbers.len() {
-        z = put_in_six(numbers[i] as usize, &powers, text, z);
-        i += 1;
+    let powers = Powers::new();
+    for &number in numbers {
+        put_in_six(number as usize, &powers, out);
     }
-    z
 }

@@ -3,31 +3,31 @@
 // parts, each in six columns.
 #![tactic(auto)]
 
+use output::Output;
 use std::io::Read;
 
 // The most cases of a file.
 const CASES: usize = 1000000;
 
-fn wide(n: u32) -> usize {
-    n as usize
-}
-
 // The number of these parts.
 fn number_of(parts: [u32; 4]) -> usize {
-    wide(parts[0]) << 48 | wide(parts[1]) << 32 | wide(parts[2]) << 16 | wide(parts[3])
+    let [a, b, c, d] = parts.map(|part| part as usize);
+    a << 48 | b << 32 | c << 16 | d
 }
 
 fn print_number(rt: &impl Print, parts: [u32; 4]) {
     let n = number_of(parts);
     let mut text = [0u8; 128];
-    let bare = decimal::put_decimal(n, b"", &mut text, 0);
-    let parted = lent::append_bytes(&mut text, bare, b"|");
-    let six = decimal::put_column(n, &mut text, parted);
-    let begun = lent::append_bytes(&mut text, six, b"|");
-    let twenty = decimal::put_decimal(n, b"                    ", &mut text, begun);
-    let apart = lent::append_bytes(&mut text, twenty, b"|");
-    let columns = decimal::put_columns(&parts, &mut text, apart);
-    let end = lent::append_bytes(&mut text, columns, b"\n");
+    let mut out = Output::new(&mut text);
+    decimal::put_decimal(n, b"", &mut out);
+    out.put(b"|");
+    decimal::put_column(n, &mut out);
+    out.put(b"|");
+    decimal::put_decimal(n, b"                    ", &mut out);
+    out.put(b"|");
+    decimal::put_columns(&parts, &mut out);
+    out.put(b"\n");
+    let end = out.done();
     let _ = rt.write_all(lent::part(&text, 0, end));
 }
 
@@ -45,9 +45,7 @@ fn next_case(rt: &impl Print, input: &mut impl Read) -> bool {
 
 fn main(rt: HostRuntime) {
     let mut input = rt.stdin();
-    let mut left = CASES;
-    while 0 < left {
-        left -= 1;
+    for _ in 0..CASES {
         if !next_case(&rt, &mut input) {
             return;
         }

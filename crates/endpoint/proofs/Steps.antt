@@ -1,95 +1,152 @@
--- What each return of the code says of the definition's ends, for any tables. Assumes nothing.
-use mathlib.Core.Bool.{Bool, true, false}
+-- What each step of the code says of the definition's ends. Assumes nothing.
+use mathlib.Core.Bool.{Bool, true, false, ◌&&◌, ◌||◌}
 use mathlib.Core.Path.{◌≡◌, refl, sym, ap, ap₂, ◌∙◌}
-use mathlib.Core.List.{List}
-use mathlib.Core.Option.{Option, none, some}
-use Prim.Native.Nat.{ℕ}
-use Rattle.as5506.specs.Lists.{first_of}
-use Rattle.as5506.specs.Tables.{Tables, missing, present, Side, ref, name_in, x_owner, x_sub, c_package, c_type, e_classifier}
+use mathlib.Core.List.{List, [], ◌∷◌}
+use mathlib.Core.Option.{none, some}
+use mathlib.Core.Option.{Option as Maybe}
+use Prim.Native.Nat.{ℕ, ◌≤◌, ◌<◌}
+use lib.Dec.{eqb}
+use Rattle.std.specs.Prelude.{Option, Some, None}
+use Rattle.as5506.specs.Lists.{up_to, put_if, keep, first_of, any_of, same_bytes}
+use Rattle.as5506.specs.Tables.{Tables, missing, letter_f, letter_e, count, Side, Ref, ref, name_of, rows_naming, x_owner, x_sub, c_package, c_type, f_name, f_owner, f_kind, features_of, e_name, e_kind, e_holder, e_holder_kind, e_classifier, present}
 use Rattle.as5506.specs.Names.{key}
-use Rattle.as5506.specs.Resolve.{Resolved as Meant, component_type, resolve}
-use Rattle.as5506.specs.Groups.{Expansion, expand}
+use Rattle.as5506.specs.Resolve.{resolve}
+use Rattle.as5506.specs.Groups.{Expansion, feature_kind_group, expand}
 use Rattle.as5506.specs.Tracing.{found_children, named}
 use Rattle.as5506.specs.GroupList.{is_group_feature, type_of, declared_group, classifier_by, declared_by, typed_by, endpoint_by, endpoint, end_component_by, end_component}
-use Rattle.children.specs.declared.Child.{Child}
-use Rattle.children.specs.declared.Child.TheVariants.{At, Nothing}
-use Rattle.children.specs.Found.{found_from, after_child}
-use Rattle.children.proofs.Scan.{found-from-start, found-same}
-use Rattle.resolver.specs.declared.Resolved.{Resolved}
-use Rattle.resolver.specs.Found.{found}
-use Rattle.resolver.proofs.Answers.{meant, means}
-use Rattle.endpoint.specs.Ends.{component_of}
 use Rattle.as5506.proofs.Laws.{missing-is, present-is}
-use Rattle.lent.specs.Lent.{components_in, wiring_in}
+use Rattle.as5506.proofs.Scans.{keep-both}
+use Rattle.children.specs.Found.{found_from, after_child}
+use Rattle.children.proofs.Scan.{found-from-start}
+use Rattle.resolver.specs.declared.Classifier.{Classifier}
+use Rattle.resolver.specs.declared.Classifier.TheVariants.{ComponentType, ComponentImpl, GroupType}
+use Rattle.resolver.specs.Found.{row_of, found}
+use Rattle.resolver.proofs.Answers.{meant, means}
+use Rattle.resolver.proofs.Scan.{Searching, search_hit, search_end}
+use Rattle.endpoint.specs.Ends.{is_group, is_declared}
 
--- ---- the component of an end
+module _ (m : Tables) where
+  -- ---- the component of an end
 
-pub end-owner : (m : Tables) (s : Side) (i p sub : ℕ) → p ≡ x_owner m i → sub ≡ x_sub m s i → sub ≡ missing → some p ≡ end_component m s i
-unfolding end_component end_component_by
-end-owner m s i p sub e f h = rw (missing-is sub (x_sub m s i) f h) (ap some e)
+  module _ (s : Side) (i p sub : ℕ) (e : p ≡ x_owner m i) (f : sub ≡ x_sub m s i) where
+    pub end_owner : sub ≡ missing → some p ≡ end_component m s i
+    unfolding end_component end_component_by
+    end_owner h = rw (missing-is sub (x_sub m s i) f h) (ap some e)
 
--- an answer's child is the first
-first-child : (g : ℕ → List ℕ) (q : Child) → component_of q ≡ first_of (after_child g q)
-first-child g (At i) = refl
-first-child g Nothing = refl
+    -- an answer's child is the first
+    first-child : (g : ℕ → List ℕ) (q : Option ℕ) → row_of q ≡ first_of (after_child g q)
+    first-child g (Some j) = refl
+    first-child g None = refl
 
-pub end-child :
-    (bytes n c x : List ℕ) (s : Side) (i p sub : ℕ) (q : Child) → let m : Tables = wiring_in bytes n c x in p ≡ x_owner m i → sub ≡ x_sub m s i → (sub ≡ missing → ⊥)
-    → found_from (components_in bytes n c) p (name_in bytes n sub) 0 ≡ after_child (found_from (components_in bytes n c) p (name_in bytes n sub)) q → component_of q ≡ end_component m s i
-unfolding end_component end_component_by named
-end-child bytes n c x s i p sub q e f h a =
-    let m : Tables = wiring_in bytes n c x in
-    rw (present-is sub (x_sub m s i) f h)
-    (first-child (found_from (components_in bytes n c) p (name_in bytes n sub)) q
-    ∙ ap first_of
-    (sym a ∙ found-same m p (name_in bytes n sub) 0 ∙ found-from-start m p (name_in bytes n sub) ∙ ap₂ (λ (p sub : ℕ). found_children m p (name_in bytes n sub)) e f))
+    pub end_child : (q : Option ℕ) → (sub ≡ missing → ⊥) → found_from m p (name_of m sub) 0 ≡ after_child (found_from m p (name_of m sub)) q → row_of q ≡ end_component m s i
+    unfolding end_component end_component_by named
+    end_child q h a =
+        rw (present-is sub (x_sub m s i) f h)
+        (first-child (found_from m p (name_of m sub)) q
+        ∙ ap first_of (sym a ∙ found-from-start m p (name_of m sub) ∙ ap₂ (λ (p sub : ℕ). found_children m p (name_of m sub)) e f))
 
--- ---- the classifier of E row e, for component c
+  -- ---- the group features of a component
 
-module _ (m : Tables) (c e v : ℕ) (a : v ≡ (e_classifier m e).type) where
-  pub no-classifier : v ≡ missing → none ≡ classifier_by (present (e_classifier m e).type) m c (e_classifier m e)
-  unfolding classifier_by
-  no-classifier h = rw (missing-is v (e_classifier m e).type a h)
+  abbrev has_first : Maybe ℕ → Bool
+  has_first (some i) = true
+  has_first none = false
 
-  module _ (h : v ≡ missing → ⊥) (w : ℕ) (b : w ≡ (e_classifier m e).pkg) where
-    pub from-component : (g : ℕ) → w ≡ missing → g ≡ c_package m c → some (expand m g v) ≡ classifier_by (present (e_classifier m e).type) m c (e_classifier m e)
-    unfolding classifier_by
-    from-component g k d = rw (present-is v (e_classifier m e).type a h, missing-is w (e_classifier m e).pkg b k) (ap some (ap₂ (expand m) d a))
+  -- an entry passes exactly where there is a first that does
+  any-first : (p : ℕ → Bool) (xs : List ℕ) → any_of p xs ≡ has_first (first_of (keep p xs))
+  any-first p [] = refl
+  any-first p (x ∷ xs) = by_first (p x) (any_of p xs) (keep p xs) (any-first p xs)
+    where
+      by_first : (b a : Bool) (l : List ℕ) → a ≡ has_first (first_of l) → b || a ≡ has_first (first_of (put_if b x l))
+      by_first true a l e = refl
+      by_first false a l e = e
 
-    pub from-classifier : (w ≡ missing → ⊥) → some (expand m w v) ≡ classifier_by (present (e_classifier m e).type) m c (e_classifier m e)
-    unfolding classifier_by
-    from-classifier k = rw (present-is v (e_classifier m e).type a h, present-is w (e_classifier m e).pkg b k) (ap some (ap₂ (expand m) b a))
+  module _ (c : ℕ) (k : List ℕ) where
+    feature-search : is_group_feature m c k ≡ has_first (first_of (keep (is_group m c k) (up_to (count m letter_f))))
+    unfolding is_group_feature rows_naming is_group
+    feature-search =
+        let p : ℕ → Bool = λ f. eqb (f_kind m f) feature_kind_group && same_bytes (key m (f_name m f)) k in
+        any-first p (features_of m c) ∙ ap (λ (l : List ℕ). has_first (first_of l)) (keep-both p (λ f. eqb (f_owner m f) c) (up_to (count m letter_f)))
 
--- ---- the group of feature f of component c
+    module _ (i : ℕ) (s : Searching (is_group m c k) (count m letter_f) i) where
+      pub feature_hit : i < count m letter_f → is_group m c k i ≡ true → true ≡ is_group_feature m c k
+      feature_hit h t = ap has_first (search_hit (is_group m c k) (count m letter_f) i s h t) ∙ sym feature-search
 
--- the type that a call gave, in the case y
-pub type-is : (m : Tables) (c v w : ℕ) (z y : Resolved) → v ≡ c_package m c → w ≡ c_type m c → z ≡ found m (resolve m v (ref v w missing)) → z ≡ y → type_of m c ≡ meant y
-unfolding type_of
-type-is m c v w z y d t e q = sym (ap₂ (λ (v w : ℕ). resolve m v (ref v w missing)) d t) ∙ means m v (ref v w missing) z y e q
+      pub feature_end : count m letter_f ≤ i → false ≡ is_group_feature m c k
+      feature_end h = ap has_first (search_end (is_group m c k) (count m letter_f) i s h) ∙ sym feature-search
 
-module _ (m : Tables) (c f : ℕ) (b : Bool) (p : b ≡ is_group_feature m c (key m f)) where
-  pub no-feature : b ≡ false → none ≡ endpoint m c f
-  unfolding endpoint endpoint_by
-  no-feature h = rw (← p, h)
+  -- ---- the groups that a component type declares
 
-  module _ (h : b ≡ true) where
-    typed : (d : Meant) → type_of m c ≡ d → typed_by m c (key m f) d ≡ endpoint m c f
+  module _ (t : ℕ) (k : List ℕ) (z : Maybe ℕ) where
+    pub declared_found : z ≡ first_of (keep (is_declared m t k) (up_to (count m letter_e))) → z ≡ declared_group m t k
+    unfolding declared_group rows_naming is_declared
+    declared_found e =
+        let p : ℕ → Bool = λ e. eqb (e_kind m e) feature_kind_group && same_bytes (key m (e_name m e)) k in
+        let q : ℕ → Bool = λ e. eqb (e_holder_kind m e) 0 in
+        let h : ℕ → Bool = λ e. eqb (e_holder m e) t in
+        let rows : List ℕ = up_to (count m letter_e) in
+        e ∙ ap first_of (sym (keep-both p q (keep h rows) ∙ keep-both (λ e. q e && p e) h rows))
+
+  -- ---- the classifier of E row e, for component c
+
+  module _ (c e : ℕ) (r : Ref) (a : r ≡ e_classifier m e) where
+    pub no_classifier : r.type ≡ missing → none ≡ declared_by m c (some e)
+    unfolding declared_by classifier_by
+    no_classifier h = rw (missing-is r.type (e_classifier m e).type (ap (λ (r : Ref). r.type) a) h)
+
+    module _ (h : r.type ≡ missing → ⊥) where
+      asked : (b : Bool) → classifier_by (present r.type) m c r ≡ declared_by m c (some e)
+      unfolding declared_by
+      asked b = ap (λ (r : Ref). classifier_by (present r.type) m c r) a
+
+      pub from_component : (g : ℕ) → r.pkg ≡ missing → g ≡ c_package m c → some (expand m g r.type) ≡ declared_by m c (some e)
+      unfolding classifier_by
+      from_component g k d = ap (λ (g : ℕ). some (expand m g r.type)) d ∙ sym (rw (present-is r.type r.type refl h, missing-is r.pkg r.pkg refl k)) ∙ asked true
+
+      pub from_classifier : (r.pkg ≡ missing → ⊥) → some (expand m r.pkg r.type) ≡ declared_by m c (some e)
+      unfolding classifier_by
+      from_classifier k = sym (rw (present-is r.type r.type refl h, present-is r.pkg r.pkg refl k)) ∙ asked true
+
+  -- ---- the group of feature f of component c
+
+  module _ (c f : ℕ) (b : Bool) (p : b ≡ is_group_feature m c (key m f)) where
+    pub no_feature : b ≡ false → none ≡ endpoint m c f
     unfolding endpoint endpoint_by
-    typed d t = rw (← p, h, t)
+    no_feature h = rw (← p, h)
 
-    -- no component type
-    pub no-type : (d : Meant) → type_of m c ≡ d → typed_by m c (key m f) d ≡ none → none ≡ endpoint m c f
-    no-type d t n = sym n ∙ typed d t
+    module _ (h : b ≡ true) (v w : ℕ) (d : v ≡ c_package m c) (t : w ≡ c_type m c) where
+      -- z is what the resolver gave
+      typed : (z : Option Classifier) → z ≡ found m (resolve m v (ref v w missing)) → typed_by m c (key m f) (meant z) ≡ endpoint m c f
+      unfolding endpoint endpoint_by type_of
+      typed z e = rw (← p, h) (ap (typed_by m c (key m f)) (sym (means m v (ref v w missing) z e) ∙ ap₂ (λ (v w : ℕ). resolve m v (ref v w missing)) d t))
 
-    module _ (i : ℕ) (t : type_of m c ≡ component_type i) where
-      declared : declared_by m c (declared_group m i (key m f)) ≡ endpoint m c f
+      pub no_type : None ≡ found m (resolve m v (ref v w missing)) → none ≡ endpoint m c f
       unfolding typed_by
-      declared = typed (component_type i) t
+      no_type e = typed None e
 
-      pub not-declared : none ≡ declared_group m i (key m f) → none ≡ endpoint m c f
-      unfolding declared_by
-      not-declared n = ap (declared_by m c) n ∙ declared
+      module _ (z : Classifier) (e : Some z ≡ found m (resolve m v (ref v w missing))) where
+        pub no_impl : (g i : ℕ) → z ≡ ComponentImpl g i → none ≡ endpoint m c f
+        unfolding typed_by
+        no_impl g i q = typed (Some (ComponentImpl g i)) (ap (λ (z : Classifier). Some z) (sym q) ∙ e)
 
-      pub by-classifier : (e : ℕ) (z : Option Expansion) → some e ≡ declared_group m i (key m f) → z ≡ classifier_by (present (e_classifier m e).type) m c (e_classifier m e) → z ≡ endpoint m c f
-      unfolding declared_by
-      by-classifier e z s q = q ∙ ap (declared_by m c) s ∙ declared
+        pub no_group : (g i : ℕ) → z ≡ GroupType g i → none ≡ endpoint m c f
+        unfolding typed_by
+        no_group g i q = typed (Some (GroupType g i)) (ap (λ (z : Classifier). Some z) (sym q) ∙ e)
+
+        module _ (g i : ℕ) (q : z ≡ ComponentType g i) where
+          declared : declared_by m c (declared_group m i (key m f)) ≡ endpoint m c f
+          unfolding typed_by
+          declared = typed (Some (ComponentType g i)) (ap (λ (z : Classifier). Some z) (sym q) ∙ e)
+
+          pub not_declared : none ≡ declared_group m i (key m f) → none ≡ endpoint m c f
+          unfolding declared_by
+          not_declared n = ap (declared_by m c) n ∙ declared
+
+          pub by_classifier : (j : ℕ) (x : Maybe Expansion) → some j ≡ declared_group m i (key m f) → x ≡ declared_by m c (some j) → x ≡ endpoint m c f
+          by_classifier j x s r = r ∙ ap (declared_by m c) s ∙ declared
+
+-- what each function goes by
+pub ruleset feature_steps = (feature_hit, feature_end)
+
+pub ruleset classifier_steps = (no_classifier, from_component, from_classifier)
+
+pub ruleset endpoint_steps = (no_feature, no_type, no_impl, no_group, not_declared, by_classifier)

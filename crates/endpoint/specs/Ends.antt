@@ -1,24 +1,16 @@
--- The component of an end, and the group that it stands for, as the definition has them. Assumes nothing.
-use Rattle.std.specs.Prelude.{Bool, ◌&&◌, List, ℕ, eqb}
-use Rattle.std.proofs.Math.Option.{Option, none, some}
+-- The group that an end stands for, as the definition has it, and what its features are found by. Assumes nothing.
+use Rattle.std.specs.Prelude.{Bool, ◌&&◌, List, ℕ, Option, Some, None, eqb}
+use Rattle.std.proofs.Math.Option as maybe
 use Rattle.as5506.specs.Lists.{same_bytes}
 use Rattle.as5506.specs.Tables.{Tables, f_name, f_owner, f_kind, e_name, e_kind, e_holder, e_holder_kind}
 use Rattle.as5506.specs.Names.{key}
 use Rattle.as5506.specs.Groups.{Expansion, feature_kind_group, expand}
-use Rattle.children.specs.declared.Child.{Child}
-use Rattle.children.specs.declared.Child.TheVariants.{At, Nothing}
-use Rattle.endpoint.specs.declared.Asked.{Asked}
-use Rattle.endpoint.specs.declared.Asked.TheVariants.{Group, NoGroup}
-
--- a component, or none
-abbrev pub component_of : Child → Option ℕ
-component_of (At i) = some i
-component_of Nothing = none
+use Rattle.endpoint.specs.declared.Group.{Group}
 
 -- the expansion of the group that an end stands for, or none: its type is asked for by its bare name
-abbrev pub expanded_at : Tables → Asked → Option Expansion
-expanded_at m (Group from name) = some (expand m from name)
-expanded_at m NoGroup = none
+abbrev pub expanded_at : Tables → Option Group → maybe.Option Expansion
+expanded_at m (Some g) = maybe.some (expand m g.package g.type_name)
+expanded_at m None = maybe.none
 
 -- F row i is one of component c, a group, and has the key k
 unfoldable pub is_group : Tables → ℕ → List ℕ → ℕ → Bool

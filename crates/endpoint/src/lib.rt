@@ -2,215 +2,143 @@
 // group that its feature stands for.
 #![tactic(auto)]
 
-ghost use Rattle.std.specs.Prelude.{◌≡◌, [], ℕ};
-ghost use Rattle.as5506.specs.Tables.{Tables, name_in, present, c_package, e_classifier};
-ghost use Rattle.as5506.specs.Names.{key, same_folded};
-ghost use Rattle.as5506.specs.GroupList.{is_group_connection, is_group_feature, declared_group, classifier_by, end_component, endpoint as the_endpoint};
-ghost use Rattle.lent.specs.Lent.{features_in, connections_in, declared_in, with_c, with_f, with_e, packages_at, wiring_at};
+ghost use Rattle.std.specs.Prelude.{◌≡◌};
+ghost use Rattle.std.proofs.Math.Option.{some};
+ghost use Rattle.as5506.specs.Names.{key};
+ghost use Rattle.as5506.specs.GroupList.{is_group_connection, is_group_feature, declared_group, declared_by, end_component, endpoint as the_endpoint};
+ghost use Rattle.lent.specs.Model.{model};
 ghost use Rattle.columns.specs.Side.{side_of};
 ghost use Rattle.resolver.specs.Found.{row_of};
-ghost use Rattle.endpoint.specs.Ends.{component_of, expanded_at, is_group, is_declared};
+ghost use Rattle.endpoint.specs.Ends.{expanded_at, is_group, is_declared};
 
 use as5506::{E_NUMBERS, F_NUMBERS, MISSING};
-use children::Child;
-use columns::{Side, component, connection, declared, feature};
-use resolver::{Found, Resolved};
+use columns::{Reference, Side, component, connection, declared, feature};
+use lent::Tables;
+use resolver::Classifier;
 
-// The group that an end stands for: its type's name and the name of the package to ask from; or none.
+// The group that an end stands for: its type's name and the name of the package to ask from.
 #[derive(Clone, Copy)]
-pub enum Asked {
-    Group { package: u32, type_name: u32 },
-    NoGroup,
+pub struct Group {
+    pub package: u32,
+    pub type_name: u32,
 }
 
-// `FeatureKind::FeatureGroup` and `ConnectionKind::FeatureGroup`.
+// `FeatureKind::FeatureGroup` and `ConnectionKind::FeatureGroup`: numbers, since of all kinds only these are asked for.
 const FEATURE_KIND: u32 = 8;
 
 const CONNECTION_KIND: u32 = 2;
 
 // Whether X row i connects groups: it has their kind, and a feature at both ends.
-pub fn is_group_connection(x: &[u32], i: usize) -> bool
-    ensures { result ≡ is_group_connection (connections_in [] [] x.now) i }
+#[tactic(auto, unfolding(as5506::specs::GroupList::is_group_connection))]
+pub fn is_group_connection(m: &Tables, i: usize) -> bool
+    ensures { result ≡ is_group_connection (model m.now) i }
 {
-    if connection::kind_of(x, i) != CONNECTION_KIND {
-        return false;
-    }
-    if connection::feature_of(x, Side::Source, i) == MISSING {
-        return false;
-    }
-    connection::feature_of(x, Side::Destination, i) != MISSING
+    connection::kind_of(m, i) == CONNECTION_KIND
+        && connection::feature_of(m, Side::Source, i) != MISSING
+        && connection::feature_of(m, Side::Destination, i) != MISSING
 }
 
 // The component at an end of X row i: the first child of the name, or the owner where no subcomponent is named.
-pub fn end_component(bytes: &[u8], n: &[u32], c: &[u32], x: &[u32], side: Side, i: usize) -> Child
-    ensures { component_of result ≡ end_component (wiring_at bytes n c x) (side_of side) i }
+#[tactic(auto, using(crate::proofs::Steps::end_owner, crate::proofs::Steps::end_child))]
+pub fn end_component(m: &Tables, side: Side, i: usize) -> Option<usize>
+    ensures { row_of result ≡ end_component (model m.now) (side_of side) i }
 {
-    let owner = connection::owner_of(x, i);
-    let sub = connection::subcomponent_of(x, side, i);
+    let owner = connection::owner_of(m, i);
+    let sub = connection::subcomponent_of(m, side, i);
     if sub == MISSING {
-        let row = owner as usize;
-        return Child::At(row);
+        return Some(owner as usize);
     }
-    children::find_child_by_name(bytes, n, c, owner, sub, 0)
-}
-
-// Whether names j and k are the same feature's: case ignored.
-fn same_folded_feature(bytes: &[u8], n: &[u32], j: u32, k: u32) -> bool
-    ensures { result ≡ same_folded (name_in bytes.now n.now j) (name_in bytes.now n.now k) }
-{
-    name::same_folded_names(bytes, n, j, k)
+    children::find_child_by_name(m, owner, sub, 0)
 }
 
 // Whether F row i is a feature of the component, is a group, and has the wanted name, case ignored.
-fn is_group_feature(
-    bytes: &[u8],
-    n: &[u32],
-    f: &[u32],
-    component: u32,
-    feature: u32,
-    i: usize,
-) -> bool
-    ensures { (let m : Tables = features_in bytes.now n.now f.now in
-        result ≡ is_group m component (key m feature) i) }
+#[tactic(auto, unfolding(crate::specs::Ends::is_group, as5506::specs::Names::same_folded, as5506::specs::Names::key))]
+fn is_group_feature(m: &Tables, component: u32, feature: u32, i: usize) -> bool
+    ensures { result ≡ is_group (model m.now) component (key (model m.now) feature) i }
 {
-    if feature::owner_of(f, i) != component {
-        return false;
-    }
-    if feature::kind_of(f, i) != FEATURE_KIND {
-        return false;
-    }
-    same_folded_feature(bytes, n, feature::name_of(f, i), feature)
+    feature::owner_of(m, i) == component
+        && feature::kind_of(m, i) == FEATURE_KIND
+        && name::same_folded_names(m, feature::name_of(m, i), feature)
 }
 
 // Whether a component has such a feature.
-fn has_group_feature(bytes: &[u8], n: &[u32], f: &[u32], component: u32, feature: u32) -> bool
-    ensures { (let m : Tables = features_in bytes.now n.now f.now in
-        result ≡ is_group_feature m component (key m feature)) }
+#[tactic(auto, using(resolver::proofs::Scan::search_start, resolver::proofs::Scan::search_miss, crate::proofs::Steps::feature_steps))]
+fn has_group_feature(m: &Tables, component: u32, feature: u32) -> bool
+    ensures { result ≡ is_group_feature (model m.now) component (key (model m.now) feature) }
 {
-    let count = f.len() / F_NUMBERS;
-    let mut i: usize = 0;
-    while i < count {
-        if is_group_feature(bytes, n, f, component, feature, i) {
+    for i in 0..m.f.len() / F_NUMBERS {
+        if is_group_feature(m, component, feature, i) {
             return true;
         }
-        i += 1;
     }
     false
 }
 
 // Whether E row i is a feature of the component type, is a group, and has the wanted name, case ignored.
-fn is_declared_group(
-    bytes: &[u8],
-    n: &[u32],
-    e: &[u32],
-    holder: usize,
-    feature: u32,
-    i: usize,
-) -> bool
-    ensures { (let m : Tables = declared_in bytes.now n.now e.now in
-        result ≡ is_declared m holder (key m feature) i) }
+#[tactic(auto, unfolding(crate::specs::Ends::is_declared, as5506::specs::Names::same_folded, as5506::specs::Names::key))]
+fn is_declared_group(m: &Tables, holder: usize, feature: u32, i: usize) -> bool
+    ensures { result ≡ is_declared (model m.now) holder (key (model m.now) feature) i }
 {
-    if declared::holder_of(e, i) as usize != holder {
-        return false;
-    }
-    if declared::holder_kind_of(e, i) != 0 {
-        return false;
-    }
-    if declared::kind_of(e, i) != FEATURE_KIND {
-        return false;
-    }
-    same_folded_feature(bytes, n, declared::name_of(e, i), feature)
+    declared::holder_of(m, i) as usize == holder
+        && declared::holder_kind_of(m, i) == 0
+        && declared::kind_of(m, i) == FEATURE_KIND
+        && name::same_folded_names(m, declared::name_of(m, i), feature)
 }
 
 // The first such feature.
-fn declared_group(bytes: &[u8], n: &[u32], e: &[u32], holder: usize, feature: u32) -> Found
-    ensures { (let m : Tables = declared_in bytes.now n.now e.now in
-        row_of result ≡ declared_group m holder (key m feature)) }
+#[tactic(auto, using(resolver::proofs::Scan::searching, crate::proofs::Steps::declared_found))]
+fn declared_group(m: &Tables, holder: usize, feature: u32) -> Option<usize>
+    ensures { row_of result ≡ declared_group (model m.now) holder (key (model m.now) feature) }
 {
-    let count = e.len() / E_NUMBERS;
-    let mut i: usize = 0;
-    while i < count {
-        if is_declared_group(bytes, n, e, holder, feature, i) {
-            return Found::At(i);
+    for i in 0..m.e.len() / E_NUMBERS {
+        if is_declared_group(m, holder, feature, i) {
+            return Some(i);
         }
-        i += 1;
     }
-    Found::Nothing
+    None
 }
 
 // The group that the classifier of E row i asks for: where it names no package, from the component's.
-fn classifier(e: &[u32], i: usize, component_package: u32) -> Asked
-    ensures { ((o : Tables) (component : ℕ) →
-        let m : Tables = with_e e.now o in
-        component_package ≡ c_package m component → expanded_at m result ≡ classifier_by (present (e_classifier m i).type) m component (e_classifier m i)) }
+#[tactic(auto, using(crate::proofs::Steps::classifier_steps))]
+fn classifier(m: &Tables, i: usize, component: u32) -> Option<Group>
+    ensures { expanded_at (model m.now) result ≡ declared_by (model m.now) component (some i) }
 {
-    let type_name = declared::type_of(e, i);
+    let Reference {
+        package,
+        type_name,
+        ..
+    } = declared::classifier_of(m, i);
     if type_name == MISSING {
-        return Asked::NoGroup;
+        return None;
     }
-    let package = declared::package_of(e, i);
     if package == MISSING {
-        return Asked::Group {
-            package: component_package,
-            type_name: type_name,
-        };
+        let package = component::package_of(m, component as usize);
+        return Some(Group { package, type_name });
     }
-    Asked::Group {
-        package: package,
-        type_name: type_name,
-    }
+    Some(Group { package, type_name })
 }
 
 // The group that a feature of a component stands for. The component must have a group of that name, and its type must declare one: the classifier there
 // names the group type.
-pub fn endpoint(
-    bytes: &[u8],
-    n: &[u32],
-    c: &[u32],
-    f: &[u32],
-    p: &[u32],
-    i: &[u32],
-    t: &[u32],
-    q: &[u32],
-    u: &[u32],
-    e: &[u32],
-    r: &[u32],
-    component: u32,
-    feature: u32,
-) -> Asked
-    ensures { ((o : Tables) →
-        let m : Tables = packages_at bytes n p i t q u r (with_c c.now (with_f f.now (with_e e.now o))) in
-        expanded_at m result ≡ the_endpoint m component feature) }
+#[tactic(auto, using(crate::proofs::Steps::endpoint_steps))]
+pub fn endpoint(m: &Tables, component: u32, feature: u32) -> Option<Group>
+    ensures { expanded_at (model m.now) result ≡ the_endpoint (model m.now) component feature }
 {
-    if !has_group_feature(bytes, n, f, component, feature) {
-        return Asked::NoGroup;
+    if !has_group_feature(m, component, feature) {
+        return None;
     }
     let row = component as usize;
-    let package = component::package_of(c, row);
-    let found = resolver::resolve_classifier(
-        bytes,
-        n,
-        p,
-        i,
-        t,
-        q,
-        u,
-        r,
+    let package = component::package_of(m, row);
+    let type_name = component::type_of(m, row);
+    let own_type = Reference {
         package,
-        package,
-        component::type_of(c, row),
-        MISSING,
-    );
-    match found {
-        Resolved::ComponentType {
-            package: _,
-            row: holder,
-        } => match declared_group(bytes, n, e, holder, feature) {
-            Found::At(j) => classifier(e, j, package),
-            Found::Nothing => Asked::NoGroup,
-        },
-        Resolved::ComponentImpl { package: _, row: _ } => Asked::NoGroup,
-        Resolved::GroupType { package: _, row: _ } => Asked::NoGroup,
-        Resolved::Unresolved => Asked::NoGroup,
+        type_name,
+        implementation: MISSING,
+    };
+    match resolver::resolve_classifier(m, package, own_type)? {
+        Classifier::ComponentType { row, .. } => {
+            classifier(m, declared_group(m, row, feature)?, component)
+        }
+        Classifier::ComponentImpl { .. } | Classifier::GroupType { .. } => None,
     }
 }

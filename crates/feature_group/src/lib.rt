@@ -2,164 +2,108 @@
 #![tactic(auto)]
 
 ghost use Rattle.std.specs.Prelude.{◌≡◌, [], suc, ◌/◌, length};
-ghost use Rattle.lent.specs.Lent.{tables_at};
 ghost use Rattle.as5506.specs.Groups.{depth_limit};
 ghost use Rattle.as5506.specs.Listing.{expansion_within};
-ghost use Rattle.as5506.specs.Layout.{feature_numbers, expansion_numbers};
-ghost use Rattle.lent.specs.Answered.{AnswerIn};
-ghost use Rattle.links.specs.Walk.{groups_in, visit_link};
-ghost use Rattle.feature_group.specs.Answer.{expanded, answer_for, ExpandedInto};
+ghost use Rattle.as5506.specs.Layout.{feature_numbers};
+ghost use Rattle.lent.specs.Model.{model};
+ghost use Rattle.links.specs.Walk.{groups_of, visit_link};
+ghost use Rattle.feature_group.specs.Answer.{answer_for, Gives, ExpandedInto};
 
-use as5506::{FEATURE_NUMBERS, MISSING, Refusal};
-use group_walk::{LEVELS, Walked};
-use sink::{Purpose, Tally};
-use tables::Checked;
+use as5506::{FEATURE_NUMBERS, MISSING, Reason, Refusal, TABLE_ROWS};
+use columns::Reference;
+use group_walk::{LEVELS, Walk};
+use lent::Tables;
+use links::Links;
+use sink::{Path, Purpose, Sink, Tally};
 
-// How many features were written and how many visits were made, or why none were.
+// How many features were written and how many visits were made.
 #[derive(Clone, Copy)]
-pub enum Expanded {
-    Features(usize, u32),
-    Refused(Refusal),
+pub struct Expanded {
+    pub features: usize,
+    pub visits: u32,
 }
 
 // Writes the features of the group that a link means. On a refusal the output holds anything.
-fn write_features(
-    e: &[u32],
-    nested: &[u32],
-    extends: &[u32],
-    inverses: &[u32],
-    bytes: &[u8],
-    n: &[u32],
+fn write_features<'a>(
+    m: &'a Tables<'a>,
+    links: &'a Links<'a>,
     out: &mut [u32],
     to: u32,
     inverse: bool,
-) -> Expanded
-    ensures value { result ≡ expanded (expansion_within (length out.old / feature_numbers) (visit_link (groups_in e.now nested.now extends.now inverses.now) (suc depth_limit) to inverse [])) }
-    ensures answer_in { AnswerIn expansion_numbers (expansion_within (length out.old / feature_numbers) (visit_link (groups_in e.now nested.now extends.now inverses.now) (suc depth_limit) to inverse [])) out.old out.new }
+) -> Result<Expanded, Refusal>
+    ensures { Gives
+        (expansion_within (length out.old / feature_numbers) (visit_link (groups_of (model m.now) links.now) (suc depth_limit) to inverse []))
+        out.old result out.new }
 {
-    // The purpose uses only `out` and `calm`; a walk asks for the other three, so they have one place each.
-    let kept = [0u32; 1];
-    let mut memo = [0u32; 1];
-    let mut notes = [0u32; 1];
-    let mut calm = [0u32; 45056];
-    let start = Tally { used: 0, noted: 0 };
-    match group_walk::visit(
-        e,
-        nested,
-        extends,
-        inverses,
-        bytes,
-        n,
-        &kept,
-        &mut memo,
+    // The purpose uses only `out`; a walk asks for the other two, which are empty.
+    let mut sink = Sink {
+        memo: &mut [],
         out,
-        &mut notes,
-        &mut calm,
-        Purpose::All,
-        to,
-        inverse,
-        [0u32; 11],
-        0,
-        LEVELS,
-        start,
-        0,
-    ) {
-        Walked::Over => Expanded::Refused(as5506::unplaced(13)),
-        Walked::Done { tally, visits } => {
-            if out.len() < tally.used {
-                return Expanded::Refused(as5506::unplaced(11));
-            }
-            let count = tally.used / FEATURE_NUMBERS;
-            Expanded::Features(count, visits)
-        }
+        notes: &mut [],
+        tally: Tally { used: 0, noted: 0 },
+    };
+    let mut calm = [0u32; TABLE_ROWS * LEVELS];
+    let walk = Walk {
+        tables: m,
+        links,
+        purpose: Purpose::All,
+    };
+    let Some(visits) = walk.visit(&mut sink, &mut calm, to, inverse, &Path::new(), LEVELS, 0) else {
+        return Err(Refusal::from(Reason::Visits));
+    };
+    let used = sink.tally.used;
+    if sink.out.len() < used {
+        return Err(Refusal::from(Reason::Rows));
     }
+    Ok(Expanded {
+        features: used / FEATURE_NUMBERS,
+        visits,
+    })
 }
 
 // Checks the tables, then writes the features. On a refusal the output holds anything.
 fn expand(
-    bytes: &[u8],
-    n: &[u32],
-    c: &[u32],
-    f: &[u32],
-    x: &[u32],
-    p: &[u32],
-    i: &[u32],
-    t: &[u32],
-    q: &[u32],
-    u: &[u32],
-    e: &[u32],
-    r: &[u32],
-    m: &[u32],
+    m: &Tables,
     out: &mut [u32],
     from: u32,
     type_name: u32,
     inverse: bool,
-) -> Expanded
-    ensures value { result ≡ expanded (answer_for (tables_at bytes n c f x p i t q u e r m) out.old from type_name inverse) }
-    ensures answer_in { AnswerIn expansion_numbers (answer_for (tables_at bytes n c f x p i t q u e r m) out.old from type_name inverse) out.old out.new }
+) -> Result<Expanded, Refusal>
+    ensures { Gives (answer_for (model m.now) out.old from type_name inverse) out.old result out.new }
 {
-    if let Checked::Refused(reason) = tables::check_tables(
-        bytes, n, c, f, x, p, i, t, q, u, e, r, m,
-    ) {
-        return Expanded::Refused(reason);
-    }
-    let mut nested = [0u32; 4096];
-    let mut extends = [0u32; 4096];
-    let mut inverses = [0u32; 4096];
-    links::link_groups(
-        bytes,
-        n,
-        p,
-        i,
-        t,
-        q,
-        u,
-        e,
-        r,
-        &mut nested,
-        &mut extends,
-        &mut inverses,
-    );
-    let to = links::link(
-        bytes, n, p, i, t, q, u, r, from, MISSING, type_name, MISSING,
-    );
-    write_features(e, &nested, &extends, &inverses, bytes, n, out, to, inverse)
+    tables::check_tables(m)?;
+    let mut nested = [0u32; TABLE_ROWS];
+    let mut extends = [0u32; TABLE_ROWS];
+    let mut inverses = [0u32; TABLE_ROWS];
+    links::link_groups(m, &mut nested, &mut extends, &mut inverses);
+    let links = Links {
+        nested: &nested,
+        extends: &extends,
+        inverse: &inverses,
+    };
+    let group = Reference {
+        package: MISSING,
+        type_name,
+        implementation: MISSING,
+    };
+    write_features(m, &links, out, links::link(m, from, group), inverse)
 }
 
 // The features of a group type, given by its name and the name of the package to ask from; with the inverse flag or without. The output holds
 // them from the front, and zeros behind; on a refusal, zeros.
 pub fn expand_feature_group(
-    bytes: &[u8],
-    n: &[u32],
-    c: &[u32],
-    f: &[u32],
-    x: &[u32],
-    p: &[u32],
-    i: &[u32],
-    t: &[u32],
-    q: &[u32],
-    u: &[u32],
-    e: &[u32],
-    r: &[u32],
-    m: &[u32],
+    m: &Tables,
     out: &mut [u32],
     from: u32,
     type_name: u32,
     inverse: bool,
-) -> Expanded
-    ensures { ExpandedInto
-        (tables_at bytes n c f x p i t q u e r m)
-        out.old from type_name inverse result out.new }
+) -> Result<Expanded, Refusal>
+    ensures { ExpandedInto (model m.now) out.old from type_name inverse result out.new }
 {
-    lent::clear_numbers(out);
-    let answer = expand(
-        bytes, n, c, f, x, p, i, t, q, u, e, r, m, out, from, type_name, inverse,
-    );
-    match answer {
-        Expanded::Features(_, _) => answer,
-        Expanded::Refused(_) => {
-            lent::clear_numbers(out);
-            answer
-        }
+    out.fill(0);
+    let answer = expand(m, out, from, type_name, inverse);
+    if answer.is_err() {
+        out.fill(0);
     }
+    answer
 }

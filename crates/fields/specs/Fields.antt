@@ -1,11 +1,14 @@
 -- What the contracts of this crate say beside the definition's fields (as5506, Fields): how the code holds a field and its columns. Assumes nothing.
-use Rattle.std.specs.Prelude.{Bool, true, false, ◌&&◌, List, [], ◌∷◌, ℕ, zero, suc, ◌+◌, ◌*◌, ◌/◌, ◌%◌, ◌<◌, eqb, ltb}
+use Rattle.std.specs.Prelude.{Bool, true, false, ◌&&◌, List, map, ℕ, ◌*◌, ◌<◌, ltb, Option}
+use Rattle.std.specs.Bool.{then_some}
 use Rattle.as5506.specs.Lists.{all_of}
 use Rattle.as5506.specs.Tables.{two_to32}
-use Rattle.as5506.specs.Columns.{Column, needed, optional, long, anything, field_bytes}
+use Rattle.as5506.specs.Columns.{Column, needed, optional, long, anything}
 use Rattle.as5506.specs.Fields.{digit, decimal_from, Field, value, dash, bad}
 use Rattle.fields.specs.declared.Field.{Field as Read}
 use Rattle.fields.specs.declared.Field.TheVariants.{Value, Dash, Bad}
+use Rattle.fields.specs.declared.Mark.{Mark}
+use Rattle.fields.specs.declared.Mark.TheVariants.{Needed, Optional, Long}
 
 -- the definition's field that the code's field stands for
 abbrev pub shown : Read → Field
@@ -19,38 +22,27 @@ Short (value v) = v < two_to32
 Short dash = Unit {0}
 Short bad = Unit {0}
 
--- the number v where the test holds
-abbrev pub value_if : Bool → ℕ → Field
-value_if true v = value v
-value_if false v = bad
-
 -- the number of 64 bits at most that digits continue v to
-abbrev pub spelt : ℕ → List ℕ → Field
-spelt v s = value_if (all_of digit s && ltb (decimal_from v s) (two_to32 * two_to32)) (decimal_from v s)
+abbrev pub spelt : ℕ → List ℕ → Option ℕ
+spelt v s = then_some (all_of digit s && ltb (decimal_from v s) (two_to32 * two_to32)) (decimal_from v s)
 
--- ---- a mark for each field: 0 it must be there, 1 it may be missing, 2 it is long
+-- a column of a mark, whatever it means
+abbrev pub column : Mark → Column
+column Needed = needed 6 anything
+column Optional = optional 6 anything
+column Long = long 20
 
--- a column of a mark; of what it means the form of a field tells nothing
-abbrev pub column : ℕ → Column
-column zero = needed 6 anything
-column (suc zero) = optional 6 anything
-column (suc (suc k)) = long 20
+abbrev pub columns_of : List Mark → List Column
+columns_of marks = map column marks
 
--- n columns, by the digits of `marks` to the base 16
-unfoldable pub columns_by : ℕ → ℕ → List Column
-columns_by zero marks = []
-columns_by (suc n) marks = column (marks % 16) ∷ columns_by n (marks / 16)
+-- whether a field of a mark is held in one number
+abbrev pub is_short : Mark → Bool
+is_short Needed = true
+is_short Optional = true
+is_short Long = false
 
--- the marks of columns, as such digits
-abbrev pub mark_of : Column → ℕ
-mark_of (needed b w) = 0
-mark_of (optional b w) = 1
-mark_of (long b) = 2
-
-unfoldable pub marks_of : List Column → ℕ
-marks_of [] = 0
-marks_of (c ∷ cs) = mark_of c + 16 * marks_of cs
-
--- whether a column takes as many bytes as its mark says
-abbrev pub is_sized : Column → Bool
-is_sized c = eqb (field_bytes c) (field_bytes (column (mark_of c)))
+-- a column without what it means: of that the form of a field tells nothing
+abbrev pub plain : Column → Column
+plain (needed b w) = needed b anything
+plain (optional b w) = optional b anything
+plain (long b) = long b

@@ -1,216 +1,176 @@
-// The fields of a sheet's line, of any letter: how many there are, which may be missing and which are long are data, a mark for each. For the reader
-// (crate sheet) and its trials. Definitions: as5506, Columns and Fields; specs/Fields.antt says how the code holds a field and its columns.
+// The fields of a sheet's line, of any letter: which may be missing and which are long is data, a mark for each. For the reader (crate sheet) and its
+// trials. Definitions: as5506, Columns and Fields; specs/Fields.antt says how the code holds a field and its columns.
 #![tactic(auto)]
 
-ghost use Rattle.std.specs.Prelude.{◌≡◌, false, ◌+◌, ◌≤◌, ◌<◌, length, drop};
+ghost use Rattle.std.specs.Prelude.{◌≡◌, true, false, ◌+◌, ◌≤◌, length, drop};
+ghost use Rattle.std.specs.Bool.{then_some};
 ghost use Rattle.std.proofs.lemmas.List.Edits.{sets};
-ghost use Rattle.as5506.specs.Lists.{same_bytes, bytes_of};
 ghost use Rattle.as5506.specs.Columns.{field_bytes, field_cells, line_bytes, row_cells};
-ghost use Rattle.as5506.specs.Fields.{unspaced, is_number, field_by, field_of, fits, number_of, long_numbers, numbers_of, fields_fit, field_numbers};
-ghost use Rattle.fields.specs.Fields.{shown, Short, spelt, column, columns_by};
+ghost use Rattle.as5506.specs.Fields.{unspaced, decimal_from, is_number, field_of, fits, number_of, long_numbers, numbers_of, fields_fit, field_numbers};
+ghost use Rattle.fields.specs.Fields.{shown, Short, spelt, column, columns_of, is_short};
+
+// What a field may be.
+#[derive(Clone, Copy)]
+pub enum Mark {
+    // A number of six columns.
+    Needed,
+    // The same, or missing.
+    Optional,
+    // A number of twenty columns, or missing.
+    Long,
+}
 
 // What the columns of a field say: a number, a lone `-`, or something against the sheet's rules.
 #[derive(Clone, Copy)]
-pub enum Field {
+enum Field {
     Value(u64),
     Dash,
     Bad,
 }
 
-// The largest number, of which one more is refused, and a tenth of it: a larger one has no digit more.
-const LARGEST: u64 = 18446744073709551615;
-
-const TENTH: u64 = 1844674407370955161;
-
 // What the high number of a long field counts.
 const TWO_TO_32: u64 = 4294967296;
 
-// The mark of a long field; 0 is a field that must be there, 1 one that may be missing.
-const LONG: usize = 2;
-
-// How many spaces stand in front.
-fn spaces(f: &[u8]) -> usize
-    ensures { (result ≤ length f.now) × (drop result f.now ≡ unspaced f.now) }
-{
-    let mut i = 0;
-    while i < f.len() {
-        if f[i] != b' ' {
-            return i;
+impl Mark {
+    // The columns of a line that a field takes.
+    fn columns(self) -> usize
+        ensures { result ≡ field_bytes (column self) }
+    {
+        match self {
+            Mark::Needed | Mark::Optional => 6,
+            Mark::Long => 20,
         }
-        i += 1;
     }
-    i
 }
 
-// The number that the bytes from `from` on spell, where all are digits and it has 64 bits at most.
-fn digits(f: &[u8], from: usize) -> Field
-    requires { from ≤ length f.now }
-    ensures { shown result ≡ spelt 0 (drop from f.now) }
+// What follows the spaces in front.
+#[tactic(auto, using(crate::proofs::Laws::space_laws))]
+fn unspaced(f: &[u8]) -> &[u8]
+    ensures { result.now ≡ unspaced f.now }
+{
+    let mut rest = f;
+    while let [b' ', more @ ..] = rest {
+        rest = more;
+    }
+    rest
+}
+
+// The number that bytes spell, where all are digits and it has 64 bits at most.
+#[tactic(auto, using(crate::proofs::Laws::digit_laws))]
+fn digits(s: &[u8]) -> Option<u64>
+    ensures { result ≡ spelt 0 s.now }
 {
     let mut v: u64 = 0;
-    let mut i = from;
-    while i < f.len() {
-        let b = f[i];
-        if b < b'0' {
-            return Field::Bad;
+    for b in s {
+        if !b.is_ascii_digit() {
+            return None;
         }
-        if b'9' < b {
-            return Field::Bad;
-        }
-        if TENTH < v {
-            return Field::Bad;
-        }
-        let d = (b - b'0') as u64;
-        if LARGEST - v * 10 < d {
-            return Field::Bad;
-        }
-        v = v * 10 + d;
-        i += 1;
+        v = v.checked_mul(10)?.checked_add((*b - b'0') as u64)?;
     }
-    Field::Value(v)
+    Some(v)
 }
 
-// The same where there is a digit at all, and a 0 in front stands alone.
-fn decimal(f: &[u8], from: usize) -> Field
-    requires { from ≤ length f.now }
-    ensures { shown result ≡ field_by false (is_number (drop from f.now)) (drop from f.now) }
+// The same where there is a digit at all, and a 0 in front stands alone: a number that stands by itself, without columns, as an argument of a program.
+#[tactic(auto, using(crate::proofs::Laws::number_laws))]
+pub fn number_in(s: &[u8]) -> Option<u64>
+    ensures { result ≡ then_some (is_number s.now) (decimal_from 0 s.now) }
 {
-    if from == f.len() {
-        return Field::Bad;
-    }
-    if f[from] != b'0' {
-        return digits(f, from);
-    }
-    if from + 1 == f.len() {
-        return digits(f, from);
-    }
-    Field::Bad
-}
-
-// A number that stands by itself, without columns: an argument of a program.
-pub fn number_in(s: &[u8]) -> Field
-    ensures { shown result ≡ field_by false (is_number s.now) s.now }
-{
-    decimal(s, 0)
-}
-
-// A lone `-`: whether it is all that stands from `from` on.
-fn is_dash(f: &[u8], from: usize) -> bool
-    requires { from ≤ length f.now }
-    ensures { result ≡ same_bytes (drop from f.now) (bytes_of "-") }
-{
-    if f.len() - from == 1 {
-        f[from] == b'-'
-    } else {
-        false
+    match s {
+        [] | [b'0', _, ..] => None,
+        _ => digits(s),
     }
 }
 
 // A field, of however many columns.
+#[tactic(auto, using(crate::proofs::Laws::field_laws))]
 fn field_of(f: &[u8]) -> Field
     ensures { shown result ≡ field_of f.now }
 {
-    let from = spaces(f);
-    if is_dash(f, from) {
-        return Field::Dash;
-    }
-    decimal(f, from)
-}
-
-// The columns of a line that a field takes, by its mark.
-fn columns_of(mark: usize) -> usize
-    ensures { result ≡ field_bytes (column mark) }
-{
-    if mark < LONG { 6 } else { 20 }
-}
-
-// "missing, allowed only in fields marked ?": whether a field keeps the rules, by its mark.
-fn field_fits(f: Field, mark: usize) -> bool
-    ensures { result ≡ fits (column mark) (shown f) }
-{
-    match f {
-        Field::Value(_) => true,
-        Field::Dash => mark != 0,
-        Field::Bad => false,
+    match unspaced(f) {
+        b"-" => Field::Dash,
+        s => number_in(s).map_or(Field::Bad, Field::Value),
     }
 }
 
-// The number that a table holds for a field that is not long.
-fn field_number(f: Field) -> u32
-    requires { Short (shown f) }
-    ensures { result ≡ number_of (shown f) }
-{
-    match f {
-        Field::Value(v) => v as u32,
-        Field::Dash => as5506::MISSING,
-        Field::Bad => 0,
+impl Field {
+    // "missing, allowed only in fields marked ?": whether a field keeps the rules.
+    fn fits(self, mark: Mark) -> bool
+        ensures { result ≡ fits (column mark) (shown self) }
+    {
+        match (self, mark) {
+            (Field::Bad, _) | (Field::Dash, Mark::Needed) => false,
+            _ => true,
+        }
+    }
+
+    // The number that a table holds for a field that is not long.
+    fn number(self) -> u32
+        requires { Short (shown self) }
+        ensures { result ≡ number_of (shown self) }
+    {
+        match self {
+            Field::Value(v) => v as u32,
+            Field::Dash => as5506::MISSING,
+            Field::Bad => 0,
+        }
+    }
+
+    // The numbers that it holds for a long one: present, high, low.
+    fn long_numbers(self) -> [u32; 3]
+        ensures { result ≡ long_numbers (shown self) }
+    {
+        match self {
+            Field::Value(v) => [1, (v / TWO_TO_32) as u32, (v % TWO_TO_32) as u32],
+            Field::Dash | Field::Bad => [0, 0, 0],
+        }
+    }
+
+    // Writes the numbers of a field to `table` from index `at` on, and gives the index behind them.
+    fn put(self, mark: Mark, table: &mut [u32], at: usize) -> usize
+        requires { (is_short mark ≡ true → Short (shown self)) × (at + field_cells (column mark) ≤ length table.old) }
+        ensures { (result ≡ at + field_cells (column mark)) × (table.new ≡ sets table.old at (numbers_of (column mark) (shown self))) }
+    {
+        match mark {
+            Mark::Long => {
+                lent::put_all(table, at, &self.long_numbers());
+                at + 3
+            }
+            Mark::Needed | Mark::Optional => {
+                table[at] = self.number();
+                at + 1
+            }
+        }
     }
 }
 
-// The numbers that it holds for a long one: present, high, low.
-fn long_numbers(f: Field) -> [u32; 3]
-    ensures { result ≡ long_numbers (shown f) }
+// Whether the fields behind a line's letter keep the rules of their marks.
+#[tactic(auto, using(crate::proofs::Laws::fit_laws))]
+pub fn fields_fit(fields: &[u8], marks: &[Mark]) -> bool
+    requires { length fields.now ≡ line_bytes (columns_of marks.now) }
+    ensures { result ≡ fields_fit (columns_of marks.now) fields.now }
 {
-    match f {
-        Field::Value(v) => [1, (v / TWO_TO_32) as u32, (v % TWO_TO_32) as u32],
-        Field::Dash => [0, 0, 0],
-        Field::Bad => [0, 0, 0],
-    }
-}
-
-// Writes the numbers of a field to `table` from index `at` on, and gives the index behind them.
-fn put_field(f: Field, mark: usize, table: &mut [u32], at: usize) -> usize
-    requires { (mark < 2 → Short (shown f)) × (at + field_cells (column mark) ≤ length table.old) }
-    ensures { (result ≡ at + field_cells (column mark)) × (table.new ≡ sets table.old at (numbers_of (column mark) (shown f))) }
-{
-    if mark < LONG {
-        table[at] = field_number(f);
-        return at + 1;
-    }
-    let numbers = long_numbers(f);
-    lent::put_numbers(table, at, &numbers);
-    at + 3
-}
-
-// Whether the `count` fields behind a line's letter keep the rules. A hexadecimal digit of `marks` is the mark of a field, that of the first one lowest.
-pub fn fields_fit(line: &[u8], count: usize, marks: usize) -> bool
-    requires { length line.now ≡ 1 + line_bytes (columns_by count marks) }
-    ensures { result ≡ fields_fit (columns_by count marks) (drop 1 line.now) }
-{
-    let mut left = count;
-    let mut rest = marks;
-    let mut at = 1;
-    while 0 < left {
-        let mark = rest % 16;
-        let end = at + columns_of(mark);
-        let f = field_of(&line[at..end]);
-        if field_fits(f, mark) {
-            left -= 1;
-            rest = rest / 16;
-            at = end;
-        } else {
+    let mut rest = fields;
+    for mark in marks {
+        let (field, behind) = rest.split_at(mark.columns());
+        if !field_of(field).fits(*mark) {
             return false;
         }
+        rest = behind;
     }
     true
 }
 
-// Writes the numbers of the `count` fields behind a line's letter to `table`, from index `at` on.
-pub fn put_fields(line: &[u8], count: usize, marks: usize, table: &mut [u32], at: usize)
-    requires { (length line.now ≡ 1 + line_bytes (columns_by count marks)) × (at + row_cells (columns_by count marks) ≤ length table.old) }
-    ensures { table.new ≡ sets table.old at (field_numbers (columns_by count marks) (drop 1 line.now)) }
+// Writes the numbers of the fields behind a line's letter to `table`, from index `at` on.
+#[tactic(auto, using(crate::proofs::Laws::put_laws))]
+pub fn put_fields(fields: &[u8], marks: &[Mark], table: &mut [u32], at: usize)
+    requires { (length fields.now ≡ line_bytes (columns_of marks.now)) × (at + row_cells (columns_of marks.now) ≤ length table.old) }
+    ensures { table.new ≡ sets table.old at (field_numbers (columns_of marks.now) fields.now) }
 {
-    let mut left = count;
-    let mut rest = marks;
-    let mut from = 1;
-    let mut i = at;
-    while 0 < left {
-        let mark = rest % 16;
-        let end = from + columns_of(mark);
-        let f = field_of(&line[from..end]);
-        i = put_field(f, mark, table, i);
-        left -= 1;
-        rest = rest / 16;
-        from = end;
+    let mut rest = fields;
+    let mut place = at;
+    for mark in marks {
+        let (field, behind) = rest.split_at(mark.columns());
+        place = field_of(field).put(*mark, table, place);
+        rest = behind;
     }
 }

@@ -10,15 +10,14 @@ use Rattle.as5506.specs.Lists.{each, padded}
 use Rattle.as5506.specs.Tables.{Tables}
 use Rattle.as5506.specs.Groups.{Feature}
 use Rattle.as5506.specs.Rows.{Row, Diag}
-use Rattle.as5506.specs.GroupList.{GroupConnection, group_overrun, overrun, Match, matches_by, matches, match_row, match_diag, full_name, rows_matched, diags_matched}
+use Rattle.as5506.specs.GroupList.{GroupConnection, group_overrun, overrun, Match, matches_by, matches, match_row, match_diag, rows_matched, diags_matched}
 use Rattle.as5506.specs.Layout.{row_numbers, group_block, diag_block}
 use Rattle.as5506.proofs.Laws.{All, all_map, all-of, all-each, each_same, each_append, each-each, each_map, even-length, not-both}
 use Rattle.lent.specs.Append.{Filled, filled, append_all, together}
 use Rattle.lent.proofs.Append.{all_append}
-use Rattle.lent.specs.Lent.{connections_in}
 use Rattle.sink.specs.declared.Tally.{Tally}
-use Rattle.group_match.specs.declared.Matched.{Matched}
-use Rattle.group_match.specs.declared.Matched.TheVariants.{Over, Done}
+use Rattle.std.specs.Prelude.{Some, None}
+use Rattle.std.specs.Prelude.{Option as Answer}
 use Rattle.group_match.specs.Matching.{match_piece, match_pieces, note_pieces, Lists, over, lists, after_by, after, after_all, lists_of}
 use Rattle.group_match.proofs.Loop.{all-over}
 use Rattle.group_names.specs.Pairs.{Pair, pair_rows, rows_of_pairs}
@@ -87,21 +86,21 @@ module _ (ms : List Match) (rows notes : Filled) where
   done-by true rows₁ notes₁ e = absurd (not-both is_over over (lists rows₁ notes₁) (sym e) tt refl)
   done-by false rows₁ notes₁ e = (refl, ap (rows_or rows₁) e, ap (notes_or notes₁) e)
 
-module _ (m : Tables) (bs : List GroupConnection) (rows notes rows₁ notes₁ : List ℕ) (z : Matched)
+module _ (m : Tables) (bs : List GroupConnection) (rows notes rows₁ notes₁ : List ℕ) (z : Answer Tally)
     (e : lists_of z rows₁ notes₁ ≡ after_all m bs (lists (filled rows 0) (filled notes 0))) where
   whole : lists_of z rows₁ notes₁ ≡ after_by (overrun bs) (matches m bs) (filled rows 0) (filled notes 0)
   whole = e ∙ after-all m bs (filled rows 0) (filled notes 0)
 
-  pub told_over : z ≡ Over → overrun bs ≡ true
+  pub told_over : z ≡ None → overrun bs ≡ true
   unfolding lists_of
-  told_over h = over_by (matches m bs) (filled rows 0) (filled notes 0) (overrun bs) (subst (λ (y : Matched). lists_of y rows₁ notes₁ ≡ after_by (overrun bs) (matches m bs) (filled rows 0) (filled notes 0)) h whole)
+  told_over h = over_by (matches m bs) (filled rows 0) (filled notes 0) (overrun bs) (subst (λ (y : Answer Tally). lists_of y rows₁ notes₁ ≡ after_by (overrun bs) (matches m bs) (filled rows 0) (filled notes 0)) h whole)
 
-  pub told-done : (t : Tally) → z ≡ Done t
+  pub told-done : (t : Tally) → z ≡ Some t
       → (overrun bs ≡ false) × (filled rows₁ t.used ≡ append_all (match_pieces (matches m bs)) (filled rows 0)) × (filled notes₁ t.noted ≡ append_all (note_pieces (matches m bs)) (filled notes 0))
   unfolding lists_of
   told-done t h =
       done-by (matches m bs) (filled rows 0) (filled notes 0) (overrun bs) (filled rows₁ t.used) (filled notes₁ t.noted)
-      (subst (λ (y : Matched). lists_of y rows₁ notes₁ ≡ after_by (overrun bs) (matches m bs) (filled rows 0) (filled notes 0)) h whole)
+      (subst (λ (y : Answer Tally). lists_of y rows₁ notes₁ ≡ after_by (overrun bs) (matches m bs) (filled rows 0) (filled notes 0)) h whole)
 
 -- ---- the matches that have a partner
 
@@ -138,17 +137,10 @@ module _ (m : Tables) where
   pair_row b s none = refl
   pair_row b s (some d) = refl
 
-  -- names and connections are all that rows ask for
-  pair-seen : (p : Pair) → pair_rows (connections_in m.bytes m.n m.x) p ≡ pair_rows m p
-  unfolding pair_rows match_row full_name
-  pair-seen p = refl
-
-  pub rows-of-pairs : (ms : List Match) → rows_of_pairs (connections_in m.bytes m.n m.x) (pairs_of ms) ≡ rows_matched m ms
+  pub rows-of-pairs : (ms : List Match) → rows_of_pairs m (pairs_of ms) ≡ rows_matched m ms
   unfolding rows_of_pairs pairs_of rows_matched
   rows-of-pairs ms =
-      each_same (pair_rows (connections_in m.bytes m.n m.x)) (pair_rows m) (pairs_of ms)
-      (all-of (λ (p : Pair). pair_rows (connections_in m.bytes m.n m.x) p ≡ pair_rows m p) pair-seen (pairs_of ms))
-      ∙ each-each (pair_rows m) (λ (p : Match). pair_by p.connection p.feature p.partner) ms
+      each-each (pair_rows m) (λ (p : Match). pair_by p.connection p.feature p.partner) ms
       ∙ each_same (λ (p : Match). each (pair_rows m) (pair_by p.connection p.feature p.partner)) (λ (p : Match). match_row m p.connection p.feature p.partner) ms
       (all-of (λ (p : Match). each (pair_rows m) (pair_by p.connection p.feature p.partner) ≡ match_row m p.connection p.feature p.partner) (λ p. pair_row p.connection p.feature p.partner) ms)
 

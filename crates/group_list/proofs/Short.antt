@@ -155,7 +155,7 @@ past-short bytes n k h =
     let none : n_length n k ≡ 0 = get_or-eq_default n 0 {n = k * 2 + 1} (omega (arith, h)) in
     subst (λ (l : ℕ). length (take l (drop (n_start n k) bytes)) ≤ 63) (sym none) (omega arith)
 
-pub names-short : (m : Tables) → T (accepted m) → ShortNames m.bytes m.n
+pub names-short : (m : Tables) → T (accepted m) → ShortNames m
 names-short m ok k = go (dec_lt k (count m letter_n))
   where
     go : Dec (k < count m letter_n) → length (name_in m.bytes m.n k) ≤ 63

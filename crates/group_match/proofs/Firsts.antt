@@ -9,6 +9,7 @@ use lib.Dec.{eqb}
 use lib.ListN.{length, get_or, set, length-set}
 use borrow.Author.Tests.{eqb-true, eqb-false}
 use Rattle.as5506.specs.Lists.{keep, put_if, first_of}
+use Rattle.as5506.specs.Tables.{Tables}
 use Rattle.as5506.specs.Groups.{Feature}
 use Rattle.as5506.specs.Layout.{feature_block}
 use Rattle.as5506.proofs.Laws.{All}
@@ -17,25 +18,17 @@ use Rattle.lent.proofs.Sets.{placed}
 use Rattle.sink.specs.declared.Purpose.TheVariants.{First}
 use Rattle.sink.specs.Take.{Held, first_by, taken}
 use Rattle.group_walk.specs.Run.{take_all}
+use Rattle.group_match.specs.Firsts.{firsts_by, firsts}
 use Rattle.group_match.proofs.Range.{Fine}
-
--- the features whose name has not come yet, after the names that memo marks
-unfoldable pub firsts_by : Bool → Feature → List Feature → List Feature → List Feature
-firsts_by true f new old = f ∷ new
-firsts_by false f new old = old
-
-unfoldable pub firsts : List ℕ → List Feature → List Feature
-firsts memo [] = []
-firsts memo (f ∷ fs) = firsts_by (eqb (get_or memo f.name 0) 0) f (firsts (set memo f.name 1) fs) (firsts memo fs)
 
 -- ---- a walk writes their blocks
 
-module _ (bytes n kept : List ℕ) where
+module _ (m : Tables) where
   abbrev Wrote : List Feature → Held → List Feature → Type 0
-  Wrote fs h gs = (take_all (taken First bytes n kept) fs h).out ≡ append_all (map feature_block gs) h.out
+  Wrote fs h gs = (take_all (taken First m) fs h).out ≡ append_all (map feature_block gs) h.out
 
   wrote_by : (b : Bool) (f : Feature) (fs : List Feature) (h : Held) → ((h : Held) → Wrote fs h (firsts h.memo fs))
-      → (take_all (taken First bytes n kept) fs (first_by b f h)).out
+      → (take_all (taken First m) fs (first_by b f h)).out
       ≡ append_all (map feature_block (firsts_by b f (firsts (set h.memo f.name 1) fs) (firsts h.memo fs))) h.out
   unfolding first_by firsts_by append_all
   wrote_by true f fs h rest = rest (record { memo = set h.memo f.name 1; out = append (feature_block f) h.out; notes = h.notes })

@@ -1,24 +1,21 @@
 -- What group connections leave in the outputs of matches and of diagnostics. Assumes nothing.
-use Rattle.std.specs.Prelude.{Bool, true, false, ◌||◌, ◌≡◌, List, [], ◌∷◌, map, ℕ, suc}
+use Rattle.std.specs.Prelude.{Bool, true, false, ◌||◌, ◌≡◌, List, [], ◌∷◌, map, ℕ, suc, Some, None}
+use Rattle.std.specs.Prelude.{Option as Answer}
 use Rattle.std.proofs.Math.Option.{Option, none, some}
 use Rattle.as5506.specs.Lists.{each, when}
-use Rattle.as5506.specs.Tables.{Tables, present, source, destination}
+use Rattle.as5506.specs.Tables.{Tables, source, destination}
 use Rattle.as5506.specs.Groups.{Feature, Expansion, depth_limit}
 use Rattle.as5506.specs.GroupList.{is_group_connection, end_component, GroupConnection, group_connection, group_connections, group_overrun, Match, matches_by, diags_matched}
 use Rattle.as5506.specs.Layout.{feature_block, diag_block}
 use Rattle.lent.specs.Append.{Filled, filled, append_all}
 use Rattle.links.specs.Walk.{Groups, visit_link}
+use Rattle.sink.specs.declared.Tally.{Tally}
 use Rattle.sink.specs.Take.{match_block}
-use Rattle.group_match.specs.declared.Matched.{Matched}
-use Rattle.group_match.specs.declared.Matched.TheVariants.{Over, Done}
 
-unfoldable pub group_by : Bool → Groups → ℕ → Option Expansion
-group_by true g to = some (visit_link g (suc depth_limit) to false [])
-group_by false g to = none
-
--- the expansion of the group that a link means; missing: there is no group
-unfoldable pub group_at : Groups → ℕ → Option Expansion
-group_at g to = group_by (present to) g to
+-- the expansion of the group that a link means, if there is one
+unfoldable pub group_at : Groups → Answer ℕ → Option Expansion
+group_at g (Some to) = some (visit_link g (suc depth_limit) to false [])
+group_at g None = none
 
 -- a group connection, by its X row, its components and their groups
 abbrev pub between : ℕ → ℕ → ℕ → Option Expansion → Option Expansion → GroupConnection
@@ -62,10 +59,10 @@ unfoldable pub connections_at : Tables → ℕ → List GroupConnection
 connections_at m x = each (connection_at m) (when (is_group_connection m x) x)
 
 -- what an answer tells, with what the slices hold
-unfoldable pub lists_of : Matched → List ℕ → List ℕ → Lists
-lists_of Over rows notes = over
-lists_of (Done t) rows notes = lists (filled rows t.used) (filled notes t.noted)
+unfoldable pub lists_of : Answer Tally → List ℕ → List ℕ → Lists
+lists_of None rows notes = over
+lists_of (Some t) rows notes = lists (filled rows t.used) (filled notes t.noted)
 
 -- what matching the groups of all connections of the tables m answers, and leaves in the outputs
-abbrev pub MatchedInto : Tables → List ℕ → List ℕ → Matched → List ℕ → List ℕ → Type 0
+abbrev pub MatchedInto : Tables → List ℕ → List ℕ → Answer Tally → List ℕ → List ℕ → Type 0
 MatchedInto m rows notes z rows' notes' = lists_of z rows' notes' ≡ after_all m (group_connections m) (lists (filled rows 0) (filled notes 0))

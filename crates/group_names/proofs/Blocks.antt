@@ -2,7 +2,7 @@
 use mathlib.Core.Path.{◌≡◌, refl, sym, ap, ap₂, ◌∙◌}
 use mathlib.Core.List.{List, [], ◌∷◌, ◌++◌, append_assoc}
 use Prim.Native.Nat.{ℕ, ◌+◌, ◌-◌, ◌≤◌, ◌<◌, min}
-use native.Mathlib.Nat.{add-zero, min-le_left, min-eq_left, min-eq_right}
+use native.Mathlib.Nat.{add-zero, min-le_left, min-eq_right}
 use native.Mathlib.Omega.{arith}
 use lib.ListN.{length, take, drop, get_or, length-append, length-replicate, length-take, length-drop}
 use lib.Seq.{sets, take-append_seam, drop_at, length-take-le, get_or-take, get_or-drop}
@@ -94,11 +94,8 @@ module _ (rows : List ℕ) (place : ℕ) where
   name-at = ap (λ (j : ℕ). get_or rows j 0) (sym (add-zero place)) ∙ sym (get_or-drop place rows 0 0)
 
   -- how many names it has, by its number
-  pub prefix-few : (v : ℕ) → v ≡ get_or rows (place + 3) 0 → v < 10 → v ≡ prefix_length (drop place rows)
-  prefix-few v e h = sym (ap (min 10) (get_or-drop place rows 3 0 ∙ sym e) ∙ min-eq_right (omega (arith, h)))
-
-  pub prefix-many : (v : ℕ) → v ≡ get_or rows (place + 3) 0 → 10 ≤ v → 10 ≡ prefix_length (drop place rows)
-  prefix-many v e h = sym (ap (min 10) (get_or-drop place rows 3 0 ∙ sym e) ∙ min-eq_left h)
+  pub prefix-is : (v z : ℕ) → v ≡ get_or rows (place + 3) 0 → z ≡ min 10 v → z ≡ prefix_length (drop place rows)
+  prefix-is v z e k = k ∙ ap (min 10) (e ∙ sym (get_or-drop place rows 3 0))
 
 -- ---- the row in place of the match
 

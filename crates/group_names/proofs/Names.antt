@@ -6,7 +6,7 @@ use Prim.Native.Nat.{ℕ, ◌+◌, ◌*◌, ◌≤◌}
 use native.Mathlib.Omega.{arith}
 use lib.ListN.{length, length-append}
 use Rattle.as5506.specs.Lists.{each}
-use Rattle.as5506.specs.Tables.{Tables, source, destination, name_in, name_of, x_name, x_feat}
+use Rattle.as5506.specs.Tables.{Tables, source, destination, name_of, x_name, x_feat}
 use Rattle.as5506.specs.GroupList.{dotted, full_name, match_row}
 use Rattle.as5506.specs.Listing.{row_names}
 use Rattle.as5506.specs.Layout.{group_block}
@@ -18,20 +18,20 @@ use Rattle.group_names.specs.Pieces.{joined_pieces, feature_names, own_pieces, s
 
 -- ---- joined names
 
-module _ (bytes n : List ℕ) where
+module _ (m : Tables) where
   -- the pieces together are the names joined by dots
-  pub joined-dotted : (k : ℕ) (ks : List ℕ) → together (joined_pieces bytes n k ks) ≡ dotted (name_in bytes n k ∷ map (name_in bytes n) ks)
+  pub joined-dotted : (k : ℕ) (ks : List ℕ) → together (joined_pieces m k ks) ≡ dotted (name_of m k ∷ map (name_of m) ks)
   unfolding joined_pieces dotted
-  joined-dotted k [] = append-nil (name_in bytes n k)
-  joined-dotted k (j ∷ ks) = ap (λ (r : List ℕ). name_in bytes n k ++ (46 ∷ r)) (joined-dotted j ks)
+  joined-dotted k [] = append-nil (name_of m k)
+  joined-dotted k (j ∷ ks) = ap (λ (r : List ℕ). name_of m k ++ (46 ∷ r)) (joined-dotted j ks)
 
   -- no longer than 63 bytes and 64 for each name behind the first
-  pub joined-short : ShortNames bytes n → (k : ℕ) (ks : List ℕ) → length (together (joined_pieces bytes n k ks)) ≤ 63 + 64 * length ks
+  pub joined-short : ShortNames m → (k : ℕ) (ks : List ℕ) → length (together (joined_pieces m k ks)) ≤ 63 + 64 * length ks
   unfolding joined_pieces
-  joined-short h k [] = omega (arith, h k, length-append (name_in bytes n k) [])
+  joined-short h k [] = omega (arith, h k, length-append (name_of m k) [])
   joined-short h k (j ∷ ks) =
-      let rest : List ℕ = together (joined_pieces bytes n j ks) in
-      omega (arith, h k, length-append (name_in bytes n k) (46 ∷ rest), joined-short h j ks)
+      let rest : List ℕ = together (joined_pieces m j ks) in
+      omega (arith, h k, length-append (name_of m k) (46 ∷ rest), joined-short h j ks)
 
 -- ---- the names of a row
 
@@ -42,15 +42,15 @@ three a b c =
 module _ (m : Tables) (p : Pair) where
   own_name : together (own_pieces m p) ≡ dotted (name_of m (x_name m p.conn) ∷ name_of m p.feature.name ∷ [])
   unfolding own_pieces
-  own_name = joined-dotted m.bytes m.n (x_name m p.conn) (p.feature.name ∷ [])
+  own_name = joined-dotted m (x_name m p.conn) (p.feature.name ∷ [])
 
   source_name : together (source_pieces m p) ≡ full_name m source p.conn p.feature
   unfolding source_pieces full_name
-  source_name = joined-dotted m.bytes m.n (x_feat m source p.conn) (feature_names p.feature)
+  source_name = joined-dotted m (x_feat m source p.conn) (feature_names p.feature)
 
   partner-name : together (partner_pieces m p) ≡ full_name m destination p.conn p.partner
   unfolding partner_pieces full_name
-  partner-name = joined-dotted m.bytes m.n (x_feat m destination p.conn) (feature_names p.partner)
+  partner-name = joined-dotted m (x_feat m destination p.conn) (feature_names p.partner)
 
   -- the three names, one behind the other
   pub pair-names : each row_names (pair_rows m p) ≡ together (pair_pieces m p)

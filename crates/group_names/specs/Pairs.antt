@@ -2,7 +2,7 @@
 use Rattle.std.proofs.Math.Option.{none, some}
 use Rattle.std.specs.Prelude.{List, ℕ, ◌≤◌, length}
 use Rattle.as5506.specs.Lists.{each}
-use Rattle.as5506.specs.Tables.{Tables, name_in}
+use Rattle.as5506.specs.Tables.{Tables, name_of}
 use Rattle.as5506.specs.Groups.{Feature}
 use Rattle.as5506.specs.Rows.{Row}
 use Rattle.as5506.specs.GroupList.{match_row}
@@ -23,5 +23,5 @@ unfoldable pub rows_of_pairs : Tables → List Pair → List Row
 rows_of_pairs m ps = each (pair_rows m) ps
 
 -- no name is longer than 63 bytes
-abbrev pub ShortNames : List ℕ → List ℕ → Type 0
-ShortNames bytes n = (k : ℕ) → length (name_in bytes n k) ≤ 63
+abbrev pub ShortNames : Tables → Type 0
+ShortNames m = (k : ℕ) → length (name_of m k) ≤ 63

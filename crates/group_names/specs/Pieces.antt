@@ -1,19 +1,19 @@
 -- The pieces that the names of a row are written in, and a match read back from its block. Assumes nothing.
 use Rattle.std.specs.Prelude.{List, [], ◌∷◌, ◌++◌, ℕ, zero, suc, min, get_or, take, drop}
 use Rattle.as5506.specs.Lists.{each}
-use Rattle.as5506.specs.Tables.{Tables, name_in, source, destination, x_name, x_feat}
+use Rattle.as5506.specs.Tables.{Tables, name_of, source, destination, x_name, x_feat}
 use Rattle.as5506.specs.Groups.{Feature}
 use Rattle.as5506.specs.GroupList.{connection_kind}
 use Rattle.as5506.specs.Layout.{row_numbers, row_block}
 use Rattle.group_names.specs.Pairs.{Pair}
 
 -- a dot and name k
-abbrev pub dot_pieces : List ℕ → List ℕ → ℕ → List (List ℕ)
-dot_pieces bytes n k = (46 ∷ []) ∷ name_in bytes n k ∷ []
+abbrev pub dot_pieces : Tables → ℕ → List (List ℕ)
+dot_pieces m k = (46 ∷ []) ∷ name_of m k ∷ []
 
 -- name k, then each of the names ks behind a dot
-unfoldable pub joined_pieces : List ℕ → List ℕ → ℕ → List ℕ → List (List ℕ)
-joined_pieces bytes n k ks = name_in bytes n k ∷ each (dot_pieces bytes n) ks
+unfoldable pub joined_pieces : Tables → ℕ → List ℕ → List (List ℕ)
+joined_pieces m k ks = name_of m k ∷ each (dot_pieces m) ks
 
 -- the names of a feature behind its group's
 abbrev pub feature_names : Feature → List ℕ
@@ -21,14 +21,14 @@ feature_names f = f.prefix ++ (f.name ∷ [])
 
 -- "connection.feature"
 unfoldable pub own_pieces : Tables → Pair → List (List ℕ)
-own_pieces m p = joined_pieces m.bytes m.n (x_name m p.conn) (p.feature.name ∷ [])
+own_pieces m p = joined_pieces m (x_name m p.conn) (p.feature.name ∷ [])
 
 -- "group.prefix.feature", of the source and of the destination
 unfoldable pub source_pieces : Tables → Pair → List (List ℕ)
-source_pieces m p = joined_pieces m.bytes m.n (x_feat m source p.conn) (feature_names p.feature)
+source_pieces m p = joined_pieces m (x_feat m source p.conn) (feature_names p.feature)
 
 unfoldable pub partner_pieces : Tables → Pair → List (List ℕ)
-partner_pieces m p = joined_pieces m.bytes m.n (x_feat m destination p.conn) (feature_names p.partner)
+partner_pieces m p = joined_pieces m (x_feat m destination p.conn) (feature_names p.partner)
 
 unfoldable pub pair_pieces : Tables → Pair → List (List ℕ)
 pair_pieces m p = own_pieces m p ++ (source_pieces m p ++ partner_pieces m p)

@@ -11,19 +11,17 @@ use lib.Dec.{ltb}
 use lib.ListN.{get_or, set}
 use Rattle.as5506.specs.Lists.{zeros}
 use Rattle.as5506.specs.Followed.{In}
-use Rattle.as5506.specs.Tables.{present}
+use Rattle.as5506.specs.Tables.{Tables, present}
 use Rattle.as5506.specs.Groups.{Feature, Expansion, joined, one_visit}
 use Rattle.as5506.proofs.Laws.{All, all_in, in_all, all-mapped, mapped-all}
 use Rattle.lent.proofs.Sets.{get_or-zeros, placed}
 use Rattle.links.specs.Links.{unfound}
 use Rattle.links.specs.Walk.{Groups, Visit, row_by, walk, rows_in, extended_by, type_by, found_by, visit_link}
 use Rattle.sink.specs.declared.Purpose.{Purpose}
-use Rattle.sink.specs.declared.Tally.{Tally}
-use Rattle.sink.specs.Take.{Held, held, taken}
+use Rattle.sink.specs.Take.{Held, taken}
 use Rattle.sink.specs.Dull.{Bounded, Dull}
 use Rattle.sink.proofs.Dull.{Grown, same, stays, quiet, grows}
-use Rattle.group_walk.specs.declared.Walked.{Walked}
-use Rattle.group_walk.specs.declared.Walked.TheVariants.{Done}
+use Rattle.std.specs.Prelude.{Option, Some}
 use Rattle.group_walk.specs.Run.{Take, take_all, visit_limit, over, going, going_by, run, state_of}
 use Rattle.group_walk.specs.Calm.{Dullness, AllDull, CalmAt, levels, Calm, Passable, CalmAfter}
 use Rattle.group_walk.proofs.Laws.{run-done, all-grow}
@@ -106,8 +104,8 @@ pub record Passing (does : Take) (dull : Dullness) : Type 0 where
   pub quiet : (f : Feature) (h : Held) → (does f h).out.used ≡ h.out.used → (does f h).notes.used ≡ h.notes.used → dull f.name (does f h)
   pub grows : (f : Feature) (h : Held) → Bounded h → Grown h (does f h)
 
-pub passing : (p : Purpose) (bytes n kept : List ℕ) → Passing (taken p bytes n kept) (Dull p bytes n kept)
-passing p bytes n kept = record { same = same bytes n kept p; stays = stays bytes n kept p; quiet = quiet bytes n kept p; grows = grows bytes n kept p }
+pub passing : (p : Purpose) (m : Tables) → Passing (taken p m) (Dull p m)
+passing p m = record { same = same m p; stays = stays m p; quiet = quiet m p; grows = grows m p }
 
 -- with nothing known yet: for callers
 pub passable-zeros : (g : Groups) (dull : Dullness) (h : Held) (n : ℕ) → Bounded h → Passable g dull h (zeros n)
@@ -198,17 +196,14 @@ module _ (does : Take) (dull : Dullness) (law : Passing does dull) where
         here : (u ≡ v) × (b ≡ d) → CalmAt g dull h v d k
         here w = subst (λ (x : ℕ). CalmAt g dull h x d k) w.0 (subst (λ (x : ℕ). CalmAt g dull h u x k) w.1 m)
 
-    module _ (t : Tally) (v : ℕ) (memo out notes : List ℕ) (h : Held) (k u : ℕ) (left : ℕ) (z : left ≡ 0 → ⊥) (l : left ≤ levels) (i : Bool) (p : List ℕ)
-        (e : state_of (Done t v) memo out notes ≡ run does (going h k) (visit_link g left u i p)) where
+    module _ (v : ℕ) (after h : Held) (k u left : ℕ) (z : left ≡ 0 → ⊥) (l : left ≤ levels) (i : Bool) (p : List ℕ)
+        (e : state_of (Some v) after ≡ run does (going h k) (visit_link g left u i p)) where
       abbrev visited : Expansion
       visited = visit_link g left u i p
 
-      abbrev after : Held
-      after = held t memo out notes
-
-      quiet-makes : Bounded h → t.used ≡ h.out.used → t.noted ≡ h.notes.used → Makes after left u (v - k)
+      quiet-makes : Bounded h → after.out.used ≡ h.out.used → after.notes.used ≡ h.notes.used → Makes after left u (v - k)
       quiet-makes b a n j q =
-          let d : (after ≡ take_all does visited.features h) × (v ≡ k + visited.visits) × (k + visited.visits ≤ visit_limit) = run-done does t v memo out notes h k visited e in
+          let d : (after ≡ take_all does visited.features h) × (v ≡ k + visited.visits) × (k + visited.visits ≤ visit_limit) = run-done does v after h k visited e in
           let all : All (λ f. dull f.name (take_all does visited.features h)) visited.features =
           all_quiet visited.features h b (ap (λ (w : Held). w.out.used) (sym d.0) ∙ a) (ap (λ (w : Held). w.notes.used) (sym d.0) ∙ n) in
           let dulls : AllDull dull after visited =
@@ -224,13 +219,12 @@ module _ (does : Take) (dull : Dullness) (law : Passing does dull) where
           let o : suc b - 1 ≡ b = omega arith in
           (c.0, rw o (calm_put after calm u b (v - k) (omega (arith, l)) (makes-at after u b (v - k) m) c.1))
 
-      pub passable-put : (calm : List ℕ) → Bounded h → t.used ≡ h.out.used → t.noted ≡ h.notes.used → Passable g dull after calm
+      pub passable-put : (calm : List ℕ) → Bounded h → after.out.used ≡ h.out.used → after.notes.used ≡ h.notes.used → Passable g dull after calm
           → Passable g dull after (set calm (u * levels + (left - 1)) (v - k))
       passable-put calm b a n c = made-put left z l calm (quiet-makes b a n) c
 
 -- ---- an answer and what is known after it
 
-module _ (g : Groups) (dull : Dullness) (r : Walked) (memo out notes calm : List ℕ) (t : Tally) (v : ℕ) (e : r ≡ Done t v) where
-  pub after-done : CalmAfter r g dull memo out notes calm → Passable g dull (held t memo out notes) calm
-  unfolding CalmAfter
-  after-done c = subst (λ (w : Walked). CalmAfter w g dull memo out notes calm) e c
+pub after-done : (g : Groups) (dull : Dullness) (r : Option ℕ) (h : Held) (calm : List ℕ) (v : ℕ) → r ≡ Some v → CalmAfter r g dull h calm → Passable g dull h calm
+unfolding CalmAfter
+after-done g dull r h calm v e c = subst (λ (w : Option ℕ). CalmAfter w g dull h calm) e c

@@ -4,54 +4,23 @@ use mathlib.Core.Path.{◌≡◌, refl, sym, ap, ap₂, ◌∙◌, subst}
 use mathlib.Core.List.{List, [], ◌∷◌, ◌++◌, map, append-nil}
 use Prim.Native.Nat.{ℕ, zero, suc, ◌+◌, ◌-◌, ◌/◌, ◌≤◌, ◌<◌}
 use native.Mathlib.Nat.{add-zero, add_assoc, sub-zero}
-use native.Mathlib.Numerals.{add-one}
 use native.Mathlib.Omega.{arith}
-use borrow.Author.Tests.{le-leb, lt-leb, leb-true, leb-false, lt-ltb, le-ltb, eq-eqb, ne_eqb, not-true, not-false}
+use borrow.Author.Tests.{le-leb, lt-leb, leb-true, leb-false, lt-ltb, le-ltb}
 use lib.Dec.{eqb, leb, ltb}
-use lib.ListN.{length, get_or, set, take}
-use lib.Seq.{take-suc-set}
+use lib.ListN.{length, get_or}
 use Rattle.as5506.specs.Lists.{span, keep}
 use Rattle.as5506.specs.Tables.{missing, present, width, letter_e, e_holder, e_holder_kind, e_name, e_kind, e_direction, rows_naming}
 use Rattle.as5506.specs.Groups.{Feature, Expansion, joined, one_visit, one_feature, turned}
 use Rattle.as5506.proofs.Laws.{missing-is, present-is}
 use Rattle.as5506.proofs.Scans.{keep-hit, keep-miss, keep-done, keep-both}
-use Rattle.lent.specs.Lent.{declared_in}
-use Rattle.lent.specs.Append.{filled}
 use Rattle.lent.proofs.Append.{front-then}
 use Rattle.links.specs.Links.{unfound}
-use Rattle.links.specs.Walk.{Groups, Visit, feature_at, row_by, walk, rows_in, extended_by, type_by, found_by, visit_link}
-use Rattle.sink.specs.declared.Tally.{Tally}
-use Rattle.sink.specs.Take.{Held, held}
+use Rattle.links.specs.Walk.{declared_in, Groups, Visit, feature_at, row_by, walk, rows_in, extended_by, type_by, found_by, visit_link}
+use Rattle.sink.specs.Take.{Held}
 use Rattle.sink.specs.Dull.{Bounded}
 use Rattle.sink.proofs.Dull.{Grown, grown-nothing, grown-then}
-use Rattle.group_walk.specs.declared.Walked.{Walked}
-use Rattle.group_walk.specs.declared.Walked.TheVariants.{Over, Done}
+use Rattle.std.specs.Prelude.{Option, Some, None}
 use Rattle.group_walk.specs.Run.{Take, take_all, visit_limit, State, over, going, going_by, run, state_of, Behind}
-
--- ---- a direction
-
-turned-other : (d : ℕ) → (d ≡ 0 → ⊥) → (d ≡ 1 → ⊥) → d ≡ turned true d
-unfolding turned
-turned-other zero p q = absurd (p refl)
-turned-other (suc zero) p q = absurd (q refl)
-turned-other (suc (suc d)) p q = refl
-
-module _ (inverse : Bool) (d : ℕ) where
-  pub turn-none : not inverse ≡ true → d ≡ turned inverse d
-  unfolding turned
-  turn-none e = rw (not-true inverse e)
-
-  module _ (e : not inverse ≡ false) where
-    pub turn_in : d ≡ 0 → 1 ≡ turned inverse d
-    unfolding turned
-    turn_in p = rw (not-false inverse e, p)
-
-    pub turn-out : d ≡ 1 → 0 ≡ turned inverse d
-    unfolding turned
-    turn-out p = rw (not-false inverse e, p)
-
-    pub turn-other : (d ≡ 0 → ⊥) → (d ≡ 1 → ⊥) → d ≡ turned inverse d
-    turn-other p q = rw (not-false inverse e) (turned-other d p q)
 
 -- ---- what a state tells
 
@@ -127,14 +96,14 @@ module _ (does : Take) where
   over_by true k H q e = let z : ◌≡◌ {A = ℕ} 0 1 = ap is_going e in absurd (omega arith)
   over_by false k H q e = leb-false k visit_limit q
 
-  pub run-done : (t : Tally) (v : ℕ) (memo out notes : List ℕ) (h : Held) (k : ℕ) (x : Expansion) → state_of (Done t v) memo out notes ≡ run does (going h k) x
-      → (held t memo out notes ≡ take_all does x.features h) × (v ≡ k + x.visits) × (k + x.visits ≤ visit_limit)
+  pub run-done : (v : ℕ) (t h : Held) (k : ℕ) (x : Expansion) → state_of (Some v) t ≡ run does (going h k) x
+      → (t ≡ take_all does x.features h) × (v ≡ k + x.visits) × (k + x.visits ≤ visit_limit)
   unfolding state_of run
-  run-done t v memo out notes h k x e = done-by (leb (k + x.visits) visit_limit) (k + x.visits) v (take_all does x.features h) (held t memo out notes) refl e
+  run-done v t h k x e = done-by (leb (k + x.visits) visit_limit) (k + x.visits) v (take_all does x.features h) t refl e
 
-  pub run-over : (memo out notes : List ℕ) (h : Held) (k : ℕ) (x : Expansion) → state_of Over memo out notes ≡ run does (going h k) x → visit_limit < k + x.visits
+  pub run-over : (t h : Held) (k : ℕ) (x : Expansion) → state_of None t ≡ run does (going h k) x → visit_limit < k + x.visits
   unfolding state_of run
-  run-over memo out notes h k x e = over_by (leb (k + x.visits) visit_limit) (k + x.visits) (take_all does x.features h) refl e
+  run-over t h k x e = over_by (leb (k + x.visits) visit_limit) (k + x.visits) (take_all does x.features h) refl e
 
   -- ---- what every feature keeps of the memory, a walk keeps
 
@@ -145,9 +114,9 @@ module _ (does : Take) where
     all-keep-memory (f ∷ fs) h g = all-keep-memory fs (does f h) (keeps f h g)
 
     -- so does the walk whose answer is known, and its visits are within the limit
-    pub done-good : (r : Walked) (memo out notes : List ℕ) (h : Held) (k : ℕ) (x : Expansion) (t : Tally) (v : ℕ) → state_of r memo out notes ≡ run does (going h k) x → r ≡ Done t v → Good h.memo → Good memo × (v ≤ visit_limit)
-    done-good r memo out notes h k x t v e q g =
-        let d = run-done t v memo out notes h k x (ap (λ (w : Walked). state_of w memo out notes) (sym q) ∙ e) in
+    pub done-good : (r : Option ℕ) (t h : Held) (k : ℕ) (x : Expansion) (v : ℕ) → state_of r t ≡ run does (going h k) x → r ≡ Some v → Good h.memo → Good t.memo × (v ≤ visit_limit)
+    done-good r t h k x v e q g =
+        let d = run-done v t h k x (ap (λ (w : Option ℕ). state_of w t) (sym q) ∙ e) in
         (subst (λ (a : Held). Good a.memo) (sym d.0) (all-keep-memory x.features h g), omega (arith, d.1, d.2))
 
   -- ---- where every feature only adds to the outputs, a walk does
@@ -158,43 +127,38 @@ module _ (does : Take) where
     all-grow [] h b = grown-nothing h b
     all-grow (f ∷ fs) h b = grown-then h (does f h) (take_all does fs (does f h)) (grows f h b) (all-grow fs (does f h) (grows f h b).2)
 
-    pub done-grown : (r : Walked) (memo out notes : List ℕ) (h : Held) (k : ℕ) (x : Expansion) (t : Tally) (v : ℕ) → state_of r memo out notes ≡ run does (going h k) x
-        → r ≡ Done t v → Bounded h → Grown h (held t memo out notes)
-    done-grown r memo out notes h k x t v e q b =
-        let d = run-done t v memo out notes h k x (ap (λ (w : Walked). state_of w memo out notes) (sym q) ∙ e) in
+    pub done-grown : (r : Option ℕ) (t h : Held) (k : ℕ) (x : Expansion) (v : ℕ) → state_of r t ≡ run does (going h k) x → r ≡ Some v → Bounded h → Grown h t
+    done-grown r t h k x v e q b =
+        let d = run-done v t h k x (ap (λ (w : Option ℕ). state_of w t) (sym q) ∙ e) in
         subst (Grown h) (sym d.0) (all-grow x.features h b)
 
   -- ---- the answer of a part, and what follows it
 
-  module _ (r : Walked) (memo out notes : List ℕ) (s : State) (x : Expansion) (e : state_of r memo out notes ≡ run does s x) where
-    pub over-is : r ≡ Over → over ≡ run does s x
+  module _ (r : Option ℕ) (t : Held) (s : State) (x : Expansion) (e : state_of r t ≡ run does s x) where
+    pub over-is : r ≡ None → over ≡ run does s x
     unfolding state_of
     over-is q = rw (← e, q)
 
-    pub done-is : (t : Tally) (v : ℕ) → r ≡ Done t v → state_of (Done t v) memo out notes ≡ run does s x
-    done-is t v q = rw (← e, q)
+    pub done-is : (v : ℕ) → r ≡ Some v → state_of (Some v) t ≡ run does s x
+    done-is v q = rw (← e, q)
 
-    pub over-then : r ≡ Over → (y : Expansion) → over ≡ run does (run does s x) y
+    pub over-then : r ≡ None → (y : Expansion) → over ≡ run does (run does s x) y
     unfolding run state_of
     over-then q y = rw (← e, q)
 
-    pub done-then : (t : Tally) (v : ℕ) → r ≡ Done t v → (y : Expansion) → run does (run does s x) y ≡ run does (going (held t memo out notes) v) y
+    pub done-then : (v : ℕ) → r ≡ Some v → (y : Expansion) → run does (run does s x) y ≡ run does (going t v) y
     unfolding state_of
-    done-then t v q y = rw (← e, q)
+    done-then v q y = rw (← e, q)
 
 -- ---- what stood in the outputs
 
-pub behind-nothing : (t : Tally) (out notes : List ℕ) → Behind t out notes out notes
-behind-nothing t out notes = record { in-out = refl; in-notes = refl }
+pub behind-nothing : (h : Held) → Behind h h
+behind-nothing h = record { in-out = refl; in-notes = refl }
 
 -- what is written behind what was added is behind what stood there
-pub behind-then : (t u : Tally) (memo out notes memo₁ out₁ notes₁ out₂ notes₂ : List ℕ) → Grown (held t memo out notes) (held u memo₁ out₁ notes₁)
-    → Behind u out₁ notes₁ out₂ notes₂ → Behind t out notes out₂ notes₂
-behind-then t u memo out notes memo₁ out₁ notes₁ out₂ notes₂ a b =
-    record {
-      in-out = front-then (filled out t.used) (filled out₁ u.used) out₂ a.0 b.in-out;
-      in-notes = front-then (filled notes t.noted) (filled notes₁ u.noted) notes₂ a.1 b.in-notes;
-    }
+pub behind-then : (h t u : Held) → Grown h t → Behind t u → Behind h u
+behind-then h t u a b =
+    record { in-out = front-then h.out t.out u.out.holds a.0 b.in-out; in-notes = front-then h.notes t.notes u.notes.holds a.1 b.in-notes }
 
 -- ---- what a link leads to
 
@@ -292,13 +256,7 @@ module _ (does : Take) (g : Groups) (visit : Visit) (inverse : Bool) (prefix : L
 
 -- whether E row i is one
 abbrev pub of_group : List ℕ → ℕ → ℕ → Bool
-of_group e u i = eqb (e_holder (declared_in [] [] e) i) u && eqb (e_holder_kind (declared_in [] [] e) i) 1
-
-pub not-of : (e : List ℕ) (u i v : ℕ) → v ≡ e_holder (declared_in [] [] e) i → (v ≡ u → ⊥) → false ≡ of_group e u i
-not-of e u i v a q = rw (ne_eqb (e_holder (declared_in [] [] e) i) u (λ z. q (a ∙ z)))
-
-pub of-by : (e : List ℕ) (u i v w : ℕ) → v ≡ e_holder (declared_in [] [] e) i → v ≡ u → w ≡ e_holder_kind (declared_in [] [] e) i → eqb w 1 ≡ of_group e u i
-of-by e u i v w a q b = rw (eq-eqb (e_holder (declared_in [] [] e) i) u (sym a ∙ q), b)
+of_group e u i = eqb (e_holder (declared_in e) i) u && eqb (e_holder_kind (declared_in e) i) 1
 
 -- those from row i on
 unfoldable pub rows_from : List ℕ → ℕ → ℕ → List ℕ
@@ -307,17 +265,14 @@ rows_from e u i = keep (of_group e u) (span i (length e / width letter_e - i))
 -- the one test after the other
 pub rows_start : (g : Groups) (u : ℕ) → rows_from g.e u 0 ≡ rows_in g u
 unfolding rows_from rows_naming
-rows_start g u = rw sub-zero (sym (keep-both (λ i. eqb (e_holder_kind (declared_in [] [] g.e) i) 1) (λ i. eqb (e_holder (declared_in [] [] g.e) i) u) (span 0 (length g.e / width letter_e))))
+rows_start g u = rw sub-zero (sym (keep-both (λ i. eqb (e_holder_kind (declared_in g.e) i) 1) (λ i. eqb (e_holder (declared_in g.e) i) u) (span 0 (length g.e / width letter_e))))
 
 -- ---- a walk over them, row by row
 
 -- the feature of a row, from the numbers that the code reads
-pub feature-is : (e : List ℕ) (inverse : Bool) (prefix : List ℕ) (i name kind direction now : ℕ) → name ≡ e_name (declared_in [] [] e) i → kind ≡ e_kind (declared_in [] [] e) i
-    → direction ≡ e_direction (declared_in [] [] e) i → now ≡ turned inverse direction → record { name = name; kind = kind; direction = now; prefix = prefix } ≡ feature_at e inverse prefix i
+pub feature-is : (e : List ℕ) (inverse : Bool) (prefix : List ℕ) (i name kind direction now : ℕ) → name ≡ e_name (declared_in e) i → kind ≡ e_kind (declared_in e) i
+    → direction ≡ e_direction (declared_in e) i → now ≡ turned inverse direction → record { name = name; kind = kind; direction = now; prefix = prefix } ≡ feature_at e inverse prefix i
 feature-is e inverse prefix i name kind direction now a b c d = rw (a, b, d, c)
-
-pub prefix-more : (p : List ℕ) (len x : ℕ) → len < length p → take (len + 1) (set p len x) ≡ take len p ++ x ∷ []
-prefix-more p len x h = rw add-one (take-suc-set p len x h)
 
 module _ (does : Take) (g : Groups) (visit : Visit) (inverse : Bool) (prefix : List ℕ) (u : ℕ) where
   abbrev part : ℕ → Expansion
@@ -349,14 +304,14 @@ module _ (does : Take) (g : Groups) (visit : Visit) (inverse : Bool) (prefix : L
         unfolding row_by
         row_listed m l a d = sym (row-taken ∙ rw (missing-is to to refl m, run-feature does (feature_at g.e inverse prefix i) h k l, ← d))
 
-        module _ (m : to ≡ missing → ⊥) (longer : List ℕ) (more : longer ≡ prefix ++ e_name (declared_in [] [] g.e) i ∷ [])
-            (r : Walked) (memo out notes : List ℕ) (e : state_of r memo out notes ≡ run does (going h k) (visit to inverse longer)) where
+        module _ (m : to ≡ missing → ⊥) (longer : List ℕ) (more : longer ≡ prefix ++ e_name (declared_in g.e) i ∷ [])
+            (r : Option ℕ) (t : Held) (e : state_of r t ≡ run does (going h k) (visit to inverse longer)) where
           row-nested : here ≡ on_from (run does (going h k) (visit to inverse longer)) (i + 1)
           unfolding row_by
           row-nested = row-taken ∙ rw (present-is to to refl m, more, n)
 
-          pub row-over : r ≡ Over → over ≡ here
-          row-over z = over-then does r memo out notes (going h k) (visit to inverse longer) e z _ ∙ sym row-nested
+          pub row-over : r ≡ None → over ≡ here
+          row-over z = over-then does r t (going h k) (visit to inverse longer) e z _ ∙ sym row-nested
 
-          pub row_done : (t : Tally) (v : ℕ) → r ≡ Done t v → on_from (going (held t memo out notes) v) (i + 1) ≡ here
-          row_done t v z = sym (row-nested ∙ done-then does r memo out notes (going h k) (visit to inverse longer) e t v z _)
+          pub row_done : (v : ℕ) → r ≡ Some v → on_from (going t v) (i + 1) ≡ here
+          row_done v z = sym (row-nested ∙ done-then does r t (going h k) (visit to inverse longer) e v z _)

@@ -1,12 +1,10 @@
 -- What a walk knows already: group types below which nothing changes any more, with the number of visits made there. Assumes nothing.
-use Rattle.std.specs.Prelude.{Bool, ◌≡◌, List, ℕ, zero, suc, ◌+◌, ◌*◌, ◌<◌, get_or}
+use Rattle.std.specs.Prelude.{Bool, ◌≡◌, List, ℕ, zero, suc, ◌+◌, ◌*◌, ◌<◌, get_or, Option, Some, None}
 use Rattle.as5506.specs.Followed.{In}
 use Rattle.as5506.specs.Groups.{Feature, Expansion, depth_limit}
 use Rattle.links.specs.Walk.{Groups, visit_link}
-use Rattle.sink.specs.Take.{Held, held}
+use Rattle.sink.specs.Take.{Held}
 use Rattle.sink.specs.Dull.{Bounded}
-use Rattle.group_walk.specs.declared.Walked.{Walked}
-use Rattle.group_walk.specs.declared.Walked.TheVariants.{Over, Done}
 
 -- a test of names, by what a walk carries
 abbrev pub Dullness : Type 1
@@ -34,7 +32,7 @@ Calm g dull h calm = (u b : ℕ) → b < levels → CalmAt g dull h u b (get_or 
 unfoldable pub Passable : Groups → Dullness → Held → List ℕ → Type 0
 Passable g dull h calm = Bounded h × Calm g dull h calm
 
--- what an answer leaves, with what the slices hold
-unfoldable pub CalmAfter : Walked → Groups → Dullness → List ℕ → List ℕ → List ℕ → List ℕ → Type 0
-CalmAfter Over g dull memo out notes calm = Unit {0}
-CalmAfter (Done tally visits) g dull memo out notes calm = Passable g dull (held tally memo out notes) calm
+-- what an answer leaves, with what is carried then
+unfoldable pub CalmAfter : Option ℕ → Groups → Dullness → Held → List ℕ → Type 0
+CalmAfter None g dull h calm = Unit {0}
+CalmAfter (Some visits) g dull h calm = Passable g dull h calm

@@ -2,7 +2,7 @@
 --
 --     Run    what an expansion does to what a walk carries, and when it is over the limit of visits
 --     Calm   visits that are known to change nothing
---     Ready  what a walk asks for
+--     Walks  what a walk does, and what it asks for
 pub mod Run
 pub mod Calm
-pub mod Ready
+pub mod Walks

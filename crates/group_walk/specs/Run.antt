@@ -1,10 +1,7 @@
 -- What an expansion does to what a walk carries, feature by feature, unless it has too many visits. Assumes nothing.
-use Rattle.std.specs.Prelude.{Bool, true, false, ◌≡◌, List, [], ◌∷◌, ℕ, ◌+◌, leb, take}
+use Rattle.std.specs.Prelude.{Bool, true, false, ◌≡◌, List, [], ◌∷◌, ℕ, ◌+◌, leb, take, Option, Some, None}
 use Rattle.as5506.specs.Groups.{Feature, Expansion}
-use Rattle.sink.specs.declared.Tally.{Tally}
-use Rattle.sink.specs.Take.{Held, held}
-use Rattle.group_walk.specs.declared.Walked.{Walked}
-use Rattle.group_walk.specs.declared.Walked.TheVariants.{Over, Done}
+use Rattle.sink.specs.Take.{Held}
 
 -- what a feature does
 abbrev pub Take : Type 0
@@ -33,12 +30,12 @@ unfoldable pub run : Take → State → Expansion → State
 run take over x = over
 run take (going h visits) x = going_by (leb (visits + x.visits) visit_limit) (take_all take x.features h) (visits + x.visits)
 
--- the state that an answer tells, with what the slices hold
-unfoldable pub state_of : Walked → List ℕ → List ℕ → List ℕ → State
-state_of Over memo out notes = over
-state_of (Done tally visits) memo out notes = going (held tally memo out notes) visits
+-- the state that an answer tells, with what is carried then
+unfoldable pub state_of : Option ℕ → Held → State
+state_of None h = over
+state_of (Some visits) h = going h visits
 
 -- whatever the answer, what stood in the outputs before a walk stays there: it writes behind what is used
-pub record Behind (tally : Tally) (out notes out' notes' : List ℕ) : Type 0 where
-  pub in-out : take tally.used out' ≡ take tally.used out
-  pub in-notes : take tally.noted notes' ≡ take tally.noted notes
+pub record Behind (h t : Held) : Type 0 where
+  pub in-out : take h.out.used t.out.holds ≡ take h.out.used h.out.holds
+  pub in-notes : take h.notes.used t.notes.holds ≡ take h.notes.used h.notes.holds

@@ -1,307 +1,183 @@
 // The expansion of a feature group (feature_group.rs, `expand_from_ref`) in three routines that call each other: `visit` visits what a link means,
 // `expand_type` gives what the group type there is the inverse of, or what it extends and its own features, and `walk_features` walks these. What
-// is done with a feature is `sink::take_feature`. A walk may make 65,536 visits, and most of them change nothing: names that have come, outputs
+// is done with a feature is `Sink::take_feature`. A walk may make 65,536 visits, and most of them change nothing: names that have come, outputs
 // that are full. So a table `calm` has a number for each group type and level: 0, or how many visits a visit there makes that is known to change
 // nothing. Such a visit is passed over, and its visits are counted.
 #![tactic(auto)]
 
-ghost use Rattle.std.specs.Prelude.{◌&&◌, ◌≡◌, [], eqb, get_or, take};
+ghost use Rattle.std.specs.Prelude.{◌&&◌, ◌≡◌, eqb, get_or};
 ghost use Rattle.as5506.specs.Tables.{e_holder, e_holder_kind, present};
 ghost use Rattle.as5506.specs.Groups.{turned};
-ghost use Rattle.lent.specs.Lent.{declared_in};
-ghost use Rattle.links.specs.Walk.{groups_in, rows_in, walk, type_by, visit_link};
-ghost use Rattle.sink.specs.Take.{held, taken};
-ghost use Rattle.sink.specs.Dull.{Dull};
+ghost use Rattle.lent.specs.Model.{model};
+ghost use Rattle.links.specs.Walk.{rows_in, walk, type_by, visit_link};
+ghost use Rattle.sink.specs.Take.{held, SameBuffers};
 ghost use Rattle.group_walk.specs.Run.{going, run, state_of, Behind};
+ghost use Rattle.group_walk.specs.Walks.{groups, does, dulls, VisitReady, TypeReady};
 ghost use Rattle.group_walk.specs.Calm.{CalmAfter};
-ghost use Rattle.group_walk.specs.Ready.{VisitReady, TypeReady};
 
 use as5506::{E_NUMBERS, MISSING, VISITS};
 use columns::declared;
-use lent::number_at;
-use links::UNFOUND;
-use sink::{Feature, Purpose, Tally};
+use lent::{Tables, get_or};
+use links::{Links, UNFOUND};
+pub use sink::LEVELS;
+use sink::{Feature, Path, Purpose, Sink};
 
-// How many visits may lie one inside the other.
-pub const LEVELS: usize = 11;
+// The direction of a feature that goes in, and of one that goes out.
+const IN: u32 = 0;
 
-// How a walk ends: with over 65,536 visits, or with what was written and the number of visits.
-#[derive(Clone, Copy)]
-pub enum Walked {
-    Over,
-    Done { tally: Tally, visits: u32 },
-}
+const OUT: u32 = 1;
+
+// The kind of a holder that is a group type.
+const GROUP_TYPE: u32 = 1;
 
 // A direction with the inverse flag: in and out are swapped.
+#[tactic(auto, unfolding(as5506::specs::Groups::turned))]
 fn turn(inverse: bool, direction: u32) -> u32
     ensures { result ≡ turned inverse direction }
 {
     if !inverse {
         return direction;
     }
-    if direction == 0 {
-        return 1;
+    match direction {
+        IN => OUT,
+        OUT => IN,
+        _ => direction,
     }
-    if direction == 1 {
-        return 0;
-    }
-    direction
 }
 
 // Whether E row i is a feature of group type `row`.
-fn belongs(e: &[u32], row: u32, i: usize) -> bool
-    ensures { result ≡ eqb (e_holder (declared_in [] [] e.now) i) row && eqb (e_holder_kind (declared_in [] [] e.now) i) 1 }
+fn belongs(m: &Tables, row: u32, i: usize) -> bool
+    ensures { result ≡ eqb (e_holder (model m.now) i) row && eqb (e_holder_kind (model m.now) i) 1 }
 {
-    if declared::holder_of(e, i) != row {
-        return false;
-    }
-    declared::holder_kind_of(e, i) == 1
+    declared::holder_of(m, i) == row && declared::holder_kind_of(m, i) == GROUP_TYPE
 }
 
-// Visits what a link means: a row of U, or nothing. `left`: how many visits may lie one inside the other, this one included. Where the visit is
-// known to change nothing, its visits are counted only.
-#[cycle(expand_type_visit_walk_features)]
-pub fn visit(
-    e: &[u32],
-    nested: &[u32],
-    extends: &[u32],
-    inverses: &[u32],
-    bytes: &[u8],
-    n: &[u32],
-    kept: &[u32],
-    memo: &mut [u32],
-    out: &mut [u32],
-    notes: &mut [u32],
-    calm: &mut [u32],
-    purpose: Purpose,
-    to: u32,
-    inverse: bool,
-    prefix: [u32; 11],
-    len: usize,
-    left: usize,
-    tally: Tally,
-    visits: u32,
-) -> Walked
-    requires { VisitReady
-        (groups_in e.now nested.now extends.now inverses.now) purpose bytes.now n.now kept.now memo.old out.old notes.old calm.old prefix len left tally }
-    ensures notes_after { state_of result memo.new out.new notes.new
-        ≡ run (taken purpose bytes.now n.now kept.now) (going (held tally memo.old out.old notes.old) visits)
-        (visit_link (groups_in e.now nested.now extends.now inverses.now) left to inverse (take len prefix)) }
-    ensures calm_after { CalmAfter result (groups_in e.now nested.now extends.now inverses.now) (Dull purpose bytes.now n.now kept.now)
-        memo.new out.new notes.new calm.new }
-    ensures behind { Behind tally out.old notes.old out.new notes.new }
-{
-    if VISITS <= visits {
-        return Walked::Over;
-    }
-    let next = visits + 1;
-    if left == 0 {
-        return Walked::Done {
-            tally: tally,
-            visits: next,
-        };
-    }
-    if UNFOUND <= to {
-        return Walked::Done {
-            tally: tally,
-            visits: next,
-        };
-    }
-    let below = left - 1;
-    let row = to as usize;
-    let place = row * LEVELS + below;
-    let known = number_at(calm, place);
-    if known != 0 {
-        if VISITS - visits < known {
-            return Walked::Over;
+// What a walk goes over, and what for. What it carries is a `Sink`, with `calm` beside it.
+#[derive(Clone, Copy)]
+pub struct Walk<'a> {
+    pub tables: &'a Tables<'a>,
+    pub links: &'a Links<'a>,
+    pub purpose: Purpose<'a>,
+}
+
+impl Walk<'_> {
+    // Visits what a link means: a row of U, or nothing, behind so many visits; how many these are then, or `None` where they are over 65,536. `left`:
+    // how many visits may lie one inside the other, this one included. Where the visit is known to change nothing, its visits are counted only.
+    #[cycle(expand_type_visit_walk_features)]
+    pub fn visit(
+        &self,
+        sink: &mut Sink,
+        calm: &mut [u32],
+        to: u32,
+        inverse: bool,
+        prefix: &Path,
+        left: usize,
+        visits: u32,
+    ) -> Option<u32>
+        requires { VisitReady self.now (held sink.old) calm.old prefix.now left }
+        ensures notes_after { state_of result (held sink.new)
+            ≡ run (does self.now) (going (held sink.old) visits) (visit_link (groups self.now) left to inverse prefix.now) }
+        ensures calm_after { CalmAfter result (groups self.now) (dulls self.now) (held sink.new) calm.new }
+        ensures behind { Behind (held sink.old) (held sink.new) }
+        ensures same { SameBuffers sink.old sink.new }
+    {
+        if VISITS <= visits {
+            return None;
         }
-        let all = visits + known;
-        return Walked::Done {
-            tally: tally,
-            visits: all,
-        };
-    }
-    match expand_type(
-        e, nested, extends, inverses, bytes, n, kept, memo, out, notes, calm, purpose, to, inverse,
-        prefix, len, below, tally, next,
-    ) {
-        Walked::Over => Walked::Over,
-        Walked::Done {
-            tally: then,
-            visits: seen,
-        } => {
-            if then.used == tally.used {
-                if then.noted == tally.noted {
-                    let made = seen - visits;
-                    lent::put_number(calm, place, made);
-                }
-            }
-            Walked::Done {
-                tally: then,
-                visits: seen,
-            }
+        if left == 0 || UNFOUND <= to {
+            return Some(visits + 1);
         }
+        let below = left - 1;
+        let place = to as usize * LEVELS + below;
+        let known = get_or(calm, place, 0);
+        if known != 0 {
+            if VISITS - visits < known {
+                return None;
+            }
+            return Some(visits + known);
+        }
+        let tally = sink.tally;
+        let seen = self.expand_type(sink, calm, to, inverse, prefix, below, visits + 1)?;
+        if sink.tally.used == tally.used && sink.tally.noted == tally.noted {
+            lent::put(calm, place, seen - visits);
+        }
+        Some(seen)
     }
-}
 
-// What group type `row` gives: what it is the inverse of; else what it extends, and its own features. `left`: how many visits may lie one inside
-// the other below it.
-#[cycle(expand_type_visit_walk_features)]
-fn expand_type(
-    e: &[u32],
-    nested: &[u32],
-    extends: &[u32],
-    inverses: &[u32],
-    bytes: &[u8],
-    n: &[u32],
-    kept: &[u32],
-    memo: &mut [u32],
-    out: &mut [u32],
-    notes: &mut [u32],
-    calm: &mut [u32],
-    purpose: Purpose,
-    row: u32,
-    inverse: bool,
-    prefix: [u32; 11],
-    len: usize,
-    left: usize,
-    tally: Tally,
-    visits: u32,
-) -> Walked
-    requires { TypeReady
-        (groups_in e.now nested.now extends.now inverses.now) purpose bytes.now n.now kept.now memo.old out.old notes.old calm.old prefix len left tally visits }
-    ensures notes_after { state_of result memo.new out.new notes.new
-        ≡ run (taken purpose bytes.now n.now kept.now) (going (held tally memo.old out.old notes.old) visits)
-        (type_by (present (get_or inverses.now row 0)) (groups_in e.now nested.now extends.now inverses.now)
-        (visit_link (groups_in e.now nested.now extends.now inverses.now) left) inverse (take len prefix) row) }
-    ensures calm_after { CalmAfter result (groups_in e.now nested.now extends.now inverses.now) (Dull purpose bytes.now n.now kept.now)
-        memo.new out.new notes.new calm.new }
-    ensures behind { Behind tally out.old notes.old out.new notes.new }
-{
-    let place = row as usize;
-    let back = number_at(inverses, place);
-    if back != MISSING {
-        return visit(
-            e, nested, extends, inverses, bytes, n, kept, memo, out, notes, calm, purpose, back,
-            !inverse, prefix, len, left, tally, visits,
-        );
+    // What group type `row` gives: what it is the inverse of; else what it extends, and its own features. `left`: how many visits may lie one inside
+    // the other below it.
+    #[cycle(expand_type_visit_walk_features)]
+    fn expand_type(
+        &self,
+        sink: &mut Sink,
+        calm: &mut [u32],
+        row: u32,
+        inverse: bool,
+        prefix: &Path,
+        left: usize,
+        visits: u32,
+    ) -> Option<u32>
+        requires { TypeReady self.now (held sink.old) calm.old prefix.now left visits }
+        ensures notes_after { state_of result (held sink.new)
+            ≡ run (does self.now) (going (held sink.old) visits)
+            (type_by (present (get_or self.now.links.now.inverse.now row 0)) (groups self.now) (visit_link (groups self.now) left) inverse prefix.now row) }
+        ensures calm_after { CalmAfter result (groups self.now) (dulls self.now) (held sink.new) calm.new }
+        ensures behind { Behind (held sink.old) (held sink.new) }
+        ensures same { SameBuffers sink.old sink.new }
+    {
+        let place = row as usize;
+        let back = get_or(self.links.inverse, place, 0);
+        if back != MISSING {
+            return self.visit(sink, calm, back, !inverse, prefix, left, visits);
+        }
+        let up = get_or(self.links.extends, place, 0);
+        if up == MISSING {
+            return self.walk_features(sink, calm, row, inverse, prefix, left, visits);
+        }
+        let seen = self.visit(sink, calm, up, inverse, prefix, left, visits)?;
+        self.walk_features(sink, calm, row, inverse, prefix, left, seen)
     }
-    let up = number_at(extends, place);
-    if up == MISSING {
-        return walk_features(
-            e, nested, extends, inverses, bytes, n, kept, memo, out, notes, calm, purpose, row,
-            inverse, prefix, len, left, tally, visits,
-        );
-    }
-    match visit(
-        e, nested, extends, inverses, bytes, n, kept, memo, out, notes, calm, purpose, up, inverse,
-        prefix, len, left, tally, visits,
-    ) {
-        Walked::Over => Walked::Over,
-        Walked::Done {
-            tally: so_far,
-            visits: seen,
-        } => walk_features(
-            e, nested, extends, inverses, bytes, n, kept, memo, out, notes, calm, purpose, row,
-            inverse, prefix, len, left, so_far, seen,
-        ),
-    }
-}
 
-// Walks the features of group type `row`. `left`: how many visits may lie one inside the other below it.
-#[cycle(expand_type_visit_walk_features)]
-fn walk_features(
-    e: &[u32],
-    nested: &[u32],
-    extends: &[u32],
-    inverses: &[u32],
-    bytes: &[u8],
-    n: &[u32],
-    kept: &[u32],
-    memo: &mut [u32],
-    out: &mut [u32],
-    notes: &mut [u32],
-    calm: &mut [u32],
-    purpose: Purpose,
-    row: u32,
-    inverse: bool,
-    prefix: [u32; 11],
-    len: usize,
-    left: usize,
-    tally: Tally,
-    visits: u32,
-) -> Walked
-    requires { TypeReady
-        (groups_in e.now nested.now extends.now inverses.now) purpose bytes.now n.now kept.now memo.old out.old notes.old calm.old prefix len left tally visits }
-    ensures notes_after { state_of result memo.new out.new notes.new
-        ≡ run (taken purpose bytes.now n.now kept.now) (going (held tally memo.old out.old notes.old) visits)
-        (walk (groups_in e.now nested.now extends.now inverses.now)
-        (visit_link (groups_in e.now nested.now extends.now inverses.now) left) inverse (take len prefix)
-        (rows_in (groups_in e.now nested.now extends.now inverses.now) row)) }
-    ensures calm_after { CalmAfter result (groups_in e.now nested.now extends.now inverses.now) (Dull purpose bytes.now n.now kept.now)
-        memo.new out.new notes.new calm.new }
-    ensures behind { Behind tally out.old notes.old out.new notes.new }
-{
-    let count = e.len() / E_NUMBERS;
-    let mut so_far = tally;
-    let mut seen = visits;
-    let mut i: usize = 0;
-    while i < count {
-        if belongs(e, row, i) {
-            let name = declared::name_of(e, i);
-            let to = number_at(nested, i);
+    // Walks the features of group type `row`. `left`: how many visits may lie one inside the other below it.
+    #[cycle(expand_type_visit_walk_features)]
+    fn walk_features(
+        &self,
+        sink: &mut Sink,
+        calm: &mut [u32],
+        row: u32,
+        inverse: bool,
+        prefix: &Path,
+        left: usize,
+        visits: u32,
+    ) -> Option<u32>
+        requires { TypeReady self.now (held sink.old) calm.old prefix.now left visits }
+        ensures notes_after { state_of result (held sink.new)
+            ≡ run (does self.now) (going (held sink.old) visits)
+            (walk (groups self.now) (visit_link (groups self.now) left) inverse prefix.now (rows_in (groups self.now) row)) }
+        ensures calm_after { CalmAfter result (groups self.now) (dulls self.now) (held sink.new) calm.new }
+        ensures behind { Behind (held sink.old) (held sink.new) }
+        ensures same { SameBuffers sink.old sink.new }
+    {
+        let m = self.tables;
+        let mut seen = visits;
+        for i in 0..m.e.len() / E_NUMBERS {
+            if !belongs(m, row, i) {
+                continue;
+            }
+            let name = declared::name_of(m, i);
+            let to = get_or(self.links.nested, i, 0);
             if to == MISSING {
                 let feature = Feature {
-                    name: name,
-                    kind: declared::kind_of(e, i),
-                    direction: turn(inverse, declared::direction_of(e, i)),
-                    prefix: prefix,
-                    len: len,
+                    name,
+                    kind: declared::kind_of(m, i),
+                    direction: turn(inverse, declared::direction_of(m, i)),
+                    prefix,
                 };
-                so_far = sink::take_feature(
-                    bytes, n, kept, memo, out, notes, purpose, feature, so_far,
-                );
+                sink.take_feature(m, &self.purpose, &feature);
             } else {
-                let mut longer = prefix;
-                longer[len] = name;
-                match visit(
-                    e,
-                    nested,
-                    extends,
-                    inverses,
-                    bytes,
-                    n,
-                    kept,
-                    memo,
-                    out,
-                    notes,
-                    calm,
-                    purpose,
-                    to,
-                    inverse,
-                    longer,
-                    len + 1,
-                    left,
-                    so_far,
-                    seen,
-                ) {
-                    Walked::Over => {
-                        return Walked::Over;
-                    }
-                    Walked::Done {
-                        tally: then,
-                        visits: s,
-                    } => {
-                        so_far = then;
-                        seen = s;
-                    }
-                }
+                seen = self.visit(sink, calm, to, inverse, &prefix.with(name), left, seen)?;
             }
         }
-        i += 1;
-    }
-    Walked::Done {
-        tally: so_far,
-        visits: seen,
+        Some(seen)
     }
 }

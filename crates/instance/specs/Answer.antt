@@ -1,18 +1,17 @@
 -- What the call answers, and what its outputs hold. Assumes nothing.
-use Rattle.std.specs.Prelude.{◌↔◌, ◌≡◌, List, ℕ, length}
+use Rattle.std.specs.Prelude.{◌↔◌, ◌≡◌, List, ℕ, length, Result, Ok}
 use Rattle.as5506.specs.Tables.{Tables}
-use Rattle.as5506.specs.Answers.{Answer, given, refused, told}
+use Rattle.as5506.specs.Answers.{Answer, handed}
+use Rattle.as5506.specs.declared.Refusal.{Refusal as Told}
 use Rattle.as5506.specs.Tracing.{unlimited, step_limit}
 use Rattle.as5506.specs.Followed.{NoneHasNext}
 use Rattle.as5506.specs.Listing.{TracedList, traced_answer}
 use Rattle.as5506.specs.Layout.{room_in, traced_row_numbers, traced_diag_numbers, output, rows_back}
 use Rattle.instance.specs.declared.Listed.{Listed}
-use Rattle.instance.specs.declared.Listed.TheVariants.{Rows, Refused}
 
--- 01's numbers for each case: how many rows and diagnostics were written, or the refusal's number and place
-abbrev pub listed : Answer TracedList → Listed
-listed (given l) = Rows (length l.rows) (length l.diags)
-listed (refused r) = Refused (told r)
+-- how many rows and diagnostics a list has
+abbrev pub listed : TracedList → Listed
+listed l = record { rows = length l.rows; diagnostics = length l.diags }
 
 -- the definition's answer for the tables m and outputs of these lengths
 abbrev pub answer_for : Tables → List ℕ → List ℕ → Answer TracedList
@@ -21,12 +20,12 @@ answer_for m rows diags = traced_answer (room_in (length rows) (length diags)) m
 -- THE CONTRACT: a call on the tables m with the outputs `rows` and `diags`, for which the definition's answer is `wanted`, answers z and leaves rows' and
 -- diags' in them. The last field is demand 3: the rows counted and handed back, with the bytes of their three names, are the rows without a limit
 -- exactly when no followed chain has a twenty-first step
-pub record TracedAs (wanted : Answer TracedList) (m : Tables) (rows diags : List ℕ) (z : Listed) (rows' diags' : List ℕ) : Type 0 where
-  pub answer : z ≡ listed wanted
+pub record TracedAs (wanted : Answer TracedList) (m : Tables) (rows diags : List ℕ) (z : Result Listed Told) (rows' diags' : List ℕ) : Type 0 where
+  pub answer : z ≡ handed listed wanted
   pub written-rows : rows' ≡ output (length rows) (traced_row_numbers m) wanted
   pub written-diagnostics : diags' ≡ output (length diags) traced_diag_numbers wanted
-  pub step-limit : (k d : ℕ) → z ≡ Rows k d → (rows_back m k rows' ≡ unlimited m) ↔ NoneHasNext step_limit m
+  pub step-limit : (l : Listed) → z ≡ Ok l → (rows_back m l.rows rows' ≡ unlimited m) ↔ NoneHasNext step_limit m
 
 -- of the call over numbers: the room is what the outputs hold
-abbrev pub TracedInto : Tables → List ℕ → List ℕ → Listed → List ℕ → List ℕ → Type 0
+abbrev pub TracedInto : Tables → List ℕ → List ℕ → Result Listed Told → List ℕ → List ℕ → Type 0
 TracedInto m rows diags z rows' diags' = TracedAs (answer_for m rows diags) m rows diags z rows' diags'

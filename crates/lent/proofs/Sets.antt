@@ -1,13 +1,18 @@
--- Laws of `sets l i vs`, the list l with the block vs written from place i on, as far as l reaches: what `put_numbers` and `put_bytes` leave.
+-- Laws of `sets l i vs`, the list l with the block vs written from place i on, as far as l reaches: what `put_all` leaves.
 -- Numbers and bytes are both ℕ. Its length is `length-sets`, and the list in three parts `sets-eq`, of lib.Seq. Assumes nothing.
 use mathlib.Core.Path.{◌≡◌, refl, sym, ap, ◌∙◌}
-use mathlib.Core.List.{List, [], ◌∷◌, ◌++◌, append-nil}
-use Prim.Native.Nat.{ℕ, zero, suc, ◌+◌, ◌-◌, ◌≤◌, ◌<◌}
+use mathlib.Core.List.{List, [], ◌∷◌, ◌++◌, append-nil, append_assoc}
+use Prim.Native.Nat.{min, ℕ, zero, suc, ◌+◌, ◌-◌, ◌≤◌, ◌<◌}
 use native.Mathlib.Nat.{add-zero, add-suc, suc-add, sub-zero, zero-sub, suc-sub-suc}
 use native.Mathlib.Numerals.{add-one}
 use native.Mathlib.Omega.{arith}
-use lib.ListN.{length, take, drop, get_or, set, drop_of_length-le}
-use lib.Seq.{sets, sets-eq, length-sets, drop-cons, set_out, get_or-set_other, take-set-le, drop-set-lt}
+use lib.ListN.{length, take, drop, get_or, set, length-set, drop_of_length-le}
+use borrow.Rule.Slice.PartMut.{put_mid}
+use native.Mathlib.Decide.{dec_le}
+use Rattle.std.proofs.Math.Nat.{min-le_left, min-le_right, min-eq_left, min-eq_right}
+use Rattle.std.proofs.lemmas.List.{length-take-le}
+use lib.Seq.{drop-drop, take-length}
+use lib.Seq.{sets, sets-eq, length-sets, drop-cons, set_out, get_or-set_other, take-set-le, drop-set-lt, take-nil}
 use Rattle.as5506.specs.Lists.{zeros}
 
 -- ---- writing
@@ -23,9 +28,30 @@ pub sets-step : (vs l : List ℕ) (i j : ℕ) → j < length vs → sets l i (dr
 sets-step vs l i j h = rw (add-one i, add-one j, drop-cons vs j 0)
 
 -- past the end nothing is written
-pub sets-past : (vs l : List ℕ) (i : ℕ) → length l ≤ i → sets l i vs ≡ l
+pub sets-past : {A : Type 0} (vs l : List A) (i : ℕ) → length l ≤ i → sets l i vs ≡ l
 sets-past [] l i h = refl
 sets-past (v ∷ vs) l i h = rw (set_out l i v h) (sets-past vs l (suc i) (omega arith))
+
+-- no more of a block is written than there is room for
+pub sets-cut : {A : Type 0} (vs l : List A) (i k : ℕ) → k ≡ length l - i → sets l i (take k vs) ≡ sets l i vs
+sets-cut [] l i k e = rw (take-nil k) refl
+sets-cut (v ∷ vs) l i zero e = sym (sets-past (v ∷ vs) l i (omega (arith, e)))
+sets-cut (v ∷ vs) l i (suc k) e = sets-cut vs (set l i v) (suc i) k (omega (arith, e, length-set l i v))
+
+-- the first n of a block, which are all of it or all that there is room for, take the place of as many
+pub sets-mid : {A : Type 0} (vs l : List A) (i n : ℕ) → i ≤ length l → n ≡ min (length vs) (length l - i) → put_mid i n l (take n vs) ≡ sets l i vs
+sets-mid {A = A} vs l i n h e =
+    let all : length (take n vs) ≡ n = length-take-le n vs (omega (arith, e, min-le_left (length vs) (length l - i))) in
+    let fits : i + length (take n vs) ≤ length l = omega (arith, e, h, all, min-le_right (length vs) (length l - i)) in
+    let ends : i + n ≡ i + length (take n vs) = omega (arith, all) in
+    ap (λ (r : List A). take i l ++ (take n vs ++ r)) (drop-drop n i l ∙ ap (λ (k : ℕ). drop k l) ends)
+    ∙ sym (append_assoc (take i l) (take n vs) (drop (i + length (take n vs)) l))
+    ∙ sym (sets-eq (take n vs) l i fits)
+    ∙ go (dec_le (length vs) (length l - i))
+  where
+    go : Dec (length vs ≤ length l - i) → sets l i (take n vs) ≡ sets l i vs
+    go (yes g) = ap (sets l i) (ap (λ (k : ℕ). take k vs) (e ∙ min-eq_left g) ∙ take-length vs)
+    go (no g) = sets-cut vs l i n (e ∙ min-eq_right (omega (arith, g)))
 
 -- a block as long as the list takes its place: a copy
 pub sets-whole : (vs l : List ℕ) → length vs ≡ length l → sets l 0 vs ≡ vs

@@ -4,7 +4,9 @@
 --     Added      a text printed behind what is used of an output
 --     Answered   what an output holds after an answer, before a refusal clears it
 --     Lent       the tables that a contract speaks of, all or some
+--     Model      the model that lent tables are
 pub mod Append
 pub mod Added
 pub mod Answered
 pub mod Lent
+pub mod Model

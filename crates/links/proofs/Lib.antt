@@ -1,6 +1,6 @@
 -- Laws of the links. For callers: Tables, Walk and Range.
 --
---     Rows    what a call gave, read as a link, and a table that is filled row by row
+--     Rows    what each step of the code says of the links, and a table that is filled row by row
 --     Tables  the tables of links, read by row
 --     Walk    an expansion over the tables of links is the definition's
 --     Range   the features of an expansion

@@ -9,9 +9,8 @@ use Rattle.as5506.specs.Lists.{up_to}
 use Rattle.as5506.specs.Tables.{present, width, letter_e, e_holder_kind, e_holder, e_name, rows_naming}
 use Rattle.as5506.specs.Groups.{Feature, Expansion, depth_limit}
 use Rattle.as5506.proofs.Laws.{All, all_append, up_to-below, all-kept}
-use Rattle.lent.specs.Lent.{declared_in}
 use Rattle.links.specs.Links.{unfound}
-use Rattle.links.specs.Walk.{Groups, Visit, feature_at, row_by, walk, rows_in, extended_by, type_by, found_by, visit_link}
+use Rattle.links.specs.Walk.{declared_in, Groups, Visit, feature_at, row_by, walk, rows_in, extended_by, type_by, found_by, visit_link}
 
 -- whatever the features of E rows have, with either flag and each prefix of at most ten names
 module _ (g : Groups) (P : Feature → Type 0)
@@ -26,7 +25,7 @@ module _ (g : Groups) (P : Feature → Type 0)
     row-each : (b : Bool) (i : ℕ) → i < length g.e / width letter_e → Each (row_by b g visit inverse prefix i)
     unfolding row_by
     row-each true i h =
-        let name : List ℕ = e_name (declared_in [] [] g.e) i ∷ [] in
+        let name : List ℕ = e_name (declared_in g.e) i ∷ [] in
         deeper (get_or g.nested i 0) inverse (prefix ++ name) (omega (arith, length-append prefix name, short))
     row-each false i h = (own i inverse prefix h (omega (arith, short)), tt)
 
@@ -41,8 +40,8 @@ module _ (g : Groups) (P : Feature → Type 0)
     unfolding rows_naming
     rows-below u =
         let Row : ℕ → Type 0 = λ i. i < length g.e / width letter_e in
-        all-kept Row (λ i. eqb (e_holder_kind (declared_in [] [] g.e) i) 1) (rows_naming (declared_in [] [] g.e) letter_e (e_holder (declared_in [] [] g.e)) u)
-        (all-kept Row (λ i. eqb (e_holder (declared_in [] [] g.e) i) u) (up_to (length g.e / width letter_e)) (up_to-below (length g.e / width letter_e)))
+        all-kept Row (λ i. eqb (e_holder_kind (declared_in g.e) i) 1) (rows_naming (declared_in g.e) letter_e (e_holder (declared_in g.e)) u)
+        (all-kept Row (λ i. eqb (e_holder (declared_in g.e) i) u) (up_to (length g.e / width letter_e)) (up_to-below (length g.e / width letter_e)))
 
     extended-each : (b : Bool) (u : ℕ) → Each (extended_by b g visit inverse prefix u)
     unfolding extended_by

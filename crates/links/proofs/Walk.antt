@@ -114,7 +114,7 @@ module _ (m : Tables) (few : count m letter_u ≤ 4096) where
 pub linked : (m : Tables) (nested extends inverse : List ℕ) → Linked m nested extends inverse → count m letter_u ≤ 4096 → (left from : ℕ) (r : Ref) (inv : Bool) (prefix : List ℕ)
     → visit_link (groups_in m.e nested extends inverse) left (link_of m from r) inv prefix ≡ visit_within m left from r inv prefix
 unfolding visit_link visit_within link_of
-linked m nested extends inverse k few zero from r inv prefix = refl
-linked m nested extends inverse k few (suc left) from r inv prefix =
+linked m nested extends inverse k few zero asking r inv prefix = refl
+linked m nested extends inverse k few (suc left) asking r inv prefix =
     ap (λ (x : Expansion). joined (one_visit ∷ x ∷ []))
-    (found-same m few nested extends inverse k (visit_link (groups_in m.e nested extends inverse) left) (visit_within m left) (linked m nested extends inverse k few left) inv prefix (resolve m from r) (resolved-in m from r))
+    (found-same m few nested extends inverse k (visit_link (groups_in m.e nested extends inverse) left) (visit_within m left) (linked m nested extends inverse k few left) inv prefix (resolve m asking r) (resolved-in m asking r))

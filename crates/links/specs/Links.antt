@@ -5,6 +5,7 @@ use Rattle.as5506.specs.Lists.{up_to}
 use Rattle.as5506.specs.Tables.{Tables, missing, present, width, letter_u, letter_e, count, Ref, p_name, u_package, u_extends, u_inverse_of, e_holder_kind, e_holder, e_classifier}
 use Rattle.as5506.specs.Resolve.{Resolved, component_type, component_impl, group_type, unresolved, resolve}
 use Rattle.as5506.specs.Groups.{is_nested}
+use Rattle.links.specs.declared.Links.{Links}
 
 -- the link of a reference that names no group type
 abbrev pub unfound : ℕ
@@ -52,6 +53,10 @@ pub record Linked (m : Tables) (nested extends inverse : List ℕ) : Type 0 wher
   pub of-nested : (e : ℕ) → e < count m letter_e → get_or nested e 0 ≡ nested_link m e
   pub of-extends : (u : ℕ) → u < count m letter_u → get_or extends u 0 ≡ extends_link m u
   pub of-inverse : (u : ℕ) → u < count m letter_u → get_or inverse u 0 ≡ inverse_link m u
+
+-- slices that hold them
+abbrev pub LinkedBy : Tables → Links → Type 0
+LinkedBy m l = Linked m l.nested.now l.extends.now l.inverse.now
 
 -- tables in which each row has a place for its link
 pub record LinksFit (u e nested extends inverse : List ℕ) : Type 0 where

@@ -2,86 +2,29 @@
 #![tactic(auto)]
 
 ghost use Rattle.std.specs.Prelude.{length};
-ghost use Rattle.as5506.specs.Layout.{rows_back, group_rows_back, diags_back};
 ghost use Rattle.as5506.specs.Text.{text_within};
 ghost use Rattle.as5506.specs.Program.{text_or_refusal, conlist_text};
-ghost use Rattle.lent.specs.Lent.{tables_at, wiring_at};
-ghost use Rattle.text.specs.Printing.{Counted, list_of};
+ghost use Rattle.lent.specs.Model.{model};
+ghost use Rattle.text.specs.Listed.{listings_text};
 ghost use Rattle.shown.specs.Shown.{Shown};
 
 use as5506::{DIAGNOSTIC_NUMBERS, DIAGNOSTICS_LENT, LISTED_LENT, NAMES_LENT, ROW_NUMBERS};
-use listing::Both;
+use lent::Tables;
+use text::Listings;
 
-// Prints the list that the listings' outputs hold; where it has no room, refusal 15.
-fn print_both(
-    bytes: &[u8],
-    n: &[u32],
-    c: &[u32],
-    x: &[u32],
-    traced: &[u32],
-    traced_count: usize,
-    group: &[u32],
-    group_count: usize,
-    names: &[u8],
-    diagnostics: &[u32],
-    diagnostic_count: usize,
-    group_diagnostics: &[u32],
-    group_diagnostic_count: usize,
-    text: &mut [u8],
-) -> usize
-    requires { Counted traced.now traced_count group.now group_count diagnostics.now diagnostic_count group_diagnostics.now group_diagnostic_count }
-    ensures { Shown
-        (text_or_refusal (text_within (length text.old)
-        (list_of (wiring_at bytes n c x)
-        (rows_back (wiring_at bytes n c x) traced_count traced.now)
-        (group_rows_back group_count group.now names.now)
-        (diags_back diagnostic_count diagnostics.now)
-        (diags_back group_diagnostic_count group_diagnostics.now))))
-        text.old result text.new }
+// Prints the list of what both listings gave, or refusal 15 where it has no room: how many bytes of text there are. Not by `shown::print`: what a closure
+// promises that captures tables, which name a lifetime, the check does not see.
+fn print_listings(m: &Tables, list: &Listings, text: &mut [u8]) -> usize
+    ensures { Shown (text_or_refusal (text_within (length text.old) (listings_text (model m.now) list.now))) text.old result text.new }
 {
-    lent::clear_bytes(text);
-    let printed = text::print_list(
-        bytes,
-        n,
-        c,
-        x,
-        traced,
-        traced_count,
-        group,
-        group_count,
-        names,
-        diagnostics,
-        diagnostic_count,
-        group_diagnostics,
-        group_diagnostic_count,
-        text,
-    );
-    if text.len() < printed {
-        return shown::tell(as5506::unplaced(15), text);
-    }
-    printed
+    text.fill(0);
+    let used = text::print_list(m, list, text);
+    shown::finish(used, text)
 }
 
 // Lists what the tables hold and prints the list, or the refusal's line: how many bytes of text there are. Behind them the output is zero.
-pub fn list_tables(
-    bytes: &[u8],
-    n: &[u32],
-    c: &[u32],
-    f: &[u32],
-    x: &[u32],
-    p: &[u32],
-    i: &[u32],
-    t: &[u32],
-    q: &[u32],
-    u: &[u32],
-    e: &[u32],
-    r: &[u32],
-    m: &[u32],
-    text: &mut [u8],
-) -> usize
-    ensures { Shown
-        (conlist_text (length text.old) (tables_at bytes n c f x p i t q u e r m))
-        text.old result text.new }
+pub fn list_tables(m: &Tables, text: &mut [u8]) -> usize
+    ensures { Shown (conlist_text (length text.old) (model m.now)) text.old result text.new }
 {
     let mut rows = [0u32; LISTED_LENT * ROW_NUMBERS];
     let mut diagnostics = [0u32; DIAGNOSTICS_LENT * DIAGNOSTIC_NUMBERS];
@@ -89,18 +32,6 @@ pub fn list_tables(
     let mut names = [0u8; NAMES_LENT];
     let mut group_diagnostics = [0u32; DIAGNOSTICS_LENT * DIAGNOSTIC_NUMBERS];
     match listing::list_connections(
-        bytes,
-        n,
-        c,
-        f,
-        x,
-        p,
-        i,
-        t,
-        q,
-        u,
-        e,
-        r,
         m,
         &mut rows,
         &mut diagnostics,
@@ -108,22 +39,16 @@ pub fn list_tables(
         &mut names,
         &mut group_diagnostics,
     ) {
-        Both::Refused(reason) => shown::tell(reason, text),
-        Both::Rows(k, d, l, g) => print_both(
-            bytes,
-            n,
-            c,
-            x,
-            &rows,
-            k,
-            &group_rows,
-            l,
-            &names,
-            &diagnostics,
-            d,
-            &group_diagnostics,
-            g,
-            text,
-        ),
+        Err(reason) => shown::tell(reason, text),
+        Ok(both) => {
+            let list = Listings {
+                traced: &rows.as_chunks().0[..both.traced.rows],
+                group: &group_rows.as_chunks().0[..both.group.rows],
+                names: &names,
+                diagnostics: &diagnostics.as_chunks().0[..both.traced.diagnostics],
+                group_diagnostics: &group_diagnostics.as_chunks().0[..both.group.diagnostics],
+            };
+            print_listings(m, &list, text)
+        }
     }
 }

@@ -1,9 +1,10 @@
 -- What an answer that gives both lists holds, for callers: no more than there is room for, and short paths; and the outputs that a program lends.
 -- Assumes nothing.
-use mathlib.Core.Bool.{Bool, true, false}
+use mathlib.Core.Bool.{Bool}
 use mathlib.Core.Option.{Option, none, some}
-use mathlib.Core.Path.{◌≡◌, refl, sym, ap, ◌∙◌}
+use mathlib.Core.Path.{◌≡◌, sym, subst}
 use mathlib.Core.List.{List, [], ◌∷◌, ◌++◌}
+use Rattle.std.specs.Prelude.{Result, Ok}
 use Prim.Native.Nat.{ℕ, ◌*◌, ◌/◌, ◌≤◌}
 use native.Mathlib.Nat.{div-mul-le_self, mul-le-mul_right, le_trans}
 use native.Mathlib.Omega.{arith}
@@ -11,20 +12,21 @@ use lib.Dec.{T, ltb, nltb→le}
 use lib.ListN.{length, length-replicate}
 use Rattle.as5506.specs.Lists.{is_nil, zeros}
 use Rattle.as5506.specs.Tables.{Tables}
-use Rattle.as5506.specs.Answers.{Refusal, refusal, nowhere, Answer, given, refused, fault, unless_faults, told}
+use Rattle.as5506.specs.Answers.{Refusal, refusal, nowhere, Answer, given, refused, fault, unless_faults}
 use Rattle.as5506.specs.Refusals.{faults}
 use Rattle.as5506.specs.Groups.{Feature}
 use Rattle.as5506.specs.GroupList.{GroupConnection, group_connections, overrun, Match, matches, match_row, rows_matched}
 use Rattle.as5506.specs.Tracing.{step_limit}
 use Rattle.as5506.specs.Listing.{Room, TracedList, GroupList, BothLists, rows_over, names_over, diags_over, traced_list, traced_within, traced_on, traced_answer, group_list_of, group_within, group_of, group_on, group_answer, with_group, after_traced, both_answer}
 use Rattle.as5506.specs.Layout.{row_numbers, diag_numbers, room_in}
-use Rattle.as5506.specs.Program.{room, names_lent}
+use Rattle.as5506.specs.Program.{names_lent}
+use Rattle.as5506.specs.Program.{room as room_lent}
 use Rattle.as5506.specs.declared.Refusal.{Refusal as Told}
-use Rattle.as5506.proofs.Laws.{All, all-of, all-each, not-both, nil-left, nil-right, nil-when}
+use Rattle.as5506.proofs.Answers.{handed-ok}
+use Rattle.as5506.proofs.Laws.{All, all-of, all-each, nil-left, nil-right, nil-when}
 use Rattle.as5506.proofs.Back.{ShortPath, ShortRow}
 use Rattle.as5506.proofs.Ends.{traced-short}
 use Rattle.listing.specs.declared.Both.{Both}
-use Rattle.listing.specs.declared.Both.TheVariants.{Rows, Refused}
 use Rattle.listing.specs.Answer.{listed, Outputs, outputs, answer_for, BothInto}
 
 -- ---- what holds of an answer that is given
@@ -33,6 +35,10 @@ module _ {A : Type 0} where
   abbrev pub Holds : (A → Type 0) → Answer A → Type 0
   Holds P (given a) = P a
   Holds P (refused r) = Unit {0}
+
+  -- where it is given it holds of what is
+  pub holds : (P : A → Type 0) (a : Answer A) → Holds P a → (x : A) → a ≡ given x → P x
+  holds P a h x e = subst (Holds P) e h
 
   unless_holds : (P : A → Type 0) (rs : List Refusal) (a : A) → (T (is_nil rs) → P a) → Holds P (unless_faults rs a)
   unless_holds P [] a h = h tt
@@ -134,40 +140,6 @@ pub both-fit : (room room' : Room) (names : ℕ) (m : Tables) → Holds (BothFit
 unfolding both_answer
 both-fit room room' names m = after-fits room room' names m (traced_answer room m) (traced_fit room m)
 
--- ---- the code's answer
-
-abbrev pub is_rows : Both → Bool
-is_rows (Rows k d l g) = true
-is_rows (Refused r) = false
-
-abbrev pub traced_rows : Both → ℕ
-traced_rows (Rows k d l g) = k
-traced_rows (Refused r) = 0
-
-abbrev pub traced_diags : Both → ℕ
-traced_diags (Rows k d l g) = d
-traced_diags (Refused r) = 0
-
-abbrev pub group_rows : Both → ℕ
-group_rows (Rows k d l g) = l
-group_rows (Refused r) = 0
-
-abbrev pub group_diags : Both → ℕ
-group_diags (Rows k d l g) = g
-group_diags (Refused r) = 0
-
-abbrev pub reason_or : Told → Both → Told
-reason_or t (Rows k d l g) = t
-reason_or t (Refused r) = r
-
-module _ (room room' : Room) (m : Tables) (k d l g : ℕ) where
-  -- how many rows and diagnostics there are, where there is a list
-  pub counts-fit : (a : Answer BothLists) → Holds (BothFit room room') a → Rows k d l g ≡ listed a
-      → (k ≤ room.rows) × (l ≤ room'.rows) × (d ≤ room.diags) × (g ≤ room'.diags)
-  counts-fit (given b) h e =
-      (rw (ap traced_rows e) h.traced.rows, rw (ap group_rows e) h.group.rows, rw (ap traced_diags e) h.traced.diags, rw (ap group_diags e) h.group.diags)
-  counts-fit (refused r) h e = absurd (not-both is_rows (Rows k d l g) (Refused (told r)) e tt refl)
-
 -- ---- what a call leaves
 
 within : (n w k : ℕ) → k ≤ n / w → k * w ≤ n
@@ -183,34 +155,36 @@ pub fit : (m : Tables) (o : Outputs) → Holds (BothFit (traced_room o) (group_r
 fit m o = both-fit (traced_room o) (group_room o) (length o.names) m
 
 -- rows and diagnostics, as many as the answer counts, lie within their outputs
-pub record Within (o : Outputs) (k d l g : ℕ) : Type 0 where
-  pub rows : k * row_numbers ≤ length o.rows
-  pub diags : d * diag_numbers ≤ length o.diags
-  pub group-rows : l * row_numbers ≤ length o.group-rows
-  pub group-diags : g * diag_numbers ≤ length o.group-diags
+pub record Within (o : Outputs) (b : Both) : Type 0 where
+  pub rows : b.traced.rows * row_numbers ≤ length o.rows
+  pub diags : b.traced.diagnostics * diag_numbers ≤ length o.diags
+  pub group-rows : b.group.rows * row_numbers ≤ length o.group-rows
+  pub group-diags : b.group.diagnostics * diag_numbers ≤ length o.group-diags
 
-pub counts-within : (m : Tables) (o : Outputs) (z : Both) (p : Outputs) → BothInto m o z p → (k d l g : ℕ) → z ≡ Rows k d l g → Within o k d l g
-counts-within m o z p h k d l g e =
-    let b = counts-fit (traced_room o) (group_room o) m k d l g (answer_for m o) (fit m o) (sym e ∙ h.answer) in
-    record {
-      rows = within (length o.rows) row_numbers k b.0;
-      diags = within (length o.diags) diag_numbers d b.2;
-      group-rows = within (length o.group-rows) row_numbers l b.1;
-      group-diags = within (length o.group-diags) diag_numbers g b.3;
-    }
+pub counts-within : (m : Tables) (o : Outputs) (z : Result Both Told) (p : Outputs) → BothInto m o z p → (b : Both) → z ≡ Ok b → Within o b
+counts-within m o z p h b e =
+    let x = handed-ok listed z (answer_for m o) h.answer b e in
+    let f = holds (BothFit (traced_room o) (group_room o)) (answer_for m o) (fit m o) x.0 x.1 in
+    subst (λ (c : Both). Within o c) (sym x.2)
+    (record {
+      rows = within (length o.rows) row_numbers (length x.0.traced.rows) f.traced.rows;
+      diags = within (length o.diags) diag_numbers (length x.0.traced.diags) f.traced.diags;
+      group-rows = within (length o.group-rows) row_numbers (length x.0.group.rows) f.group.rows;
+      group-diags = within (length o.group-diags) diag_numbers (length x.0.group.diags) f.group.diags;
+    })
 
 -- ---- the outputs that a program lends
 
 abbrev rows_lent : ℕ
-rows_lent = room.rows * row_numbers
+rows_lent = room_lent.rows * row_numbers
 
 abbrev diags_lent : ℕ
-diags_lent = room.diags * diag_numbers
+diags_lent = room_lent.diags * diag_numbers
 
 abbrev pub no_outputs : Outputs
 no_outputs = outputs (zeros rows_lent) (zeros diags_lent) (zeros rows_lent) (zeros names_lent) (zeros diags_lent)
 
-pub answer-lent : (m : Tables) → answer_for m no_outputs ≡ both_answer room room names_lent m
+pub answer-lent : (m : Tables) → answer_for m no_outputs ≡ both_answer room_lent room_lent names_lent m
 answer-lent m =
     let rows = length-replicate {A = ℕ} rows_lent 0 in
     let diags = length-replicate {A = ℕ} diags_lent 0 in

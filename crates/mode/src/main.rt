@@ -7,9 +7,8 @@ ghost use Rattle.on_sheet.specs.Tasks.{Writes};
 
 use as5506::{SHEET_LENT, TEXT_LENT};
 use on_sheet::Task;
-use stdio::{Argument, Input};
 
-// THE PROGRAM: the text for the number and the bytes that were read.
+// THE PROGRAM (each of the three has its own, since its contract cites the definition of that program): the text for the number and the bytes that were read.
 fn mode(number: u64, read: &[u8; SHEET_LENT], got: usize, text: &mut [u8; TEXT_LENT]) -> usize
     ensures { Writes (written number) read.now got result text.new }
 {
@@ -17,12 +16,11 @@ fn mode(number: u64, read: &[u8; SHEET_LENT], got: usize, text: &mut [u8; TEXT_L
 }
 
 fn main(rt: HostRuntime) {
-    let Argument::Number(number) = stdio::number_argument(&rt, &mut rt.stderr(), b"mode") else {
+    let Some(number) = stdio::number_argument(&rt, &mut rt.stderr(), b"mode") else {
         return;
     };
     let mut read = [0u8; SHEET_LENT];
-    let Input::Read(got) = stdio::read_input(&mut rt.stdin(), &mut rt.stderr(), b"mode", &mut read)
-    else {
+    let Some(got) = stdio::read_input(&mut rt.stdin(), &mut rt.stderr(), b"mode", &mut read) else {
         return;
     };
     let mut text = [0u8; TEXT_LENT];

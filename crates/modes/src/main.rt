@@ -7,9 +7,8 @@ ghost use Rattle.on_sheet.specs.Tasks.{Writes};
 
 use as5506::{SHEET_LENT, TEXT_LENT};
 use on_sheet::Task;
-use stdio::Input;
 
-// THE PROGRAM: the text for the bytes that were read.
+// THE PROGRAM (each of the three has its own, since its contract cites the definition of that program): the text for the bytes that were read.
 fn modes(read: &[u8; SHEET_LENT], got: usize, text: &mut [u8; TEXT_LENT]) -> usize
     ensures { Writes written read.now got result text.new }
 {
@@ -18,8 +17,7 @@ fn modes(read: &[u8; SHEET_LENT], got: usize, text: &mut [u8; TEXT_LENT]) -> usi
 
 fn main(rt: HostRuntime) {
     let mut read = [0u8; SHEET_LENT];
-    let Input::Read(got) = stdio::read_input(&mut rt.stdin(), &mut rt.stderr(), b"modes", &mut read)
-    else {
+    let Some(got) = stdio::read_input(&mut rt.stdin(), &mut rt.stderr(), b"modes", &mut read) else {
         return;
     };
     let mut text = [0u8; TEXT_LENT];

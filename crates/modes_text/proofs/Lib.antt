@@ -1,4 +1,4 @@
--- Laws of what modes and mode print.
+-- Laws of what mode prints.
 --
---     Answered   the text that is printed from what the calls answer is the definition's
-mod Answered
+--     Selected   what the call for a selection leaves in its outputs
+mod Selected

@@ -1,7 +1,7 @@
 -- Laws of names. For callers: Compare.
 --
 --     Compare   when two names are equal, and the loop that compares them
---     Scan      one byte, and the loops that read a name from the front
+--     Scan      tests of all bytes, and the name up to its first bracket
 --     Pattern   the text of a pattern
 pub mod Compare
 mod Scan

@@ -1,91 +1,58 @@
--- Laws of one byte, and of the loops that read a name from the front: `good_name`, `has`, `base_name`. Assumes nothing.
-use mathlib.Core.Bool.{Bool, true, false}
-use mathlib.Core.Path.{◌≡◌, sym}
-use mathlib.Core.List.{List, ◌++◌, append_assoc, append-nil}
-use Prim.Native.Nat.{ℕ, ◌+◌, ◌*◌, ◌≤◌, ◌<◌}
-use native.Mathlib.Nat.{add-zero}
-use native.Mathlib.Numerals.{add-one}
-use borrow.Author.Tests.{eq-eqb, ne_eqb, le-leb, lt-leb}
-use lib.Dec.{leb}
-use lib.ListN.{length, take, drop, get_or, drop_of_length-le}
-use lib.Seq.{drop-cons, take-suc}
+-- Laws of tests of all bytes of a name, and of the name up to its first bracket. Assumes nothing.
+use mathlib.Core.Bool.{Bool, true, false, ◌||◌, cond}
+use mathlib.Core.Path.{◌≡◌, refl, sym, ap, ap₂, ◌∙◌}
+use mathlib.Core.List.{List, [], ◌∷◌}
+use Prim.Native.Nat.{ℕ, suc, ◌+◌, ◌≤◌}
+use lib.Dec.{eqb, ltb}
+use lib.ListN.{length, take}
+use borrow.Author.Tests.{ltb-false, le-leb}
+use native.Mathlib.Omega.{arith}
+use Rattle.std.proofs.lemmas.Bool.Decides.{nat_tests}
+use Rattle.std.proofs.lemmas.List.{take_all}
+use Rattle.std.specs.Prelude.{Option, Some, None}
+use Rattle.std.specs.List.{list_any, list_all, position_or_len}
 use Rattle.as5506.specs.Lists.{all_of, has}
-use Rattle.as5506.specs.Tables.{name_in}
-use Rattle.as5506.specs.Names.{name_byte, good_name, fold_byte, bracket, base_name}
+use Rattle.as5506.specs.Names.{name_byte, good_name, bracket, base_name}
 
--- ---- one byte
+pub all-is : (p : ℕ → Bool) (s : List ℕ) → list_all p s ≡ all_of p s
+all-is p [] = refl
+all-is p (x ∷ s) = rw (all-is p s)
 
-pub fold-below : (b : ℕ) → b < 65 → b ≡ fold_byte b
-fold-below b h = rw (lt-leb 65 b h)
+eqb-swap : (a b : ℕ) → eqb a b ≡ eqb b a
+eqb-swap a b = grind (arith, nat_tests)
 
-pub fold-above : (b : ℕ) → 65 ≤ b → 90 < b → b ≡ fold_byte b
-fold-above b h k = rw (le-leb 65 b h, lt-leb b 90 k)
-
-pub fold-capital : (b : ℕ) → 65 ≤ b → b ≤ 90 → b + 32 ≡ fold_byte b
-fold-capital b h k = rw (le-leb 65 b h, le-leb b 90 k)
-
-pub byte-tab : (b : ℕ) → b ≡ 9 → true ≡ name_byte b
-byte-tab b h = rw (eq-eqb b 9 h)
-
-pub byte-below : (b : ℕ) → (b ≡ 9 → ⊥) → b < 32 → false ≡ name_byte b
-byte-below b n h = rw (ne_eqb b 9 n, lt-leb 32 b h)
-
-pub byte-rest : (b : ℕ) → (b ≡ 9 → ⊥) → 32 ≤ b → leb b 126 ≡ name_byte b
-byte-rest b n h = rw (ne_eqb b 9 n, le-leb 32 b h)
-
--- ---- a test of every byte: what is left from place i on
-
-module _ (p : ℕ → Bool) (s : List ℕ) (i : ℕ) where
-  pub all-turn : i < length s → p (get_or s i 0) ≡ true → all_of p (drop (i + 1) s) ≡ all_of p (drop i s)
-  all-turn h e = rw (add-one, drop-cons s i 0 h, e)
-
-  pub all-stop : i < length s → p (get_or s i 0) ≡ false → false ≡ all_of p (drop i s)
-  all-stop h e = rw (drop-cons s i 0 h, e)
-
-  pub all_end : length s ≤ i → true ≡ all_of p (drop i s)
-  all_end h = rw (drop_of_length-le s h)
-
-pub good-empty : (s : List ℕ) → length s < 1 → false ≡ good_name s
-unfolding good_name
-good-empty s h = rw (lt-leb 1 (length s) h)
-
-pub good-long : (s : List ℕ) → 1 ≤ length s → 63 < length s → false ≡ good_name s
-unfolding good_name
-good-long s l h = rw (le-leb 1 (length s) l, lt-leb (length s) 63 h)
+pub any-has : (b : ℕ) (s : List ℕ) → list_any (λ x. eqb x b) s ≡ has b s
+any-has b [] = refl
+any-has b (x ∷ s) = ap₂ ◌||◌ (eqb-swap x b) (any-has b s)
 
 pub good-is : (s : List ℕ) (z : Bool) → 1 ≤ length s → length s ≤ 63 → z ≡ all_of name_byte s → z ≡ good_name s
 unfolding good_name
 good-is s z l h e = rw (le-leb 1 (length s) l, le-leb (length s) 63 h) e
 
--- ---- a search for one byte
+abbrev pub is_bracket : ℕ → Bool
+is_bracket b = eqb b bracket
 
-module _ (b : ℕ) (s : List ℕ) (i : ℕ) where
-  pub has-turn : i < length s → (b ≡ get_or s i 0 → ⊥) → has b (drop (i + 1) s) ≡ has b (drop i s)
-  has-turn h n = rw (add-one, drop-cons s i 0 h, ne_eqb b (get_or s i 0) n)
+-- the place of the first bracket, or the length
+pub base-is : (s : List ℕ) → take (position_or_len is_bracket s) s ≡ base_name s
+unfolding base_name
+base-is [] = refl
+base-is (b ∷ s) = go (eqb b bracket) refl (base-is s)
+  where
+    go : (z : Bool) → eqb b bracket ≡ z → take (position_or_len is_bracket s) s ≡ base_name s → take (position_or_len is_bracket (b ∷ s)) (b ∷ s) ≡ base_name (b ∷ s)
+    go true e rest = rw e
+    go false e rest =
+        let next : 1 + position_or_len is_bracket s ≡ suc (position_or_len is_bracket s) = omega arith in
+        rw (e, next) (ap (λ (t : List ℕ). b ∷ t) rest)
 
-  pub has-found : i < length s → b ≡ get_or s i 0 → true ≡ has b (drop i s)
-  has-found h e = rw (drop-cons s i 0 h, eq-eqb b (get_or s i 0) e)
+pub at-some : (z : Bool) (p n : ℕ) → ◌≡◌ {A = Option ℕ} (Some n) (cond z (Some p) None) → n ≡ p
+at-some true p n e = cc
+at-some false p n e = cc
 
-  pub has_end : length s ≤ i → false ≡ has b (drop i s)
-  has_end h = rw (drop_of_length-le s h)
+at-none : (z : Bool) (p : ℕ) → ◌≡◌ {A = Option ℕ} None (cond z (Some p) None) → z ≡ false
+at-none true p e = cc
+at-none false p e = refl
 
--- ---- the name up to the first bracket: what was passed, and that of what is left
-
-module _ (s : List ℕ) (i : ℕ) where
-  pub base-turn : i < length s → (get_or s i 0 ≡ bracket → ⊥) → take (i + 1) s ++ base_name (drop (i + 1) s) ≡ take i s ++ base_name (drop i s)
-  unfolding base_name
-  base-turn h n = rw (add-one, take-suc s i 0 h, drop-cons s i 0 h, ne_eqb (get_or s i 0) bracket n, append_assoc)
-
-  pub base-found : i < length s → get_or s i 0 ≡ bracket → take i s ≡ take i s ++ base_name (drop i s)
-  unfolding base_name
-  base-found h e = rw (drop-cons s i 0 h, eq-eqb (get_or s i 0) bracket e) (sym (append-nil (take i s)))
-
-  pub base-end : length s ≤ i → take i s ≡ take i s ++ base_name (drop i s)
-  unfolding base_name
-  base-end h = rw (drop_of_length-le s h) (sym (append-nil (take i s)))
-
--- ---- a name by its number
-
-pub name-is : (bytes n : List ℕ) (k from len : ℕ) → from ≡ get_or n (k * 2) 0 → len ≡ get_or n (k * 2 + 1) 0 → take len (drop from bytes) ≡ name_in bytes n k
-unfolding name_in
-name-is bytes n k from len e f = rw (add-zero (k * 2), ← e, ← f)
+pub base-none : (s : List ℕ) → ◌≡◌ {A = Option ℕ} None (cond (ltb (position_or_len is_bracket s) (length s)) (Some (position_or_len is_bracket s)) None) → s ≡ base_name s
+base-none s e =
+    let h : length s ≤ position_or_len is_bracket s = ltb-false (position_or_len is_bracket s) (length s) (at-none _ _ e) in
+    sym (take_all (position_or_len is_bracket s) s h) ∙ base-is s

@@ -3,6 +3,7 @@
 // three rows and a half), then the bytes of both texts. A missing number is the largest row, and as a place the largest place.
 #![tactic(auto)]
 
+use lent::Tables;
 use name::ConnectionPattern;
 use std::io::Read;
 
@@ -19,33 +20,17 @@ fn print(rt: &impl Print, text: &[u8]) {
 
 // A space and the number.
 fn print_number(rt: &impl Print, n: u64) {
-    print(rt, b" ");
-    let _ = print!(rt; "{n}");
+    let _ = print!(rt; " {n}");
 }
 
 fn print_flag(rt: &impl Print, yes: bool) {
-    if yes {
-        print(rt, b" yes");
-    } else {
-        print(rt, b" no");
-    }
+    print(rt, if yes { b" yes" } else { b" no" });
 }
 
-fn print_numbers(rt: &impl Print, t: &[u32]) {
+fn print_all<T: Copy + Into<u64>>(rt: &impl Print, values: &[T]) {
     print(rt, b" /");
-    let mut i: usize = 0;
-    while i < t.len() {
-        print_number(rt, t[i] as u64);
-        i += 1;
-    }
-}
-
-fn print_bytes(rt: &impl Print, t: &[u8]) {
-    print(rt, b" /");
-    let mut i: usize = 0;
-    while i < t.len() {
-        print_number(rt, t[i] as u64);
-        i += 1;
+    for value in values {
+        print_number(rt, (*value).into());
     }
 }
 
@@ -59,72 +44,89 @@ fn print_pattern(rt: &impl Print, p: ConnectionPattern) {
 // A number of a case as a place.
 fn place_of(k: u32) -> usize {
     if k == as5506::MISSING {
-        18446744073709551615
+        usize::MAX
     } else {
         k as usize
     }
 }
 
 fn try_names(rt: &impl Print, a: &[u8], b: &[u8]) {
-    print_number(rt, name::fold(lent::byte_at(a, 0)) as u64);
+    print_number(rt, name::fold(lent::get_or(a, 0, 0)) as u64);
     print_flag(rt, name::same_bytes(a, b));
     print_flag(rt, name::same_folded(a, b));
     print_flag(rt, name::good_name(a));
     print_flag(rt, name::has_bracket(a));
-    print_bytes(rt, name::base_name_of(a));
+    print_all(rt, name::base_name_of(a));
     print_pattern(rt, name::parse_connection_pattern(a));
 }
 
 fn try_rows(rt: &impl Print, bytes: &[u8], n: &[u32], j: u32, k: u32) {
-    print_bytes(rt, name::name_of(bytes, n, j));
-    print_flag(rt, name::same_names(bytes, n, j, k));
-    print_flag(rt, name::same_folded_names(bytes, n, j, k));
-    print_pattern(rt, name::pattern_of(bytes, n, j));
+    let none: &[u32] = &[];
+    let m = Tables {
+        bytes,
+        n,
+        c: none,
+        f: none,
+        x: none,
+        p: none,
+        i: none,
+        t: none,
+        q: none,
+        u: none,
+        e: none,
+        r: none,
+        m: none,
+    };
+    print_all(rt, name::name_of(&m, j));
+    print_flag(rt, name::same_names(&m, j, k));
+    print_flag(rt, name::same_folded_names(&m, j, k));
+    print_pattern(rt, name::pattern_of(&m, j));
 }
 
 fn try_reads(rt: &impl Print, bytes: &[u8], numbers: &[u32], from: usize, len: usize) {
-    print_number(rt, lent::number_at(numbers, from) as u64);
-    print_number(rt, lent::byte_at(bytes, from) as u64);
-    print_bytes(rt, lent::part(bytes, from, len));
+    print_number(rt, lent::get_or(numbers, from, 0) as u64);
+    print_number(rt, lent::get_or(bytes, from, 0) as u64);
+    print_all(rt, lent::part(bytes, from, len));
 }
 
-// One number, a block where there is room for it, zeros, and as much of the block as has room.
+// A value, and a block where there is room for it: the numbers' and the bytes' append are two functions of `lent`.
 fn try_numbers(rt: &impl Print, at: usize, v: u32, block: &[u32]) {
     let mut out = [7u32; LENT];
-    lent::put_number(&mut out, at, v);
-    print_numbers(rt, &out);
+    lent::put(&mut out, at, v);
+    print_all(rt, &out);
     print_number(rt, lent::append_numbers(&mut out, at, block) as u64);
-    print_numbers(rt, &out);
-    lent::clear_numbers(&mut out);
-    print_numbers(rt, &out);
-    lent::put_numbers(&mut out, at, block);
-    print_numbers(rt, &out);
+    print_all(rt, &out);
+    try_block(rt, [0u32; LENT], at, block);
 }
 
-// The same of bytes.
 fn try_bytes(rt: &impl Print, at: usize, v: u8, block: &[u8]) {
     let mut out = [7u8; LENT];
-    lent::put_byte(&mut out, at, v);
-    print_bytes(rt, &out);
+    lent::put(&mut out, at, v);
+    print_all(rt, &out);
     print_number(rt, lent::append_bytes(&mut out, at, block) as u64);
-    print_bytes(rt, &out);
-    lent::clear_bytes(&mut out);
-    print_bytes(rt, &out);
-    lent::put_bytes(&mut out, at, block);
-    print_bytes(rt, &out);
+    print_all(rt, &out);
+    try_block(rt, [0u8; LENT], at, block);
+}
+
+// Zeros, and as much of the block as has room.
+fn try_block<T: Copy + Into<u64>>(rt: &impl Print, mut out: [T; LENT], at: usize, block: &[T]) {
+    print_all(rt, &out);
+    lent::put_all(&mut out, at, block);
+    print_all(rt, &out);
 }
 
 fn replay(rt: &impl Print, a: &[u8], b: &[u8], j: u32, k: u32, n: &[u32]) {
+    let at = place_of(j);
     print(rt, b"names");
     try_names(rt, a, b);
     print(rt, b" rows");
     try_rows(rt, a, n, j, k);
     print(rt, b" reads");
-    try_reads(rt, a, n, place_of(j), place_of(k));
+    try_reads(rt, a, n, at, place_of(k));
     print(rt, b" numbers");
-    try_numbers(rt, place_of(j), k, n);
+    try_numbers(rt, at, k, n);
     print(rt, b" bytes");
-    try_bytes(rt, place_of(j), lent::byte_at(a, 0), b);
+    try_bytes(rt, at, lent::get_or(a, 0, 0), b);
     print(rt, b"\n");
 }
 
@@ -144,22 +146,13 @@ fn next_case(rt: &impl Print, input: &mut impl Read) -> bool {
     let mut b = [0u8; BYTES];
     let a_end = cases::bytes(input, &mut a, a_length);
     let b_end = cases::bytes(input, &mut b, b_length);
-    replay(
-        rt,
-        lent::part(&a, 0, a_end),
-        lent::part(&b, 0, b_end),
-        j,
-        k,
-        &n,
-    );
+    replay(rt, &a[..a_end], &b[..b_end], j, k, &n);
     true
 }
 
 fn main(rt: HostRuntime) {
     let mut input = rt.stdin();
-    let mut left = CASES;
-    while 0 < left {
-        left -= 1;
+    for _ in 0..CASES {
         if !next_case(&rt, &mut input) {
             return;
         }

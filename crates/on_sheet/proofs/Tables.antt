@@ -1,24 +1,17 @@
 -- The slices of a sheet that was read: what is lent, what is handed on, and what a task gives for it. Assumes nothing.
-use mathlib.Core.Bool.{Bool, true, false}
 use mathlib.Core.Path.{◌≡◌, refl, sym, ap, subst, ◌∙◌}
 use mathlib.Core.List.{List}
 use Prim.Native.Nat.{ℕ, ◌*◌, ◌≤◌}
-use native.Mathlib.Nat.{le_trans}
-use native.Mathlib.Omega.{arith}
 use lib.ListN.{length, take, length-replicate}
 use Rattle.as5506.specs.Lists.{zeros}
 use Rattle.as5506.specs.Tables.{Tables, tables_of, Letter, letter_n, letter_c, letter_f, letter_x, letter_p, letter_i, letter_t, letter_q, letter_u, letter_e, letter_r, letter_m, table, width, count}
-use Rattle.as5506.specs.Answers.{Answer, given, refused}
-use Rattle.as5506.specs.Sheet.{Lent, lent_of, tables_read, read_sheet}
+use Rattle.as5506.specs.Sheet.{Lent, lent_of, read_sheet}
 use Rattle.as5506.specs.Program.{lent, of_reading}
 use Rattle.as5506.specs.declared.Refusal.{Refusal as Told}
-use Rattle.as5506.proofs.Laws.{not-both}
 use Rattle.sheet.specs.declared.Counts.{Counts}
-use Rattle.sheet.specs.declared.SheetRead.{SheetRead}
-use Rattle.sheet.specs.declared.SheetRead.TheVariants.{Read, Refused}
+use Rattle.std.specs.Prelude.{Result, Ok, Err}
+use Rattle.as5506.proofs.Answers.{handed-err}
 use Rattle.sheet.specs.Read.{counts_of, sheet_read, ReadInto}
-use Rattle.sheet.specs.Steps.{texts}
-use Rattle.sheet.proofs.Whole.{no-fault, table_fits}
 use Rattle.sheet.proofs.Model.{Model, handed}
 use Rattle.text.specs.Printing.{refusal_of}
 use Rattle.text.proofs.Printed.{refusal-printed}
@@ -85,29 +78,14 @@ numbers-lent l = ap length (table-by (zeros lent.bytes) (λ l. zeros (lent.numbe
 lent_is : lent_of no_tables ≡ lent
 lent_is = λ j. record { bytes = length-replicate {A = ℕ} lent.bytes 0 j; numbers = λ l. numbers-lent l j }
 
--- numbers of the machine
-lent-small : (l : Letter) → lent.numbers l ≤ 65536
-lent-small letter_n = omega arith
-lent-small letter_c = omega arith
-lent-small letter_f = omega arith
-lent-small letter_x = omega arith
-lent-small letter_p = omega arith
-lent-small letter_i = omega arith
-lent-small letter_t = omega arith
-lent-small letter_q = omega arith
-lent-small letter_u = omega arith
-lent-small letter_e = omega arith
-lent-small letter_r = omega arith
-lent-small letter_m = omega arith
-
 -- ---- what is handed on: of each slice as much as was read
 
 abbrev pub taken : Counts → Tables → Tables
 taken k a = tables_by (take k.bytes a.bytes) (λ l. take (counted k l * width l) (table a l))
 
-module _ (s : List ℕ) (z : SheetRead) (after : Tables) (h : ReadInto no_tables s z after) (k : Counts) (e : z ≡ Read k) where
-  read-so : ReadInto no_tables s (Read k) after
-  read-so = subst (λ (z : SheetRead). ReadInto no_tables s z after) e h
+module _ (s : List ℕ) (z : Result Counts Told) (after : Tables) (h : ReadInto no_tables s z after) (k : Counts) (e : z ≡ Ok k) where
+  read-so : ReadInto no_tables s (Ok k) after
+  read-so = subst (λ (z : Result Counts Told). ReadInto no_tables s z after) e h
 
   is-model : Model no_tables s k after
   is-model = handed no_tables s k after read-so
@@ -117,12 +95,6 @@ module _ (s : List ℕ) (z : SheetRead) (after : Tables) (h : ReadInto no_tables
 
   pub rows-within : (l : Letter) → counted k l * width l ≤ length (table after l)
   rows-within l = rw (counts_of_lem l) (is-model.within l)
-
-  pub rows-small : (l : Letter) → counted k l * width l ≤ 65536
-  rows-small l =
-      let q : counted k l * width l ≡ length (table (tables_read (texts s)) l)
-      = ap (λ (n : ℕ). n * width l) (counts_of_lem l) ∙ sym (is-model.whole l) ∙ ap (λ (m : Tables). length (table m l)) is-model.is in
-      rw q (le_trans (table_fits (lent_of no_tables) s (no-fault (lent_of no_tables) s k read-so.answer) l) (rw (numbers-lent l) (lent-small l)))
 
   pub bytes-within : k.bytes ≤ length after.bytes
   bytes-within = is-model.bytes-within
@@ -140,26 +112,9 @@ module _ (s : List ℕ) (z : SheetRead) (after : Tables) (h : ReadInto no_tables
 
 -- ---- a refusal of the reader
 
-abbrev is_read : SheetRead → Bool
-is_read (Read k) = true
-is_read (Refused r) = false
-
-abbrev reason_or : Told → SheetRead → Told
-reason_or t (Read k) = t
-reason_or t (Refused r) = r
-
-refusal-read : (f : Tables → List ℕ) (t : Told) (a : Answer Tables) → Refused t ≡ sheet_read a → refusal_of t ≡ of_reading f a
-unfolding of_reading
-refusal-read f t (given m) e = absurd (not-both is_read _ (Refused t) (sym e) tt refl)
-refusal-read f t (refused r) e = ap (λ (z : SheetRead). refusal_of (reason_or t z)) e ∙ sym (refusal-printed r)
-
-pub text-refused : (s : List ℕ) (z : SheetRead) (after : Tables) → ReadInto no_tables s z after → (task : Task) (n : ℕ) (t : Told) → z ≡ Refused t
+pub text-refused : (s : List ℕ) (z : Result Counts Told) (after : Tables) → ReadInto no_tables s z after → (task : Task) (n : ℕ) (t : Told) → z ≡ Err t
     → refusal_of t ≡ on_sheet task n s
-unfolding on_sheet
+unfolding on_sheet of_reading
 text-refused s z after h task n t e =
-    refusal-read (task_text task n) t (read_sheet lent s) (sym e ∙ h.answer ∙ ap (λ (l : Lent). sheet_read (read_sheet l s)) lent_is)
-
--- ---- a task that is known
-
-pub same-task : (task known : Task) (n : ℕ) (m : Tables) → task ≡ known → task_text known n m ≡ task_text task n m
-same-task task known n m e = ap (λ (k : Task). task_text k n m) (sym e)
+    let x = handed-err counts_of z (read_sheet lent s) (h.answer ∙ ap (λ (l : Lent). sheet_read (read_sheet l s)) lent_is) t e in
+    ap refusal_of x.2 ∙ sym (refusal-printed x.0) ∙ sym (ap (of_reading (task_text task n)) x.1)

@@ -1,8 +1,8 @@
 // A task on a sheet. What a program lends for the tables of a sheet is lent here, as document 01 says how many of each, for all tasks alike.
 #![tactic(auto)]
 
-ghost use Rattle.std.specs.Prelude.{length};
-ghost use Rattle.lent.specs.Lent.{tables_at};
+ghost use Rattle.std.specs.Prelude.{◌≡◌, ◌*◌, ◌≤◌, length, take};
+ghost use Rattle.lent.specs.Model.{model};
 ghost use Rattle.shown.specs.Shown.{Shown};
 ghost use Rattle.on_sheet.specs.Tasks.{task_text, on_sheet};
 
@@ -10,7 +10,7 @@ use as5506::{
     C_NUMBERS, E_NUMBERS, F_NUMBERS, I_NUMBERS, M_NUMBERS, N_NUMBERS, N_ROWS_LENT, P_NUMBERS,
     Q_NUMBERS, R_NUMBERS, ROWS_LENT, SHEET_BYTES, T_NUMBERS, U_NUMBERS, X_NUMBERS,
 };
-use sheet::SheetRead;
+use lent::Tables;
 
 // What is done with the tables of a sheet.
 #[derive(Clone, Copy)]
@@ -24,34 +24,22 @@ pub enum Task {
 }
 
 // Does a task with tables: how many bytes of text there are. Behind them the output is zero.
-fn do_task(
-    task: Task,
-    bytes: &[u8],
-    n: &[u32],
-    c: &[u32],
-    f: &[u32],
-    x: &[u32],
-    p: &[u32],
-    i: &[u32],
-    t: &[u32],
-    q: &[u32],
-    u: &[u32],
-    e: &[u32],
-    r: &[u32],
-    m: &[u32],
-    text: &mut [u8],
-) -> usize
-    ensures { Shown
-        (task_text task (length text.old) (tables_at bytes n c f x p i t q u e r m))
-        text.old result text.new }
+fn do_task(task: Task, m: &Tables, text: &mut [u8]) -> usize
+    ensures { Shown (task_text task (length text.old) (model m.now)) text.old result text.new }
 {
     match task {
-        Task::Conlist => list_text::list_tables(bytes, n, c, f, x, p, i, t, q, u, e, r, m, text),
-        Task::Modes => modes_text::count_tables(bytes, n, c, f, x, p, i, t, q, u, e, r, m, text),
-        Task::Mode(number) => modes_text::select_tables(
-            bytes, n, c, f, x, p, i, t, q, u, e, r, m, number, text,
-        ),
+        Task::Conlist => list_text::list_tables(m, text),
+        Task::Modes => modes_text::count_tables(m, text),
+        Task::Mode(number) => modes_text::select_tables(m, number, text),
     }
+}
+
+// The first rows of a table, so many of so many numbers each.
+fn rows(table: &[u32], count: usize, width: usize) -> &[u32]
+    requires { count * width ≤ length table.now }
+    ensures { result.now ≡ take (count * width) table.now }
+{
+    &table[..count * width]
 }
 
 // Reads a sheet and does a task with what it holds, or prints the line of the refusal: how many bytes of text there are. Behind them the output is
@@ -76,23 +64,24 @@ pub fn on_sheet(task: Task, sheet: &[u8], text: &mut [u8]) -> usize
         sheet, &mut bytes, &mut n, &mut c, &mut f, &mut x, &mut p, &mut i, &mut t, &mut q, &mut u,
         &mut e, &mut r, &mut m,
     ) {
-        SheetRead::Refused(reason) => shown::tell(reason, text),
-        SheetRead::Read(k) => do_task(
-            task,
-            &bytes[..k.bytes],
-            &n[..k.n * N_NUMBERS],
-            &c[..k.c * C_NUMBERS],
-            &f[..k.f * F_NUMBERS],
-            &x[..k.x * X_NUMBERS],
-            &p[..k.p * P_NUMBERS],
-            &i[..k.i * I_NUMBERS],
-            &t[..k.t * T_NUMBERS],
-            &q[..k.q * Q_NUMBERS],
-            &u[..k.u * U_NUMBERS],
-            &e[..k.e * E_NUMBERS],
-            &r[..k.r * R_NUMBERS],
-            &m[..k.m * M_NUMBERS],
-            text,
-        ),
+        Err(reason) => shown::tell(reason, text),
+        Ok(k) => {
+            let tables = Tables {
+                bytes: &bytes[..k.bytes],
+                n: rows(&n, k.n, N_NUMBERS),
+                c: rows(&c, k.c, C_NUMBERS),
+                f: rows(&f, k.f, F_NUMBERS),
+                x: rows(&x, k.x, X_NUMBERS),
+                p: rows(&p, k.p, P_NUMBERS),
+                i: rows(&i, k.i, I_NUMBERS),
+                t: rows(&t, k.t, T_NUMBERS),
+                q: rows(&q, k.q, Q_NUMBERS),
+                u: rows(&u, k.u, U_NUMBERS),
+                e: rows(&e, k.e, E_NUMBERS),
+                r: rows(&r, k.r, R_NUMBERS),
+                m: rows(&m, k.m, M_NUMBERS),
+            };
+            do_task(task, &tables, text)
+        }
     }
 }

@@ -1,118 +1,80 @@
--- The selection at a number, one component after the other, where each component has the modes `modes`. Assumes nothing.
-use mathlib.Core.Path.{◌≡◌, refl, sym, ap, ap₂, ◌∙◌, subst}
+-- The selection at a number, one component after the other of those below `end`, where each has the modes `modes`. Assumes nothing.
+use mathlib.Core.Path.{◌≡◌, sym, ap, ap₂, ◌∙◌, subst}
 use mathlib.Core.List.{List, ◌∷◌}
-use Prim.Native.Nat.{ℕ, suc, ◌+◌, ◌-◌, ◌*◌, ◌/◌, ◌%◌, ◌≤◌, ◌<◌}
+use Prim.Native.Nat.{ℕ, ◌+◌, ◌-◌, ◌*◌, ◌/◌, ◌%◌, ◌≤◌, ◌<◌}
 use native.Mathlib.Nat.{sub-zero, mul_comm, mul-div_cancel, mod-lt, div-lt_iff_lt-mul}
 use native.Mathlib.Numerals.{add-one}
 use native.Mathlib.Omega.{arith}
-use lib.ListN.{length, get_or, set, length-set}
+use lib.ListN.{length, get_or, set}
 use lib.Seq.{sets}
 use Rattle.as5506.specs.Lists.{span, up_to}
 use Rattle.as5506.specs.Modes.{combinations}
 use Rattle.as5506.specs.Digits.{pick}
 use Rattle.as5506.proofs.Modes.{some-combination}
-use Rattle.operation_modes.specs.declared.choose.Choice.{Choice}
 use Rattle.operation_modes.specs.Linked.{modal_of}
-use Rattle.operation_modes.specs.Choosing.{Chooses}
 use Rattle.operation_modes.proofs.Combining.{modal-full, rest_some, rest-none, rest-done}
 
-module _ (modes : ℕ → List ℕ) (end i : ℕ) (h : i < end) where
-  abbrev now-left : List (List ℕ)
-  now-left = modal_of modes (span i (end - i))
+module _ (modes : ℕ → List ℕ) (end : ℕ) where
+  -- the modes of those from component i on that have some
+  abbrev rest : ℕ → List (List ℕ)
+  rest i = modal_of modes (span i (end - i))
 
-  abbrev later : List (List ℕ)
-  later = modal_of modes (span (i + 1) (end - (i + 1)))
+  -- what is left to choose and write, from component i on, makes the whole
+  pub record Choosing (whole : List ℕ) (i weight left at : ℕ) (rows : List ℕ) : Type 0 where
+    pub place : at ≤ i
+    pub weight_is : weight ≡ combinations (rest i)
+    pub less : left < weight
+    pub same : sets rows at (pick (rest i) left) ≡ whole
 
-  pub some_left : 0 < combinations later
-  some_left = some-combination later (modal-full modes (span (i + 1) (end - (i + 1))))
+  pub choosing_start : (weight k : ℕ) (rows : List ℕ) → weight ≡ combinations (modal_of modes (up_to end)) → k < weight
+      → Choosing (sets rows 0 (pick (modal_of modes (up_to end)) k)) 0 weight k 0 rows
+  choosing_start weight k rows w h = record { place = omega arith; weight_is = rw (sub-zero end) w; less = h; same = rw (sub-zero end) }
 
-  module _ (so : Choice) (place : so.at ≤ i) (weight_is : so.weight ≡ combinations now-left) (less : so.left < so.weight) (size : ℕ) (size_is : size ≡ length (modes i)) where
+  pub choosing_end : (whole : List ℕ) (i weight left at : ℕ) (rows : List ℕ) → end ≤ i → Choosing whole i weight left at rows → rows ≡ whole
+  unfolding pick
+  choosing_end whole i weight left at rows h s = sym (ap (λ (l : List (List ℕ)). sets rows at (pick l left)) (rest-done modes i end h)) ∙ s.same
+
+  module _ (whole : List ℕ) (i weight left at : ℕ) (rows : List ℕ) (h : i < end) (s : Choosing whole i weight left at rows) (size : ℕ) (size_is : size ≡ length (modes i)) where
     -- component i has no modes
-    pub chooses_none : (rows : List ℕ) → size ≡ 0 → Chooses modes end i so rows so rows
-    chooses_none rows e =
-        let r : now-left ≡ later = rest-none modes i end h (sym size_is ∙ e) in
+    pub choosing_none : size ≡ 0 → Choosing whole (i + 1) weight left at rows
+    choosing_none e =
+        let r : rest i ≡ rest (i + 1) = rest-none modes i end h (sym size_is ∙ e) in
         record {
-          place = omega (arith, place);
-          size = refl;
-          weight_is = weight_is ∙ ap combinations r;
-          left_less = less;
-          same = ap (λ (l : List (List ℕ)). sets rows so.at (pick l so.left)) (sym r);
+          place = omega (arith, s.place);
+          weight_is = s.weight_is ∙ ap combinations r;
+          less = s.less;
+          same = ap (λ (l : List (List ℕ)). sets rows at (pick l left)) (sym r) ∙ s.same;
         }
 
     module _ (some : size ≡ 0 → ⊥) where
-      first : now-left ≡ modes i ∷ later
+      first : rest i ≡ modes i ∷ rest (i + 1)
       first = rest_some modes i end h (λ k. some (size_is ∙ k))
 
-      pub weight-later : so.weight / size ≡ combinations later
+      product : weight ≡ size * combinations (rest (i + 1))
       unfolding combinations
-      weight-later =
-          ap (λ (w : ℕ). w / size) (weight_is ∙ ap combinations first ∙ ap (λ (k : ℕ). k * combinations later) (sym size_is) ∙ mul_comm size (combinations later))
-          ∙ mul-div_cancel (combinations later) (omega (arith, some))
+      product = s.weight_is ∙ ap combinations first ∙ ap (λ (k : ℕ). k * combinations (rest (i + 1))) (sym size_is)
 
-      pub weight-some : so.weight / size ≡ 0 → ⊥
-      weight-some z = omega (arith, z, weight-later, some_left)
+      later : weight / size ≡ combinations (rest (i + 1))
+      later = ap (λ (w : ℕ). w / size) (product ∙ mul_comm size (combinations (rest (i + 1)))) ∙ mul-div_cancel (combinations (rest (i + 1))) (omega (arith, some))
+
+      pub weight_some : 0 < weight / size
+      weight_some = omega (arith, later, some-combination (rest (i + 1)) (modal-full modes (span (i + 1) (end - (i + 1)))))
 
       -- the component has a mode for the digit
-      pub digit-less : so.left / (so.weight / size) < size
-      unfolding combinations
-      digit-less =
-          subst (λ (w : ℕ). so.left / w < size) (sym weight-later)
-          ((div-lt_iff_lt-mul some_left).1
-          (subst (λ (w : ℕ). so.left < w) (weight_is ∙ ap combinations first ∙ ap (λ (k : ℕ). k * combinations later) (sym size_is)) less))
+      pub digit_less : left / (weight / size) < size
+      digit_less = (div-lt_iff_lt-mul weight_some).1 (subst (λ (w : ℕ). left < size * w) (sym later) (subst (λ (w : ℕ). left < w) product s.less))
 
-      -- row is chosen and written
-      pub chooses-some : (rows rows' : List ℕ) (z : Choice) (weight : ℕ) (row : ℕ) → weight ≡ so.weight / size → row ≡ get_or (modes i) (so.left / weight) 0
-          → rows' ≡ set rows so.at row → z.weight ≡ weight → z.left ≡ so.left % weight → z.at ≡ so.at + 1 → Chooses modes end i so rows z rows'
+      -- its mode is written
+      pub choosing_turn : (row : ℕ) (rows' : List ℕ) → row ≡ get_or (modes i) (left / (weight / size)) 0 → rows' ≡ set rows at row
+          → Choosing whole (i + 1) (weight / size) (left % (weight / size)) (at + 1) rows'
       unfolding pick
-      chooses-some rows rows' z weight row e f g p q r =
-          let w : weight ≡ combinations later = e ∙ weight-later in
-          let x : row ≡ get_or (modes i) (so.left / combinations later) 0 = f ∙ ap (λ (k : ℕ). get_or (modes i) (so.left / k) 0) w in
-          let l : z.left ≡ so.left % combinations later = q ∙ ap (λ (k : ℕ). so.left % k) w in
+      choosing_turn row rows' e f =
           record {
-            place = omega (arith, place, r);
-            size = ap length g ∙ length-set rows so.at row;
-            weight_is = p ∙ w;
-            left_less = subst (λ (k : ℕ). k < z.weight) (sym l) (subst (λ (k : ℕ). so.left % combinations later < k) (sym (p ∙ w)) (mod-lt so.left some_left));
+            place = omega (arith, s.place);
+            weight_is = later;
+            less = mod-lt left weight_some;
             same =
-                ap₂ (λ (o : List ℕ) (j : ℕ). sets o j (pick later z.left)) (g ∙ ap (set rows so.at) x) (r ∙ add-one so.at)
-                ∙ ap (λ (k : ℕ). sets (set rows so.at (get_or (modes i) (so.left / combinations later) 0)) (suc so.at) (pick later k)) l
-                ∙ ap (λ (o : List (List ℕ)). sets rows so.at (pick o so.left)) (sym first);
+                ap₂ (λ (o : List ℕ) (j : ℕ). sets o j (pick (rest (i + 1)) (left % (weight / size)))) (f ∙ ap (set rows at) e) (add-one at)
+                ∙ ap (λ (w : ℕ). sets rows at (get_or (modes i) (left / w) 0 ∷ pick (rest (i + 1)) (left % w))) later
+                ∙ ap (λ (l : List (List ℕ)). sets rows at (pick l left)) (sym first) ∙ s.same;
           }
-
--- ---- the loop
-
-pub record Choosing (modes : ℕ → List ℕ) (end k : ℕ) (rows₀ : List ℕ) (i : ℕ) (so : Choice) (rows : List ℕ) : Type 0 where
-  pub within : i ≤ end
-  pub place : so.at ≤ i
-  pub size : length rows ≡ length rows₀
-  pub weight_is : so.weight ≡ combinations (modal_of modes (span i (end - i)))
-  pub left_less : so.left < so.weight
-  pub same : sets rows so.at (pick (modal_of modes (span i (end - i))) so.left) ≡ sets rows₀ 0 (pick (modal_of modes (up_to end)) k)
-
-module _ (modes : ℕ → List ℕ) (end k : ℕ) (rows₀ : List ℕ) where
-  pub choosing-start : (so : Choice) → so.weight ≡ combinations (modal_of modes (up_to end)) → so.left ≡ k → so.at ≡ 0 → k < so.weight → Choosing modes end k rows₀ 0 so rows₀
-  choosing-start so w l a h =
-      record {
-        within = omega arith;
-        place = omega (arith, a);
-        size = refl;
-        weight_is = w ∙ ap (λ (n : ℕ). combinations (modal_of modes (span 0 n))) (sym (sub-zero end));
-        left_less = omega (arith, l, h);
-        same = rw (a, l, sub-zero end);
-      }
-
-  pub choosing-turn : (i : ℕ) (so : Choice) (rows : List ℕ) (z : Choice) (rows' : List ℕ) → i < end → Choosing modes end k rows₀ i so rows → Chooses modes end i so rows z rows'
-      → Choosing modes end k rows₀ (i + 1) z rows'
-  choosing-turn i so rows z rows' h s c =
-      record {
-        within = omega (arith, h);
-        place = c.place;
-        size = c.size ∙ s.size;
-        weight_is = c.weight_is;
-        left_less = c.left_less;
-        same = c.same ∙ s.same;
-      }
-
-  pub choosing-end : (i : ℕ) (so : Choice) (rows : List ℕ) → end ≤ i → Choosing modes end k rows₀ i so rows → rows ≡ sets rows₀ 0 (pick (modal_of modes (up_to end)) k)
-  unfolding pick
-  choosing-end i so rows h s = sym (ap (λ (l : List (List ℕ)). sets rows so.at (pick l so.left)) (rest-done modes i end h)) ∙ s.same

@@ -9,26 +9,24 @@ use native.Mathlib.Omega.{arith}
 use borrow.Author.Tests.{lt-ltb, le-ltb}
 use lib.Dec.{T, ltb, ltb→lt}
 use lib.ListN.{length, get_or, take, length-replicate}
+use Rattle.std.specs.Prelude.{Ok}
 use Rattle.as5506.specs.Lists.{is_nil, zeros, padded}
 use Rattle.as5506.specs.Tables.{Tables}
-use Rattle.as5506.specs.Answers.{Refusal, Answer, given, refused, fault}
+use Rattle.as5506.specs.Answers.{Refusal, given, fault, told, handed}
 use Rattle.as5506.specs.Refusals.{faults, accepted}
 use Rattle.as5506.specs.Followed.{In}
 use Rattle.as5506.specs.Layout.{output}
 use Rattle.as5506.specs.Modes.{modal, is_cut, selection_limit, selections, joined_name, modes_counted, modes_on, modes_answer, Selection, selection_at, selection_within, selection_on, selection_answer}
 use Rattle.as5506.specs.Combined.{Lacks}
-use Rattle.as5506.proofs.Answers.{refused-not, unless-given, unless-nil}
+use Rattle.as5506.proofs.Answers.{refused-not, unless-given, unless-nil, handed-ok, ok-same, ok-not-err}
 use Rattle.as5506.proofs.Members.{at_in, in-at}
 use Rattle.as5506.proofs.Modes.{given-once, none-without-modes, cut-if-lacking}
 use Rattle.lent.proofs.Padded.{padded-front}
 use Rattle.operation_modes.specs.declared.Modes.{Modes}
-use Rattle.operation_modes.specs.declared.Counted.{Counted}
-use Rattle.operation_modes.specs.declared.Counted.TheVariants.{Given, Refused as NotCounted}
 use Rattle.operation_modes.specs.declared.Selected.{Selected}
-use Rattle.operation_modes.specs.declared.Selected.TheVariants.{Rows, Refused}
-use Rattle.operation_modes.specs.Answer.{counted_as, selected, selected_rows, selected_name}
+use Rattle.operation_modes.specs.Answer.{modes_told, selected, selected_rows, selected_name}
 use Rattle.operation_modes.specs.Handed.{Hands, HandedOnce, CountedNone, CutHanded, HandedBelow}
-use Rattle.operation_modes.proofs.Calls.{is-given, counted-answer, selected-answer}
+use Rattle.operation_modes.proofs.Calls.{counted-answer, selected-answer}
 
 -- ---- what a call hands back is the selection at its number
 
@@ -50,20 +48,14 @@ answer-given a b m k s = go (faults m)
         below true q n = ltb→lt k (length (selections m)) (subst T (sym q) tt)
         below false q n = absurd n
 
-abbrev rows_or : Selected → ℕ
-rows_or (Rows k b) = k
-rows_or (Refused r) = 0
-
 pub hands-selection : (m : Tables) (k : ℕ) (s : List ℕ) → Hands m k s → (k < length (selections m)) × (s ≡ get_or (selections m) k [])
 unfolding selection_at
-hands-selection m k s h = go (selection_answer (length h.rows) (length h.name) m k) refl
-  where
-    go : (a : Answer Selection) → selection_answer (length h.rows) (length h.name) m k ≡ a → (k < length (selections m)) × (s ≡ get_or (selections m) k [])
-    go (refused r) e = absurd (is-given (refused r) h.number h.bytes (sym (h.call.answer ∙ ap selected e)))
-    go (given x) e =
-        let g = answer-given (length h.rows) (length h.name) m k x e in
-        let n : h.number ≡ length x.rows = ap rows_or (h.call.answer ∙ ap selected e) in
-        (g.0, sym h.handed ∙ ap₂ take n (h.call.written-rows ∙ ap (output (length h.rows) selected_rows) e) ∙ padded-front (length h.rows) x.rows ∙ ap selected_rows g.1)
+hands-selection m k s h =
+    let a = handed-ok selected _ _ h.call.answer _ refl in
+    let g = answer-given (length h.rows) (length h.name) m k a.0 a.1 in (
+      g.0,
+      sym h.handed ∙ ap₂ take (ap (λ (z : Selected). z.rows) a.2) (h.call.written-rows ∙ ap (output (length h.rows) selected_rows) a.1) ∙ padded-front (length h.rows) a.0.rows ∙ ap selected_rows g.1,
+    )
 
 -- a call with outputs that are long enough hands it back
 pub selection-handed : (m : Tables) (k : ℕ) → T (accepted m) → k < length (selections m) → Hands m k (get_or (selections m) k [])
@@ -76,7 +68,7 @@ selection-handed m k ok h =
       bytes = length (joined_name m s);
       rows' = padded (length (zeros (length s))) s;
       name' = padded (length (zeros (length (joined_name m s)))) (joined_name m s);
-      call = record { answer = sym (ap selected e); written-rows = sym (ap (output (length (zeros (length s))) selected_rows) e); written-name = sym (ap (output (length (zeros (length (joined_name m s)))) selected_name) e) };
+      call = record { answer = sym (ap (handed selected) e); written-rows = sym (ap (output (length (zeros (length s))) selected_rows) e); written-name = sym (ap (output (length (zeros (length (joined_name m s)))) selected_name) e) };
       handed = padded-front (length (zeros (length s))) s;
     }
   where
@@ -101,29 +93,16 @@ pub counted_none : (m : Tables) → CountedNone m
 unfolding modes_counted
 counted_none m ok e =
     let n = none-without-modes m e in
-    ap counted_as (counted-answer m ok) ∙ ap₂ (λ (k : ℕ) (b : Bool). Given (record { number = k; cut = b })) n.0 n.1
+    ap (handed modes_told) (counted-answer m ok) ∙ ap₂ (λ (k : ℕ) (b : Bool). Ok (record { number = k; cut = b })) n.0 n.1
 
--- what an answer that is given says
-abbrev is_counted : Counted → Bool
-is_counted (Given z) = true
-is_counted (NotCounted r) = false
-
-abbrev cut_or : Counted → Bool
-cut_or (Given z) = z.cut
-cut_or (NotCounted r) = false
-
-abbrev number_or : Counted → ℕ
-number_or (Given z) = z.number
-number_or (NotCounted r) = 0
-
--- the tables of a call that gives a count are accepted
-counted-accepted : (m : Tables) (z : Modes) → counted_as (modes_answer m) ≡ Given z → T (accepted m)
+-- the tables of a call that gives a count are accepted, and it is the definition's
+counted-given : (m : Tables) (z : Modes) → handed modes_told (modes_answer m) ≡ Ok z → T (accepted m) × (z ≡ modes_told (modes_counted m))
 unfolding modes_answer modes_on accepted
-counted-accepted m z e = go (faults m) e
+counted-given m z e = go (faults m) e
   where
-    go : (fs : List Refusal) → counted_as (modes_on m fs) ≡ Given z → T (is_nil fs)
-    go [] e = tt
-    go (r ∷ fs) e = subst (λ (x : Counted). T (not (is_counted x))) e tt
+    go : (fs : List Refusal) → handed modes_told (modes_on m fs) ≡ Ok z → T (is_nil fs) × (z ≡ modes_told (modes_counted m))
+    go [] e = (tt, sym (ok-same _ _ e))
+    go (r ∷ fs) e = absurd (ok-not-err z (told r) (sym e))
 
 pub cut-handed : (m : Tables) → CutHanded m
 unfolding modes_counted
@@ -133,13 +112,13 @@ cut-handed m h n b e = (
 )
   where
     ok : T (accepted m)
-    ok = counted-accepted m (record { number = n; cut = b }) e
+    ok = (counted-given m _ e).0
 
     exactly : T (is_cut selection_limit (modal m)) ↔ Lacks (modal m) (selections m)
     exactly = cut-if-lacking m ok h
 
     b-is : is_cut selection_limit (modal m) ≡ b
-    b-is = ap cut_or (sym (ap counted_as (counted-answer m ok)) ∙ e)
+    b-is = sym (ap (λ (z : Modes). z.cut) (counted-given m _ e).1)
 
 pub handed-below : (m : Tables) → HandedBelow m
 unfolding modes_counted
@@ -149,7 +128,7 @@ handed-below m n b e k = (
 )
   where
     ok : T (accepted m)
-    ok = counted-accepted m (record { number = n; cut = b }) e
+    ok = (counted-given m _ e).0
 
     n-is : length (selections m) ≡ n
-    n-is = ap number_or (sym (ap counted_as (counted-answer m ok)) ∙ e)
+    n-is = sym (ap (λ (z : Modes). z.number) (counted-given m _ e).1)

@@ -1,8 +1,9 @@
 // How many combinations of modes there are.
-ghost use Rattle.std.specs.Prelude.{◌≡◌, List, ℕ, ◌≤◌, ◌<◌, get_or};
+ghost use Rattle.std.specs.Prelude.{◌≡◌, ℕ, ◌≤◌, ◌<◌, get_or, ltb};
 ghost use Rattle.operation_modes.specs.Linked.{modes_linked};
-ghost use Rattle.operation_modes.specs.Combining.{Next, Counts, number_of};
+ghost use Rattle.operation_modes.specs.Combining.{with_next, Counts, number_of};
 
+use crate::link::Linked;
 use as5506::SELECTIONS;
 
 // Of the components below `end`: how many combinations of their modes there are, and how many components have modes and so are chosen from.
@@ -13,55 +14,61 @@ pub struct Combined {
     pub chosen: usize,
 }
 
-// The same with component `end` too, which has `size` modes.
-fn with_next(so: Combined, size: usize) -> Combined
-    requires { (so.product ≤ 10000) × (so.end < 4096) × (so.chosen ≤ so.end) × (size ≤ 4096) }
-    ensures { Next so size result }
-{
-    if size == 0 {
-        return Combined {
-            product: so.product,
-            end: so.end + 1,
-            chosen: so.chosen,
+impl Combined {
+    // Combines the modes of one component after the other, of `count`, until the combinations pass the limit. Later components are missing from each
+    // selection.
+    #[tactic(auto, using(crate::proofs::Combining::combining_over, crate::proofs::Combining::combining_whole))]
+    pub fn of(linked: &Linked, count: usize) -> Combined
+        requires { (count ≤ 4096) × ((o : ℕ) → get_or linked.now.sizes o 0 ≤ 4096) }
+        ensures { Counts (modes_linked linked.now) count result }
+    {
+        let mut so = Combined {
+            product: 1,
+            end: 0,
+            chosen: 0,
         };
-    }
-    Combined {
-        product: so.product * size,
-        end: so.end + 1,
-        chosen: so.chosen + 1,
-    }
-}
-
-// Combines the modes of one component after the other, of `count`, until the combinations pass the limit. Later components are missing from each
-// selection.
-pub fn combine_modes(sizes: &[u32], count: usize) -> Combined
-    requires { (count ≤ 4096) × ((o : ℕ) → get_or sizes.now o 0 ≤ 4096) }
-    ensures { (first next : List ℕ) → Counts (modes_linked first next sizes.now) count result }
-{
-    let mut so = Combined {
-        product: 1,
-        end: 0,
-        chosen: 0,
-    };
-    while so.end < count {
-        if SELECTIONS < so.product {
-            return so;
+        for i in 0..count {
+            if so.is_over() {
+                return so;
+            }
+            so = so.with_next(linked.size(i) as usize);
         }
-        let size = lent::number_at(sizes, so.end) as usize;
-        so = with_next(so, size);
+        so
     }
-    so
-}
 
-// How many selections there are, of what is combined.
-pub fn number_of(so: Combined) -> usize
-    ensures { result ≡ number_of so }
-{
-    if SELECTIONS < so.product {
-        return SELECTIONS;
+    // The same with component `end` too, which has `size` modes.
+    fn with_next(self, size: usize) -> Combined
+        requires { (self.product ≤ 10000) × (self.end < 4096) × (self.chosen ≤ self.end) × (size ≤ 4096) }
+        ensures { result ≡ with_next self size }
+    {
+        let end = self.end + 1;
+        if size == 0 {
+            return Combined { end, ..self };
+        }
+        Combined {
+            product: self.product * size,
+            end,
+            chosen: self.chosen + 1,
+        }
     }
-    if so.chosen == 0 {
-        return 0;
+
+    // Whether there are more combinations than the list may have selections.
+    pub fn is_over(&self) -> bool
+        ensures { result ≡ ltb 10000 self.now.product }
+    {
+        SELECTIONS < self.product
     }
-    so.product
+
+    // How many selections there are.
+    pub fn number(&self) -> usize
+        ensures { result ≡ number_of self.now }
+    {
+        if self.is_over() {
+            return SELECTIONS;
+        }
+        if self.chosen == 0 {
+            return 0;
+        }
+        self.product
+    }
 }

@@ -1,36 +1,39 @@
 // The joined name of a selection.
-ghost use Rattle.std.specs.Prelude.{◌≡◌, [], ◌∷◌};
-ghost use Rattle.as5506.specs.Modes.{underscore};
-ghost use Rattle.lent.specs.Append.{filled, append, append_all};
-ghost use Rattle.operation_modes.specs.Joining.{mode_named, name_pieces};
+ghost use Rattle.std.specs.Prelude.{◌≡◌};
+ghost use Rattle.as5506.specs.Modes.{mode_name, joined_name};
+ghost use Rattle.lent.specs.Added.{Added};
+ghost use Rattle.lent.specs.Model.{model};
+ghost use Rattle.output.specs.Put.{Put};
+
+use lent::Tables;
+use output::Output;
 
 // The name of mode `row`.
-fn mode_name<'a>(bytes: &'a [u8], n: &[u32], m: &[u32], row: u32) -> &'a [u8]
-    ensures { result.now ≡ mode_named bytes.now n.now m.now row }
+fn mode_name<'a>(m: &Tables<'a>, row: u32) -> &'a [u8]
+    ensures { result.now ≡ mode_name (model m.now) row }
 {
-    name::name_of(bytes, n, columns::mode::name_of(m, row as usize))
+    name::name_of(m, columns::mode::name_of(m, row as usize))
 }
 
-// Appends an underscore and the name of mode `row` to a joined name.
-fn put_behind(bytes: &[u8], n: &[u32], m: &[u32], row: u32, name: &mut [u8], used: usize) -> usize
-    ensures { filled name.new result ≡ append (mode_named bytes.now n.now m.now row) (append (underscore ∷ []) (filled name.old used)) }
+// Prints the names of modes, joined by underscores.
+fn put_names(m: &Tables, rows: &[u32], out: &mut Output)
+    ensures { Put (joined_name (model m.now) rows.now) out.old out.new }
 {
-    let parted = lent::append_bytes(name, used, b"_");
-    lent::append_bytes(name, parted, mode_name(bytes, n, m, row))
+    let [first, others @ ..] = rows else {
+        return;
+    };
+    out.put(mode_name(m, *first));
+    for row in others {
+        out.put(b"_");
+        out.put(mode_name(m, *row));
+    }
 }
 
 // Joins the names of modes by underscores: how many bytes, one more than the output has where it is too short.
-pub fn join_names(bytes: &[u8], n: &[u32], m: &[u32], rows: &[u32], name: &mut [u8]) -> usize
-    ensures { filled name.new result ≡ append_all (name_pieces (mode_named bytes.now n.now m.now) rows.now) (filled name.old 0) }
+pub fn join_names(m: &Tables, rows: &[u32], name: &mut [u8]) -> usize
+    ensures { Added (joined_name (model m.now) rows.now) name.old 0 name.new result }
 {
-    if rows.len() == 0 {
-        return 0;
-    }
-    let mut used = lent::append_bytes(name, 0, mode_name(bytes, n, m, rows[0]));
-    let mut i: usize = 1;
-    while i < rows.len() {
-        used = put_behind(bytes, n, m, rows[i], name, used);
-        i += 1;
-    }
-    used
+    let mut out = Output::new(name);
+    put_names(m, rows, &mut out);
+    out.done()
 }

@@ -9,13 +9,14 @@ mod join;
 mod link;
 mod select;
 
-ghost use Rattle.std.specs.Prelude.{◌≡◌};
-ghost use Rattle.as5506.specs.Modes.{modes_answer};
-ghost use Rattle.lent.specs.Lent.{tables_at};
-ghost use Rattle.operation_modes.specs.Answer.{counted_as, SelectsAny, SelectedInto};
+ghost use Rattle.std.specs.Prelude.{◌≡◌, length};
+ghost use Rattle.as5506.specs.Answers.{handed};
+ghost use Rattle.as5506.specs.Modes.{modes_answer, selection_answer};
+ghost use Rattle.lent.specs.Model.{model};
+ghost use Rattle.operation_modes.specs.Answer.{modes_told, Selects, SelectedInto};
 
 use as5506::Refusal;
-use tables::Checked;
+use lent::Tables;
 
 // How many selections there are, and whether the list of them was cut.
 #[derive(Clone, Copy)]
@@ -24,112 +25,50 @@ pub struct Modes {
     pub cut: bool,
 }
 
-// The number of selections, or why there is none.
+// How many M rows and bytes of the joined name were written.
 #[derive(Clone, Copy)]
-pub enum Counted {
-    Given(Modes),
-    Refused(Refusal),
-}
-
-// How many M rows and bytes of the joined name were written, or why none were.
-#[derive(Clone, Copy)]
-pub enum Selected {
-    Rows(usize, usize),
-    Refused(Refusal),
+pub struct Selected {
+    pub rows: usize,
+    pub bytes: usize,
 }
 
 // How many selections of modes the tables have, and whether the list was cut.
-pub fn count_selections(
-    bytes: &[u8],
-    n: &[u32],
-    c: &[u32],
-    f: &[u32],
-    x: &[u32],
-    p: &[u32],
-    i: &[u32],
-    t: &[u32],
-    q: &[u32],
-    u: &[u32],
-    e: &[u32],
-    r: &[u32],
-    m: &[u32],
-) -> Counted
-    ensures { result ≡ counted_as (modes_answer (tables_at bytes n c f x p i t q u e r m)) }
+pub fn count_selections(m: &Tables) -> Result<Modes, Refusal>
+    ensures { result ≡ handed modes_told (modes_answer (model m.now)) }
 {
-    if let Checked::Refused(reason) = tables::check_tables(
-        bytes, n, c, f, x, p, i, t, q, u, e, r, m,
-    ) {
-        return Counted::Refused(reason);
-    }
-    Counted::Given(select::count_modes(c, m))
+    tables::check_tables(m)?;
+    Ok(select::count_modes(m))
 }
 
 // Checks the tables, then writes the selection at a number. On a refusal the outputs hold anything.
 fn check_and_select(
-    bytes: &[u8],
-    n: &[u32],
-    c: &[u32],
-    f: &[u32],
-    x: &[u32],
-    p: &[u32],
-    i: &[u32],
-    t: &[u32],
-    q: &[u32],
-    u: &[u32],
-    e: &[u32],
-    r: &[u32],
-    m: &[u32],
+    m: &Tables,
     rows: &mut [u32],
     name: &mut [u8],
     number: u64,
-) -> Selected
-    ensures { SelectsAny
-        (tables_at bytes n c f x p i t q u e r m)
-        number rows.old name.old result rows.new name.new }
+) -> Result<Selected, Refusal>
+    ensures { Selects (selection_answer (length rows.old) (length name.old) (model m.now) number) rows.old name.old result rows.new name.new }
 {
-    if let Checked::Refused(reason) = tables::check_tables(
-        bytes, n, c, f, x, p, i, t, q, u, e, r, m,
-    ) {
-        return Selected::Refused(reason);
-    }
-    select::select(bytes, n, c, m, number, rows, name)
+    tables::check_tables(m)?;
+    select::select(m, rows, name, number)
 }
 
 // The selection of modes at a number, as M rows, and the names of these modes joined by underscores. The outputs hold them from the front, and zeros
 // behind; on a refusal, zeros.
 pub fn select_modes(
-    bytes: &[u8],
-    n: &[u32],
-    c: &[u32],
-    f: &[u32],
-    x: &[u32],
-    p: &[u32],
-    i: &[u32],
-    t: &[u32],
-    q: &[u32],
-    u: &[u32],
-    e: &[u32],
-    r: &[u32],
-    m: &[u32],
+    m: &Tables,
     rows: &mut [u32],
     name: &mut [u8],
     number: u64,
-) -> Selected
-    ensures { SelectedInto
-        (tables_at bytes n c f x p i t q u e r m)
-        number rows.old name.old result rows.new name.new }
+) -> Result<Selected, Refusal>
+    ensures { SelectedInto (model m.now) number rows.old name.old result rows.new name.new }
 {
-    lent::clear_numbers(rows);
-    lent::clear_bytes(name);
-    let answer = check_and_select(
-        bytes, n, c, f, x, p, i, t, q, u, e, r, m, rows, name, number,
-    );
-    match answer {
-        Selected::Rows(_, _) => answer,
-        Selected::Refused(_) => {
-            lent::clear_numbers(rows);
-            lent::clear_bytes(name);
-            answer
-        }
+    rows.fill(0);
+    name.fill(0);
+    let answer = check_and_select(m, rows, name, number);
+    if answer.is_err() {
+        rows.fill(0);
+        name.fill(0);
     }
+    answer
 }

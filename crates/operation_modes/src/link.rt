@@ -1,39 +1,70 @@
-// The modes of each component as a chain of M rows, by three numbers of each row: `first` has of a component its first mode, `next` of a mode the
-// next one of the same component, `sizes` of a component how many modes it has.
-ghost use Rattle.std.specs.Prelude.{◌≡◌, ◌/◌, ◌≤◌, length};
-ghost use Rattle.as5506.specs.Tables.{width, letter_m};
-ghost use Rattle.as5506.specs.Lists.{zeros};
-ghost use Rattle.operation_modes.specs.Linked.{mode_behind, Linked};
+// The modes of each component as a chain of M rows.
+ghost use Rattle.std.specs.Prelude.{◌≡◌, ℕ, ◌≤◌, ◌<◌, get_or};
+ghost use Rattle.as5506.specs.Tables.{letter_m, count};
+ghost use Rattle.lent.specs.Model.{model};
+ghost use Rattle.operation_modes.specs.Linked.{modes_linked, put_before, Links};
 
-use as5506::M_NUMBERS;
-use lent::number_at;
+use as5506::{M_NUMBERS, TABLE_ROWS};
+use lent::Tables;
 
-// Links the modes in one pass over the M rows, from the last to the first, so that each mode is put before those of its component that follow it.
-pub fn link_modes(m: &[u32], first: &mut [u32], next: &mut [u32], sizes: &mut [u32])
-    requires { (length m.now / width letter_m ≤ 4096) × (length m.now / width letter_m ≤ length next.old) × (sizes.old ≡ zeros (length first.old)) }
-    ensures { Linked m.now (length first.old) first.new next.new sizes.new }
-{
-    let mut i = m.len() / M_NUMBERS;
-    while 0 < i {
-        i -= 1;
-        let owner = columns::mode::owner_of(m, i) as usize;
-        let follower = number_at(first, owner);
-        lent::put_number(next, i, follower);
-        lent::put_number(first, owner, i as u32);
-        let size = number_at(sizes, owner);
-        lent::put_number(sizes, owner, size + 1);
-    }
+// Of a component its first mode and how many it has, and of a mode the next one of the same component.
+#[derive(Drop)]
+pub struct Linked {
+    first: [u32; TABLE_ROWS],
+    next: [u32; TABLE_ROWS],
+    sizes: [u32; TABLE_ROWS],
 }
 
-// The mode that is k links behind mode `from`.
-pub fn mode_behind(next: &[u32], from: u32, k: usize) -> u32
-    ensures { result ≡ mode_behind next.now from k }
-{
-    let mut mode = from;
-    let mut left = k;
-    while 0 < left {
-        mode = number_at(next, mode as usize);
-        left -= 1;
+impl Linked {
+    // Links the modes in one pass over the M rows, from the last to the first, so that each mode is put before those of its component that follow it.
+    #[tactic(auto, using(crate::proofs::Linking::linking_end, crate::proofs::Linking::linking_room))]
+    pub fn of(m: &Tables) -> Linked
+        requires { count (model m.now) letter_m ≤ 4096 }
+        ensures { Links (model m.now) result }
+    {
+        let mut linked = Linked {
+            first: [0; TABLE_ROWS],
+            next: [0; TABLE_ROWS],
+            sizes: [0; TABLE_ROWS],
+        };
+        for i in (0..m.m.len() / M_NUMBERS).rev() {
+            linked.put_before(columns::mode::owner_of(m, i) as usize, i as u32);
+        }
+        linked
     }
-    mode
+
+    // Puts a mode before those of its component.
+    fn put_before(&mut self, owner: usize, mode: u32)
+        requires { get_or self.old.sizes owner 0 < 4294967295 }
+        ensures { self.new ≡ put_before self.old owner mode }
+    {
+        lent::put(
+            &mut self.next,
+            mode as usize,
+            lent::get_or(&self.first, owner, 0),
+        );
+        lent::put(&mut self.first, owner, mode);
+        let size = self.size(owner);
+        lent::put(&mut self.sizes, owner, size + 1);
+    }
+
+    // How many modes component i has.
+    pub fn size(&self, i: usize) -> u32
+        ensures { result ≡ get_or self.now.sizes i 0 }
+    {
+        lent::get_or(&self.sizes, i, 0)
+    }
+
+    // Mode k of component i.
+    #[tactic(auto, using(crate::proofs::Linking::chain_first, crate::proofs::Linking::chain_next), unfolding(crate::specs::Linked::modes_linked))]
+    pub fn mode(&self, i: usize, k: usize) -> u32
+        requires { k < get_or self.now.sizes i 0 }
+        ensures { result ≡ get_or (modes_linked self.now i) k 0 }
+    {
+        let mut mode = lent::get_or(&self.first, i, 0);
+        for _ in 0..k {
+            mode = lent::get_or(&self.next, mode as usize, 0);
+        }
+        mode
+    }
 }

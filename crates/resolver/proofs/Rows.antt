@@ -14,9 +14,9 @@ use Rattle.as5506.proofs.Laws.{All, all_keep, all_append, up_to-below, all_first
 -- ---- rows by their keys
 
 module _ (m : Tables) where
-  pub package-row : (k : List ℕ) (g : ℕ) → some g ≡ package_named m k → g < count m letter_p
+  pub package_row : (k : List ℕ) (g : ℕ) → some g ≡ package_named m k → g < count m letter_p
   unfolding package_named
-  package-row k g e = all_first (λ i. i < count m letter_p) (keep is (up_to (count m letter_p))) (all-kept (λ i. i < count m letter_p) is (up_to (count m letter_p)) (up_to-below (count m letter_p))) g e
+  package_row k g e = all_first (λ i. i < count m letter_p) (keep is (up_to (count m letter_p))) (all-kept (λ i. i < count m letter_p) is (up_to (count m letter_p)) (up_to-below (count m letter_p))) g e
     where
       is : ℕ → Bool
       is i = same_bytes (key m (p_name m i)) k
@@ -36,28 +36,28 @@ module _ (m : Tables) where
   unfolding type_named
   type_row g k i e = row_of letter_t g (λ i. same_bytes (key m (t_name m i)) k) i e
 
-  pub impl-row : (g : ℕ) (k j : List ℕ) (i : ℕ) → some i ≡ impl_named m g k j → (i < count m letter_q) × (q_package m i ≡ g)
+  pub impl_row : (g : ℕ) (k j : List ℕ) (i : ℕ) → some i ≡ impl_named m g k j → (i < count m letter_q) × (q_package m i ≡ g)
   unfolding impl_named
-  impl-row g k j i e = row_of letter_q g (λ i. same_bytes (key m (q_type m i)) k && same_bytes (key m (q_impl m i)) j) i e
+  impl_row g k j i e = row_of letter_q g (λ i. same_bytes (key m (q_type m i)) k && same_bytes (key m (q_impl m i)) j) i e
 
-  pub group-row : (g : ℕ) (k : List ℕ) (i : ℕ) → some i ≡ group_named m g k → (i < count m letter_u) × (u_package m i ≡ g)
+  pub group_row : (g : ℕ) (k : List ℕ) (i : ℕ) → some i ≡ group_named m g k → (i < count m letter_u) × (u_package m i ≡ g)
   unfolding group_named
-  group-row g k i e = row_of letter_u g (λ i. same_bytes (key m (u_name m i)) k) i e
+  group_row g k i e = row_of letter_u g (λ i. same_bytes (key m (u_name m i)) k) i e
 
-  rename-rows : (g w : ℕ) (k : List ℕ) → All (Of letter_r g) (renames_named m g w k)
+  rename_rows : (g w : ℕ) (k : List ℕ) → All (Of letter_r g) (renames_named m g w k)
   unfolding renames_named
-  rename-rows g w k = all-kept (Of letter_r g) (λ r. same_bytes (key m (r_alias m r)) k) (renames_of m g w) (all-kept (Of letter_r g) (λ r. eqb (r_what m r) w) (rows_naming m letter_r (r_package m) g) (rows_of letter_r g))
+  rename_rows g w k = all-kept (Of letter_r g) (λ r. same_bytes (key m (r_alias m r)) k) (renames_of m g w) (all-kept (Of letter_r g) (λ r. eqb (r_what m r) w) (rows_naming m letter_r (r_package m) g) (rows_of letter_r g))
 
-  pub rename-row : (g w : ℕ) (k : List ℕ) (i : ℕ) → some i ≡ first_of (renames_named m g w k) → (i < count m letter_r) × (r_package m i ≡ g)
-  rename-row g w k i e = all_first (Of letter_r g) (renames_named m g w k) (rename-rows g w k) i e
+  pub rename_row : (g w : ℕ) (k : List ℕ) (i : ℕ) → some i ≡ first_of (renames_named m g w k) → (i < count m letter_r) × (r_package m i ≡ g)
+  rename_row g w k i e = all_first (Of letter_r g) (renames_named m g w k) (rename_rows g w k) i e
 
   unless : (b : Bool) (P : ℕ → Type 0) (xs : List ℕ) → All P xs → All P (cond b [] xs)
   unless true P xs t = tt
   unless false P xs t = t
 
-  pub rename-for-row : (g : ℕ) (r : Ref) (i : ℕ) → some i ≡ first_of (renames_for m g r) → (i < count m letter_r) × (r_package m i ≡ g)
+  pub rename_for_row : (g : ℕ) (r : Ref) (i : ℕ) → some i ≡ first_of (renames_for m g r) → (i < count m letter_r) × (r_package m i ≡ g)
   unfolding renames_for
-  rename-for-row g r i e =
+  rename_for_row g r i e =
       let k : List ℕ = key m r.type in
       all_first (Of letter_r g) (renames_for m g r)
-      (all_append (Of letter_r g) (renames_named m g 1 k) (cond (present r.impl) [] (renames_named m g 2 k)) (rename-rows g 1 k) (unless (present r.impl) (Of letter_r g) (renames_named m g 2 k) (rename-rows g 2 k))) i e
+      (all_append (Of letter_r g) (renames_named m g 1 k) (cond (present r.impl) [] (renames_named m g 2 k)) (rename_rows g 1 k) (unless (present r.impl) (Of letter_r g) (renames_named m g 2 k) (rename_rows g 2 k))) i e

@@ -1,28 +1,27 @@
 -- The answers of the code, as the definition has them. Assumes nothing.
-use Rattle.std.specs.Prelude.{Bool, true, false, ℕ}
-use Rattle.std.proofs.Math.Option.{Option, none, some}
+use Rattle.std.specs.Prelude.{ℕ, Option, Some, None}
+use Rattle.std.proofs.Math.Option as maybe
 use Rattle.as5506.specs.Tables.{Tables, t_package, q_package, u_package}
-use Rattle.as5506.specs.Resolve.{Resolved as Meant, component_type, component_impl, group_type, unresolved}
-use Rattle.resolver.specs.declared.Resolved.{Resolved}
-use Rattle.resolver.specs.declared.Resolved.TheVariants.{ComponentType, ComponentImpl, GroupType, Unresolved}
-use Rattle.resolver.specs.declared.Found.{Found}
-use Rattle.resolver.specs.declared.Found.TheVariants.{At, Nothing}
+use Rattle.as5506.specs.Resolve.{Resolved, component_type, component_impl, group_type, unresolved}
+use Rattle.resolver.specs.declared.Classifier.{Classifier}
+use Rattle.resolver.specs.declared.Classifier.TheVariants.{ComponentType, ComponentImpl, GroupType}
+use Rattle.resolver.specs.declared.Renamed.{Renamed}
+use Rattle.resolver.specs.declared.Renamed.TheVariants as renamed
 
--- the row that a scan stops at, if it does
-abbrev pub row_of : Found → Option ℕ
-row_of (At i) = some i
-row_of Nothing = none
+-- the row that a search stops at, if it does
+abbrev pub row_of : Option ℕ → maybe.Option ℕ
+row_of (Some i) = maybe.some i
+row_of None = maybe.none
 
 -- what a reference names: the row, with the row of the package that it was found in
-abbrev pub found : Tables → Meant → Resolved
-found m (component_type i) = ComponentType (t_package m i) i
-found m (component_impl i) = ComponentImpl (q_package m i) i
-found m (group_type i) = GroupType (u_package m i) i
-found m unresolved = Unresolved
+abbrev pub found : Tables → Resolved → Option Classifier
+found m (component_type i) = Some (ComponentType (t_package m i) i)
+found m (component_impl i) = Some (ComponentImpl (q_package m i) i)
+found m (group_type i) = Some (GroupType (u_package m i) i)
+found m unresolved = None
 
--- a reference names something
-abbrev pub is_found : Resolved → Bool
-is_found (ComponentType g i) = true
-is_found (ComponentImpl g i) = true
-is_found (GroupType g i) = true
-is_found Unresolved = false
+-- the number that a row of R has for what it renames
+abbrev pub renamed_number : Renamed → ℕ
+renamed_number renamed.Package = 0
+renamed_number renamed.Classifier = 1
+renamed_number renamed.GroupType = 2

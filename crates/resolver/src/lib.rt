@@ -1,30 +1,27 @@
 // `resolve_classifier` (resolver.rs) over lent tables of any contents: past a table 0 is read, and a name past the names is empty, as in the definition.
-// A contract holds whatever stands in the tables that its function does not read, and whichever package the reference names where that is not asked.
 #![tactic(auto)]
 
-ghost use Rattle.std.specs.Prelude.{◌||◌, cond, ◌≡◌, ℕ, ◌+◌, ◌*◌, ◌/◌, ◌<◌, ◌≤◌, eqb, length, get_or};
+ghost use Rattle.std.specs.Prelude.{◌||◌, cond, ◌≡◌, ◌+◌, ◌*◌, ◌/◌, ◌<◌, ◌≤◌, Some, None, eqb, length, get_or};
 ghost use Rattle.std.proofs.Math.Option.{some};
 ghost use Rattle.as5506.specs.Lists.{first_of};
-ghost use Rattle.as5506.specs.Tables.{Tables, ref};
 ghost use Rattle.as5506.specs.Names.{key};
 ghost use Rattle.as5506.specs.Resolve.{package_named, type_named, impl_named, group_named, renames_named, in_package, in_found, replaced_by, with_package, from_imports, renames_for, without_package, resolve};
-ghost use Rattle.lent.specs.Lent.{with_names, with_p, with_i, with_t, with_q, with_u, with_r, with_types, packages_at};
+ghost use Rattle.lent.specs.Model.{model};
+ghost use Rattle.columns.specs.Reference.{ref_of};
 ghost use Rattle.resolver.specs.Keys.{has_part, has_key, rows_with_key};
-ghost use Rattle.resolver.specs.Found.{row_of, found, is_found};
-ghost use Rattle.resolver.specs.declared.Resolved.TheVariants.{Unresolved};
+ghost use Rattle.resolver.specs.Found.{row_of, found, renamed_number};
 
 use as5506::{I_NUMBERS, MISSING, P_NUMBERS, Q_NUMBERS, R_NUMBERS, T_NUMBERS, U_NUMBERS};
-use columns::group_type;
-use lent::number_at;
+use columns::{Reference, group_type};
+use lent::{Tables, get_or};
 use name::same_folded_names;
 
 // What a reference names: a row of T, of Q or of U, with the row of P that it was found in.
 #[derive(Clone, Copy)]
-pub enum Resolved {
+pub enum Classifier {
     ComponentType { package: usize, row: usize },
     ComponentImpl { package: usize, row: usize },
     GroupType { package: usize, row: usize },
-    Unresolved,
 }
 
 // What a key asks for in one field of a row: a number, a name that is equal folded, or nothing.
@@ -39,19 +36,26 @@ enum Part {
 #[derive(Clone, Copy)]
 struct Key(Part, Part, Part);
 
-// The row that a scan of a table stops at, or none.
+// What a row of R renames.
 #[derive(Clone, Copy)]
-pub enum Found {
-    At(usize),
-    Nothing,
+enum Renamed {
+    Package,
+    Classifier,
+    GroupType,
 }
 
-// What a row of R renames.
-const PACKAGE: usize = 0;
-
-const CLASSIFIER: usize = 1;
-
-const FEATURE_GROUP: usize = 2;
+impl Renamed {
+    // The number that a row has for it.
+    fn number(self) -> usize
+        ensures { result ≡ renamed_number self }
+    {
+        match self {
+            Renamed::Package => 0,
+            Renamed::Classifier => 1,
+            Renamed::GroupType => 2,
+        }
+    }
+}
 
 // ---- rows and keys
 
@@ -60,399 +64,239 @@ fn field(table: &[u32], width: usize, row: usize, column: usize) -> u32
     requires { (0 < width) × (column < width) × (row < length table.now / width) }
     ensures { result ≡ get_or table.now (row * width + column) 0 }
 {
-    number_at(table, row * width + column)
+    get_or(table, row * width + column, 0)
 }
 
 // Whether a field is what a key asks for. "Keys are folded".
-fn has_part(bytes: &[u8], n: &[u32], field: u32, part: Part) -> bool
-    ensures { result ≡ has_part bytes.now n.now field part }
+#[tactic(auto, unfolding(crate::specs::Keys::has_part))]
+fn has_part(m: &Tables, field: u32, part: Part) -> bool
+    ensures { result ≡ has_part (model m.now) field part }
 {
     match part {
         Part::Number(k) => field as usize == k,
-        Part::Name(k) => same_folded_names(bytes, n, field, k),
+        Part::Name(k) => same_folded_names(m, field, k),
         Part::Any => true,
     }
 }
 
 // Whether the row that starts at a place of a table has a key.
-fn has_key(bytes: &[u8], n: &[u32], table: &[u32], place: usize, key: Key) -> bool
+#[tactic(auto, unfolding(crate::specs::Keys::has_key))]
+fn has_key(m: &Tables, table: &[u32], place: usize, key: &Key) -> bool
     requires { place ≤ length table.now }
-    ensures { result ≡ has_key bytes.now n.now table.now place key }
+    ensures { result ≡ has_key (model m.now) table.now place key.now }
 {
-    let first = key.0;
-    let second = key.1;
-    let third = key.2;
-    if !has_part(bytes, n, number_at(table, place), first) {
-        return false;
-    }
-    if !has_part(bytes, n, number_at(table, place + 1), second) {
-        return false;
-    }
-    has_part(bytes, n, number_at(table, place + 2), third)
+    has_part(m, get_or(table, place, 0), key.0)
+        && has_part(m, get_or(table, place + 1, 0), key.1)
+        && has_part(m, get_or(table, place + 2, 0), key.2)
 }
 
-// The first row from `start` on that has a key, in a table of rows of `width` fields: "Hashing becomes a scan for equal folded names".
-fn find_row(bytes: &[u8], n: &[u32], table: &[u32], width: usize, start: usize, key: Key) -> Found
+// The first row that has a key, in a table of rows of `width` fields: "Hashing becomes a scan for equal folded names".
+#[tactic(auto, using(crate::proofs::Scan::searching))]
+fn find_row(m: &Tables, table: &[u32], width: usize, key: &Key) -> Option<usize>
     requires { 0 < width }
-    ensures { row_of result ≡ first_of (rows_with_key bytes.now n.now table.now width start key) }
+    ensures { row_of result ≡ first_of (rows_with_key (model m.now) table.now width key.now) }
 {
-    let count = table.len() / width;
-    let mut row = start;
-    while row < count {
-        if has_key(bytes, n, table, row * width, key) {
-            return Found::At(row);
+    for row in 0..table.len() / width {
+        if has_key(m, table, row * width, key) {
+            return Some(row);
         }
-        row += 1;
     }
-    Found::Nothing
+    None
 }
 
 // The package of a name.
-fn find_package(bytes: &[u8], n: &[u32], p: &[u32], name: u32) -> Found
-    ensures { ((o : Tables) →
-        let m : Tables = with_names bytes.now n.now (with_p p.now o) in
-        row_of result ≡ package_named m (key m name)) }
+#[tactic(auto, using(crate::proofs::Keys::package_found))]
+fn find_package(m: &Tables, name: u32) -> Option<usize>
+    ensures { row_of result ≡ package_named (model m.now) (key (model m.now) name) }
 {
     let key = Key(Part::Name(name), Part::Any, Part::Any);
-    find_row(bytes, n, p, P_NUMBERS, 0, key)
+    find_row(m, m.p, P_NUMBERS, &key)
 }
 
 // The component type of a package and a name.
-fn find_type(bytes: &[u8], n: &[u32], t: &[u32], package: usize, name: u32) -> Found
-    ensures { ((o : Tables) →
-        let m : Tables = with_names bytes.now n.now (with_t t.now o) in
-        row_of result ≡ type_named m «package» (key m name)) }
+#[tactic(auto, using(crate::proofs::Keys::type_found))]
+fn find_type(m: &Tables, package: usize, name: u32) -> Option<usize>
+    ensures { row_of result ≡ type_named (model m.now) «package» (key (model m.now) name) }
 {
     let key = Key(Part::Number(package), Part::Name(name), Part::Any);
-    find_row(bytes, n, t, T_NUMBERS, 0, key)
+    find_row(m, m.t, T_NUMBERS, &key)
 }
 
 // The implementation of a package and a pair of names.
-fn find_impl(
-    bytes: &[u8],
-    n: &[u32],
-    q: &[u32],
-    package: usize,
-    type_name: u32,
-    implementation: u32,
-) -> Found
-    ensures { ((o : Tables) →
-        let m : Tables = with_names bytes.now n.now (with_q q.now o) in
-        row_of result ≡ impl_named m «package» (key m type_name) (key m implementation)) }
+#[tactic(auto, using(crate::proofs::Keys::impl_found))]
+fn find_impl(m: &Tables, package: usize, type_name: u32, implementation: u32) -> Option<usize>
+    ensures { row_of result ≡ impl_named (model m.now) «package» (key (model m.now) type_name) (key (model m.now) implementation) }
 {
     let key = Key(
         Part::Number(package),
         Part::Name(type_name),
         Part::Name(implementation),
     );
-    find_row(bytes, n, q, Q_NUMBERS, 0, key)
+    find_row(m, m.q, Q_NUMBERS, &key)
 }
 
 // The group type of a package and a name.
-fn find_group(bytes: &[u8], n: &[u32], u: &[u32], package: usize, name: u32) -> Found
-    ensures { ((o : Tables) →
-        let m : Tables = with_names bytes.now n.now (with_u u.now o) in
-        row_of result ≡ group_named m «package» (key m name)) }
+#[tactic(auto, using(crate::proofs::Keys::group_found))]
+fn find_group(m: &Tables, package: usize, name: u32) -> Option<usize>
+    ensures { row_of result ≡ group_named (model m.now) «package» (key (model m.now) name) }
 {
     let key = Key(Part::Number(package), Part::Name(name), Part::Any);
-    find_row(bytes, n, u, U_NUMBERS, 0, key)
+    find_row(m, m.u, U_NUMBERS, &key)
 }
 
 // The rename of a package, of one kind, by its alias.
-fn find_rename(bytes: &[u8], n: &[u32], r: &[u32], package: usize, what: usize, alias: u32) -> Found
-    ensures { ((o : Tables) →
-        let m : Tables = with_names bytes.now n.now (with_r r.now o) in
-        row_of result ≡ first_of (renames_named m «package» what (key m alias))) }
+#[tactic(auto, using(crate::proofs::Keys::rename_found))]
+fn find_rename(m: &Tables, package: usize, what: Renamed, alias: u32) -> Option<usize>
+    ensures { row_of result ≡ first_of (renames_named (model m.now) «package» (renamed_number what) (key (model m.now) alias)) }
 {
-    let key = Key(Part::Number(package), Part::Number(what), Part::Name(alias));
-    find_row(bytes, n, r, R_NUMBERS, 0, key)
+    let key = Key(
+        Part::Number(package),
+        Part::Number(what.number()),
+        Part::Name(alias),
+    );
+    find_row(m, m.r, R_NUMBERS, &key)
 }
 
 // ---- in one package
 
 // A hit, where it may be seen: `own` says that the reference is asked from the hit's own package. "A private hit from outside gives nothing".
-fn if_visible(own: bool, private: u32, hit: Resolved) -> Resolved
-    ensures { result ≡ cond (own || eqb private 0) hit Unresolved }
+fn if_visible(own: bool, private: u32, hit: Classifier) -> Option<Classifier>
+    ensures { result ≡ cond (own || eqb private 0) (Some hit) None }
 {
-    if own {
-        return hit;
-    }
-    if private == 0 {
-        return hit;
-    }
-    Resolved::Unresolved
+    (own || private == 0).then_some(hit)
 }
 
 // What a reference names in one package: "with an implementation name only Q; otherwise T, then U", and "U is not tried after a private T".
-fn in_package(
-    bytes: &[u8],
-    n: &[u32],
-    t: &[u32],
-    q: &[u32],
-    u: &[u32],
-    own: bool,
-    package: usize,
-    type_name: u32,
-    implementation: u32,
-) -> Resolved
-    ensures { ((o : Tables) (name : ℕ) →
-        let m : Tables = with_names bytes.now n.now (with_types t.now q.now u.now o) in
-        result ≡ found m (in_package m own «package» (ref name type_name implementation))) }
+#[tactic(auto, using(crate::proofs::Steps::package_steps))]
+fn in_package(m: &Tables, own: bool, package: usize, reference: Reference) -> Option<Classifier>
+    ensures { result ≡ found (model m.now) (in_package (model m.now) own «package» (ref_of reference)) }
 {
-    if implementation != MISSING {
-        let Found::At(row) = find_impl(bytes, n, q, package, type_name, implementation) else {
-            return Resolved::Unresolved;
-        };
-        let private = field(q, Q_NUMBERS, row, 3);
-        return if_visible(own, private, Resolved::ComponentImpl { package, row });
+    let type_name = reference.type_name;
+    if reference.implementation != MISSING {
+        let row = find_impl(m, package, type_name, reference.implementation)?;
+        let private = field(m.q, Q_NUMBERS, row, 3);
+        return if_visible(own, private, Classifier::ComponentImpl { package, row });
     }
-    match find_type(bytes, n, t, package, type_name) {
-        Found::At(row) => {
-            let private = field(t, T_NUMBERS, row, 2);
-            if_visible(own, private, Resolved::ComponentType { package, row })
-        }
-        Found::Nothing => {
-            let Found::At(row) = find_group(bytes, n, u, package, type_name) else {
-                return Resolved::Unresolved;
-            };
-            let private = group_type::private_of(u, row);
-            if_visible(own, private, Resolved::GroupType { package, row })
-        }
+    if let Some(row) = find_type(m, package, type_name) {
+        let private = field(m.t, T_NUMBERS, row, 2);
+        return if_visible(own, private, Classifier::ComponentType { package, row });
     }
+    let row = find_group(m, package, type_name)?;
+    let private = group_type::private_of(m, row);
+    if_visible(own, private, Classifier::GroupType { package, row })
 }
 
-// The same in the package of a name; nothing where no package has it.
+// The same in the package of a name, whichever the reference names itself; nothing where no package has it.
+#[tactic(auto, using(crate::proofs::Steps::package_none, crate::proofs::Steps::package_some))]
 fn resolve_in_package(
-    bytes: &[u8],
-    n: &[u32],
-    p: &[u32],
-    t: &[u32],
-    q: &[u32],
-    u: &[u32],
+    m: &Tables,
     own: bool,
     package: u32,
-    type_name: u32,
-    implementation: u32,
-) -> Resolved
-    ensures { ((o : Tables) (name : ℕ) →
-        let m : Tables = with_names bytes.now n.now (with_p p.now (with_types t.now q.now u.now o)) in
-        result ≡ found m (in_found m own (ref name type_name implementation) (package_named m (key m «package»)))) }
+    reference: Reference,
+) -> Option<Classifier>
+    ensures { result ≡ found (model m.now) (in_found (model m.now) own (ref_of reference) (package_named (model m.now) (key (model m.now) «package»))) }
 {
-    let Found::At(row) = find_package(bytes, n, p, package) else {
-        return Resolved::Unresolved;
-    };
-    in_package(bytes, n, t, q, u, own, row, type_name, implementation)
+    let row = find_package(m, package)?;
+    in_package(m, own, row, reference)
 }
 
 // ---- a reference with a package
 
 // A package name as the asking package means it: "at most one replacement by the asking package's package renames".
-fn replaced(bytes: &[u8], n: &[u32], r: &[u32], asking: Found, package: u32) -> u32
-    ensures { ((o : Tables) →
-        let m : Tables = with_names bytes.now n.now (with_r r.now o) in
-        result ≡ replaced_by m «package» (row_of asking)) }
+#[tactic(auto, using(crate::proofs::Steps::replaced_steps))]
+fn replaced(m: &Tables, asking: Option<usize>, package: u32) -> u32
+    ensures { result ≡ replaced_by (model m.now) «package» (row_of asking) }
 {
-    let Found::At(row) = asking else {
+    let Some(row) = asking else {
         return package;
     };
-    let Found::At(rename) = find_rename(bytes, n, r, row, PACKAGE, package) else {
+    let Some(rename) = find_rename(m, row, Renamed::Package, package) else {
         return package;
     };
-    field(r, R_NUMBERS, rename, 3)
+    field(m.r, R_NUMBERS, rename, 3)
 }
 
 // "A reference with a package is looked up there, after at most one replacement"; ""Own" means equal keys after replacement".
 // `asking` is the row of the package named `from`.
+#[tactic(auto, using(crate::proofs::Steps::by_replaced))]
 fn with_package(
-    bytes: &[u8],
-    n: &[u32],
-    p: &[u32],
-    t: &[u32],
-    q: &[u32],
-    u: &[u32],
-    r: &[u32],
-    asking: Found,
+    m: &Tables,
+    asking: Option<usize>,
     from: u32,
-    package: u32,
-    type_name: u32,
-    implementation: u32,
-) -> Resolved
-    ensures { ((o : Tables) →
-        let m : Tables = with_names bytes.now n.now (with_p p.now (with_types t.now q.now u.now (with_r r.now o))) in
-        row_of asking ≡ package_named m (key m from) → result ≡ found m (with_package m from (ref «package» type_name implementation))) }
+    reference: Reference,
+) -> Option<Classifier>
+    ensures { row_of asking ≡ package_named (model m.now) (key (model m.now) from)
+        → result ≡ found (model m.now) (with_package (model m.now) from (ref_of reference)) }
 {
-    let name = replaced(bytes, n, r, asking, package);
-    let own = same_folded_names(bytes, n, name, from);
-    resolve_in_package(bytes, n, p, t, q, u, own, name, type_name, implementation)
+    let name = replaced(m, asking, reference.package);
+    let own = same_folded_names(m, name, from);
+    resolve_in_package(m, own, name, reference)
 }
 
 // ---- a reference without a package
 
-// Whether a reference names something.
-fn is_found(hit: Resolved) -> bool
-    ensures { result ≡ is_found hit }
-{
-    match hit {
-        Resolved::ComponentType { package: _, row: _ } => true,
-        Resolved::ComponentImpl { package: _, row: _ } => true,
-        Resolved::GroupType { package: _, row: _ } => true,
-        Resolved::Unresolved => false,
-    }
-}
-
 // What the packages give that the asking package imports, "imports in order". They are asked from outside, so a private hit is passed over.
-fn from_imports(
-    bytes: &[u8],
-    n: &[u32],
-    p: &[u32],
-    i: &[u32],
-    t: &[u32],
-    q: &[u32],
-    u: &[u32],
-    asking: usize,
-    type_name: u32,
-    implementation: u32,
-) -> Resolved
-    ensures { ((o : Tables) (name : ℕ) →
-        let m : Tables = with_names bytes.now n.now (with_p p.now (with_i i.now (with_types t.now q.now u.now o))) in
-        result ≡ found m (from_imports m asking (ref name type_name implementation))) }
+#[tactic(auto, using(crate::proofs::Steps::import_steps))]
+fn from_imports(m: &Tables, asking: usize, reference: Reference) -> Option<Classifier>
+    ensures { result ≡ found (model m.now) (from_imports (model m.now) asking (ref_of reference)) }
 {
-    let key = Key(Part::Number(asking), Part::Any, Part::Any);
-    let mut start: usize = 0;
-    loop {
-        let Found::At(row) = find_row(bytes, n, i, I_NUMBERS, start, key) else {
-            return Resolved::Unresolved;
-        };
-        let name = field(i, I_NUMBERS, row, 1);
-        let hit = resolve_in_package(bytes, n, p, t, q, u, false, name, type_name, implementation);
-        if is_found(hit) {
+    for row in 0..m.i.len() / I_NUMBERS {
+        if field(m.i, I_NUMBERS, row, 0) as usize != asking {
+            continue;
+        }
+        let name = field(m.i, I_NUMBERS, row, 1);
+        let hit = resolve_in_package(m, false, name, reference);
+        if hit.is_some() {
             return hit;
         }
-        start = row + 1;
     }
+    None
 }
 
 // The rename that a type name stands for: "classifier rename, then (no implementation name) group rename".
-fn rename_for(
-    bytes: &[u8],
-    n: &[u32],
-    r: &[u32],
-    asking: usize,
-    type_name: u32,
-    implementation: u32,
-) -> Found
-    ensures { ((o : Tables) (name : ℕ) →
-        let m : Tables = with_names bytes.now n.now (with_r r.now o) in
-        row_of result ≡ first_of (renames_for m asking (ref name type_name implementation))) }
+#[tactic(auto, using(crate::proofs::Steps::no_rename))]
+fn rename_for(m: &Tables, asking: usize, reference: Reference) -> Option<usize>
+    ensures { row_of result ≡ first_of (renames_for (model m.now) asking (ref_of reference)) }
 {
-    let classifier = find_rename(bytes, n, r, asking, CLASSIFIER, type_name);
-    match classifier {
-        Found::At(_) => classifier,
-        Found::Nothing => {
-            if implementation != MISSING {
-                return Found::Nothing;
-            }
-            find_rename(bytes, n, r, asking, FEATURE_GROUP, type_name)
-        }
+    if let Some(rename) = find_rename(m, asking, Renamed::Classifier, reference.type_name) {
+        return Some(rename);
     }
+    if reference.implementation != MISSING {
+        return None;
+    }
+    find_rename(m, asking, Renamed::GroupType, reference.type_name)
 }
 
 // "Without a package: own package, then classifier rename, then (no implementation name) group rename, then imports in order";
 // "A matching rename ends the search, found or not". `asking` is the row of the package named `from`.
-fn without_package(
-    bytes: &[u8],
-    n: &[u32],
-    p: &[u32],
-    i: &[u32],
-    t: &[u32],
-    q: &[u32],
-    u: &[u32],
-    r: &[u32],
-    asking: usize,
-    from: u32,
-    type_name: u32,
-    implementation: u32,
-) -> Resolved
-    ensures { ((o : Tables) (name : ℕ) →
-        let m : Tables = packages_at bytes n p i t q u r o in
-        some asking ≡ package_named m (key m from) → result ≡ found m (without_package m from (ref name type_name implementation) (some asking))) }
+#[tactic(auto, using(crate::proofs::Steps::unpackaged_steps))]
+fn without_package(m: &Tables, asking: usize, from: u32, reference: Reference) -> Option<Classifier>
+    ensures { some asking ≡ package_named (model m.now) (key (model m.now) from)
+        → result ≡ found (model m.now) (without_package (model m.now) from (ref_of reference) (some asking)) }
 {
-    let own = in_package(bytes, n, t, q, u, true, asking, type_name, implementation);
-    if is_found(own) {
+    let own = in_package(m, true, asking, reference);
+    if own.is_some() {
         return own;
     }
-    let Found::At(rename) = rename_for(bytes, n, r, asking, type_name, implementation) else {
-        return from_imports(bytes, n, p, i, t, q, u, asking, type_name, implementation);
+    let Some(rename) = rename_for(m, asking, reference) else {
+        return from_imports(m, asking, reference);
     };
-    let package = field(r, R_NUMBERS, rename, 3);
-    let original = field(r, R_NUMBERS, rename, 4);
-    with_package(
-        bytes,
-        n,
-        p,
-        t,
-        q,
-        u,
-        r,
-        Found::At(asking),
-        from,
-        package,
-        original,
-        implementation,
-    )
+    let target = Reference {
+        package: field(m.r, R_NUMBERS, rename, 3),
+        type_name: field(m.r, R_NUMBERS, rename, 4),
+        implementation: reference.implementation,
+    };
+    with_package(m, Some(asking), from, target)
 }
 
-// What a reference (package?, type, implementation?) names, asked from the package named `from`. These are name numbers, 4,294,967,295 for missing.
-pub fn resolve_classifier(
-    bytes: &[u8],
-    n: &[u32],
-    p: &[u32],
-    i: &[u32],
-    t: &[u32],
-    q: &[u32],
-    u: &[u32],
-    r: &[u32],
-    from: u32,
-    package: u32,
-    type_name: u32,
-    implementation: u32,
-) -> Resolved
-    ensures { ((o : Tables) →
-        let m : Tables = packages_at bytes n p i t q u r o in
-        result ≡ found m (resolve m from (ref «package» type_name implementation))) }
+// What a reference names, asked from the package named `from`.
+#[tactic(auto, using(crate::proofs::Steps::resolve_steps))]
+pub fn resolve_classifier(m: &Tables, from: u32, reference: Reference) -> Option<Classifier>
+    ensures { result ≡ found (model m.now) (resolve (model m.now) from (ref_of reference)) }
 {
-    let asking = find_package(bytes, n, p, from);
-    if package != MISSING {
-        return with_package(
-            bytes,
-            n,
-            p,
-            t,
-            q,
-            u,
-            r,
-            asking,
-            from,
-            package,
-            type_name,
-            implementation,
-        );
+    let asking = find_package(m, from);
+    if reference.package != MISSING {
+        return with_package(m, asking, from, reference);
     }
-    let Found::At(row) = asking else {
-        return Resolved::Unresolved;
-    };
-    without_package(
-        bytes,
-        n,
-        p,
-        i,
-        t,
-        q,
-        u,
-        r,
-        row,
-        from,
-        type_name,
-        implementation,
-    )
+    without_package(m, asking?, from, reference)
 }

@@ -1,30 +1,19 @@
--- Diagnostics written one after the other. Assumes nothing.
-use Rattle.std.specs.Prelude.{◌≡◌, List, ℕ, ◌-◌, ◌/◌, ◌≤◌, length}
-use Rattle.as5506.specs.Lists.{span, each}
-use Rattle.as5506.specs.Tables.{Tables, source, destination, x_count}
+-- The codes of diagnostics. Assumes nothing.
+use Rattle.std.specs.Prelude.{ℕ}
+use Rattle.as5506.specs.Tables.{source, destination}
 use Rattle.as5506.specs.Tables.{Side as TheSide}
-use Rattle.as5506.specs.Rows.{Diag}
-use Rattle.as5506.specs.Tracing.{diags_at}
-use Rattle.as5506.specs.Layout.{diag_block, diag_numbers}
-use Rattle.trace.specs.declared.Wrote.{Wrote}
-use Rattle.trace.specs.declared.Wrote.TheVariants.{Count, Full}
-use Rattle.trace.specs.Writing.{Written}
+use Rattle.semantic.specs.declared.Fault.{Fault}
+use Rattle.semantic.specs.declared.Fault.TheVariants.{NoFeature, NoSource, NoDestination, Unequal}
 
--- the blocks that were counted before fit the output
-unfoldable pub Room : List ℕ → Wrote → Type 0
-Room out (Count k) = k ≤ length out / diag_numbers
-Room out Full = Unit {0}
+-- "diagnostic 1" for "an end without feature", "2 for no source child, 3 for no destination child", "4 where the owner's pattern is one to one and the
+-- counts differ"
+abbrev pub code_of : Fault → ℕ
+code_of NoFeature = 1
+code_of NoSource = 2
+code_of NoDestination = 3
+code_of Unequal = 4
 
--- the diagnostics l are written behind those that were counted before; where there was no room for those, there is none, and nothing is written
-unfoldable pub WrittenAfter : List Diag → List ℕ → Wrote → Wrote → List ℕ → Type 0
-WrittenAfter l out (Count k) r out' = Written diag_numbers diag_block l out k r out'
-WrittenAfter l out Full r out' = (r ≡ Full) × (out' ≡ out)
-
--- "diagnostic 2 for no source child, 3 for no destination child"
+-- the code that a side has no child
 abbrev pub no_child_code : TheSide → ℕ
 no_child_code source = 2
 no_child_code destination = 3
-
--- the diagnostics of the X rows from i on
-unfoldable pub diags_from : Tables → ℕ → List Diag
-diags_from m i = each (diags_at m) (span i (x_count m - i))

@@ -1,9 +1,9 @@
 -- What the code's values stand for, and the rows of some of the pairs of an X row. Assumes nothing.
-use Rattle.std.specs.Prelude.{List, ℕ, ◌-◌}
-use Rattle.as5506.specs.Lists.{span, each}
-use Rattle.as5506.specs.Tables.{Tables, source, destination, name_of, x_count, x_owner, x_sub, x_feat}
+use Rattle.std.specs.Prelude.{List, ℕ}
+use Rattle.as5506.specs.Lists.{each}
+use Rattle.as5506.specs.Tables.{Tables, source, destination, name_of, x_owner, x_sub, x_feat}
 use Rattle.as5506.specs.Tables.{Side as TheSide}
-use Rattle.as5506.specs.Tracing.{Start as TheStart, child, owner, Pair, Traced, pair_rows, rows_at, pair_across, zip_as, step_limit, faulty, across, upward, downward, neither}
+use Rattle.as5506.specs.Tracing.{Start as TheStart, child, owner, Pair, Traced, pair_rows, pair_across, zip_as, step_limit, faulty, across, upward, downward, neither}
 use Rattle.as5506.specs.Tracing.{Shape as TheShape}
 use Rattle.children.specs.Found.{found_from}
 use Rattle.semantic.specs.declared.Start.{Start}
@@ -49,17 +49,13 @@ unfoldable pub named_from : Tables → TheSide → ℕ → ℕ → List ℕ
 named_from m s x j = found_from m (x_owner m x) (name_of m (x_sub m s x)) j
 
 -- the rows of the children l on side s, each with the end b on the other
-unfoldable pub rows_beside : Tables → ℕ → TheSide → Start → List ℕ → List Traced
+abbrev pub rows_beside : Tables → ℕ → TheSide → Start → List ℕ → List Traced
 rows_beside m x s b l = each (λ i. pair_rows m step_limit x (pair_on m x s (Child i) b)) l
 
 -- the rows of the children l on the source's side, each with all children of the destination
-unfoldable pub rows_all : Tables → ℕ → List ℕ → List Traced
+abbrev pub rows_all : Tables → ℕ → List ℕ → List Traced
 rows_all m x l = each (λ a. rows_beside m x destination (Child a) (named_from m destination x 0)) l
 
 -- the rows of two lists of children, pair by pair
-unfoldable pub rows_zip : Tables → ℕ → List ℕ → List ℕ → List Traced
+abbrev pub rows_zip : Tables → ℕ → List ℕ → List ℕ → List Traced
 rows_zip m x l r = each (pair_rows m step_limit x) (zip_as (pair_across m x) l r)
-
--- the rows of the X rows from i on
-unfoldable pub rows_from : Tables → ℕ → List Traced
-rows_from m i = each (rows_at m step_limit) (span i (x_count m - i))

@@ -1,194 +1,143 @@
-// The diagnostics of each connection: 1 for an end without a feature, 2 for no source child, 3 for no destination child, 4 where children are
-// paired one to one and the sides have different numbers of them.
-ghost use Rattle.std.specs.Prelude.{not, ◌&&◌, ◌≡◌, [], ◌∷◌, eqb};
-ghost use Rattle.as5506.specs.Lists.{when};
+// The diagnostics of each connection.
+ghost use Rattle.std.specs.Prelude.{◌≡◌, ◌≤◌, ◌/◌, [], ◌∷◌, length};
+ghost use Rattle.as5506.specs.Tables.{x_owner, x_sub};
 ghost use Rattle.as5506.specs.Rows.{diag};
-ghost use Rattle.as5506.specs.Tracing.{diags_by, diags_at, traced_diags, across};
+ghost use Rattle.as5506.specs.Tracing.{named, one_to_one, no_child, unequal, diags_by, diags_at, traced_diags, across};
 ghost use Rattle.as5506.specs.Layout.{diag_block, diag_numbers};
-ghost use Rattle.lent.specs.Lent.{wiring_at};
+ghost use Rattle.lent.specs.Model.{model};
 ghost use Rattle.columns.specs.Side.{side_of};
-ghost use Rattle.name.specs.Pattern.{says_one_to_one};
 ghost use Rattle.trace.specs.Writing.{Written};
 ghost use Rattle.trace.specs.Ready.{Traceable};
 ghost use Rattle.semantic.specs.Rows.{edge_of};
-ghost use Rattle.semantic.specs.Diagnostics.{Room, WrittenAfter, no_child_code};
-ghost use Rattle.semantic.specs.Ready.{RowReady};
+ghost use Rattle.semantic.specs.Diagnostics.{code_of, no_child_code};
 
-use super::{Shape, ends};
+use super::{Connection, Fault, Shape};
 use as5506::{DIAGNOSTIC_NUMBERS, X_NUMBERS};
 use columns::{Side, connection};
+use lent::Tables;
 use name::ConnectionPattern;
-use trace::Wrote;
 
-// Writes a diagnostic behind the first `count`: its code, the connection, and two numbers.
-fn put_diagnostic(out: &mut [u32], code: u32, conn: u32, one: u32, two: u32, count: usize) -> Wrote
-    ensures { Written diag_numbers diag_block (diag code conn one two ∷ []) out.old count result out.new }
-{
-    if out.len() / DIAGNOSTIC_NUMBERS <= count {
-        return Wrote::Full;
+impl Fault {
+    // What is wrong where a side has no child.
+    fn no_child(side: Side) -> Fault
+        ensures { code_of result ≡ no_child_code (side_of side) }
+    {
+        match side {
+            Side::Source => Fault::NoSource,
+            Side::Destination => Fault::NoDestination,
+        }
     }
-    let block = [code, conn, one, two];
-    lent::put_numbers(out, count * DIAGNOSTIC_NUMBERS, &block);
-    Wrote::Count(count + 1)
-}
 
-// Writes a diagnostic where the test holds, behind those that were written before.
-fn diagnose_if(
-    out: &mut [u32],
-    earlier: Wrote,
-    test: bool,
-    code: u32,
-    conn: u32,
-    one: u32,
-    two: u32,
-) -> Wrote
-    requires { Room out.old earlier }
-    ensures { WrittenAfter (when test (diag code conn one two)) out.old earlier result out.new }
-{
-    if !test {
-        return earlier;
-    }
-    match earlier {
-        Wrote::Count(k) => put_diagnostic(out, code, conn, one, two, k),
-        Wrote::Full => Wrote::Full,
+    // The number that stands for it in a diagnostic.
+    fn code(self) -> u32
+        ensures { result ≡ code_of self }
+    {
+        self as u32
     }
 }
 
-// Whether the pattern asks for equal counts and they differ.
-fn unequal(pattern: ConnectionPattern, a: usize, b: usize) -> bool
-    ensures { result ≡ says_one_to_one pattern && not (eqb a b) }
-{
-    match pattern {
-        ConnectionPattern::OneToOne => a != b,
-        ConnectionPattern::AllToAll => false,
+impl Connection<'_, '_> {
+    // Writes a diagnostic of it behind the first `count`: what is wrong, and two numbers.
+    fn put(&self, out: &mut [u32], fault: Fault, one: u32, two: u32, count: usize) -> Option<usize>
+        ensures { Written diag_numbers diag_block (diag (code_of fault) self.now.row one two ∷ []) out.old count result out.new }
+    {
+        if out.len() / DIAGNOSTIC_NUMBERS <= count {
+            return None;
+        }
+        let block = [fault.code(), self.row as u32, one, two];
+        lent::put_all(out, count * DIAGNOSTIC_NUMBERS, &block);
+        Some(count + 1)
     }
-}
 
-// The code of the diagnostic that a side has no child.
-fn no_child_code(side: Side) -> u32
-    ensures { result ≡ no_child_code (side_of side) }
-{
-    match side {
-        Side::Source => 2,
-        Side::Destination => 3,
+    // Writes the diagnostic that a side has no child, where `found`, how many it has, is 0.
+    fn diagnose_side(
+        &self,
+        out: &mut [u32],
+        side: Side,
+        found: usize,
+        count: usize,
+    ) -> Option<usize>
+        requires number { found ≡ length (named (model self.now.m.now) (side_of side) self.now.row) }
+        requires room { count ≤ length out.old / diag_numbers }
+        ensures { Written diag_numbers diag_block
+            (no_child (no_child_code (side_of side)) self.now.row (x_sub (model self.now.m.now) (side_of side) self.now.row)
+            (named (model self.now.m.now) (side_of side) self.now.row))
+            out.old count result out.new }
+    {
+        if found != 0 {
+            return Some(count);
+        }
+        let wanted = connection::subcomponent_of(self.m, side, self.row);
+        self.put(out, Fault::no_child(side), wanted, 0, count)
     }
-}
 
-// Writes the diagnostics of X row i, which is between two subcomponents.
-fn diagnose_across(
-    bytes: &[u8],
-    n: &[u32],
-    c: &[u32],
-    x: &[u32],
-    out: &mut [u32],
-    i: usize,
-    count: usize,
-) -> Wrote
-    requires { RowReady diag_numbers c.now x.now out.old count i }
-    ensures { Written diag_numbers diag_block (diags_by (wiring_at bytes n c x) i across) out.old count result out.new }
-{
-    let conn = i as u32;
-    let s = ends::count_named(bytes, n, c, x, Side::Source, i);
-    let d = ends::count_named(bytes, n, c, x, Side::Destination, i);
-    let pattern = ends::resolve_connection_pattern(bytes, n, c, connection::owner_of(x, i));
-    let first = diagnose_if(
-        out,
-        Wrote::Count(count),
-        s == 0,
-        2,
-        conn,
-        connection::subcomponent_of(x, Side::Source, i),
-        0,
-    );
-    let second = diagnose_if(
-        out,
-        first,
-        d == 0,
-        3,
-        conn,
-        connection::subcomponent_of(x, Side::Destination, i),
-        0,
-    );
-    diagnose_if(
-        out,
-        second,
-        unequal(pattern, s, d),
-        4,
-        conn,
-        s as u32,
-        d as u32,
-    )
-}
-
-// Writes the diagnostics of X row i, which has a subcomponent on the side and its owner on the other: only where the owner has no parent.
-fn diagnose_edge(
-    bytes: &[u8],
-    n: &[u32],
-    c: &[u32],
-    x: &[u32],
-    out: &mut [u32],
-    i: usize,
-    side: Side,
-    count: usize,
-) -> Wrote
-    requires { RowReady diag_numbers c.now x.now out.old count i }
-    ensures { Written diag_numbers diag_block (diags_by (wiring_at bytes n c x) i (edge_of (side_of side))) out.old count result out.new }
-{
-    if ends::has_parent(c, connection::owner_of(x, i)) {
-        return Wrote::Count(count);
+    // Writes the diagnostic that the sides have s and d children, where children are paired one to one and these are not equal.
+    fn diagnose_counts(&self, out: &mut [u32], s: usize, d: usize, count: usize) -> Option<usize>
+        requires few { (s ≤ 4096) × (d ≤ 4096) }
+        requires room { count ≤ length out.old / diag_numbers }
+        ensures { Written diag_numbers diag_block
+            (unequal (one_to_one (model self.now.m.now) (x_owner (model self.now.m.now) self.now.row)) self.now.row s d)
+            out.old count result out.new }
+    {
+        match self.pattern() {
+            ConnectionPattern::OneToOne if s != d => self.put(
+                out,
+                Fault::Unequal,
+                s as u32,
+                d as u32,
+                count,
+            ),
+            _ => Some(count),
+        }
     }
-    let found = ends::count_named(bytes, n, c, x, side, i);
-    diagnose_if(
-        out,
-        Wrote::Count(count),
-        found == 0,
-        no_child_code(side),
-        i as u32,
-        connection::subcomponent_of(x, side, i),
-        0,
-    )
-}
 
-// Writes the diagnostics of X row i.
-fn diagnose_connection(
-    bytes: &[u8],
-    n: &[u32],
-    c: &[u32],
-    x: &[u32],
-    out: &mut [u32],
-    i: usize,
-    count: usize,
-) -> Wrote
-    requires { RowReady diag_numbers c.now x.now out.old count i }
-    ensures { Written diag_numbers diag_block (diags_at (wiring_at bytes n c x) i) out.old count result out.new }
-{
-    match ends::shape_of(x, i) {
-        Shape::Faulty => put_diagnostic(out, 1, i as u32, 0, 0, count),
-        Shape::Across => diagnose_across(bytes, n, c, x, out, i, count),
-        Shape::Upward => diagnose_edge(bytes, n, c, x, out, i, Side::Source, count),
-        Shape::Downward => diagnose_edge(bytes, n, c, x, out, i, Side::Destination, count),
-        Shape::Neither => Wrote::Count(count),
+    // Writes its diagnostics where it is between two subcomponents.
+    fn diagnose_across(&self, out: &mut [u32], count: usize) -> Option<usize>
+        requires { count ≤ length out.old / diag_numbers }
+        ensures { Written diag_numbers diag_block (diags_by (model self.now.m.now) self.now.row across) out.old count result out.new }
+    {
+        let s = self.count_named(Side::Source);
+        let d = self.count_named(Side::Destination);
+        let done = self.diagnose_side(out, Side::Source, s, count)?;
+        let done = self.diagnose_side(out, Side::Destination, d, done)?;
+        self.diagnose_counts(out, s, d, done)
+    }
+
+    // Writes its diagnostics where it has a subcomponent on the side and its owner on the other: only where the owner has no parent.
+    fn diagnose_edge(&self, out: &mut [u32], side: Side, count: usize) -> Option<usize>
+        requires { count ≤ length out.old / diag_numbers }
+        ensures { Written diag_numbers diag_block (diags_by (model self.now.m.now) self.now.row (edge_of (side_of side))) out.old count result out.new }
+    {
+        if self.is_inside() {
+            return Some(count);
+        }
+        self.diagnose_side(out, side, self.count_named(side), count)
+    }
+
+    // Writes its diagnostics.
+    #[tactic(auto, unfolding(as5506::specs::Tracing::diags_at, as5506::specs::Tracing::diags_by))]
+    fn diagnose(&self, out: &mut [u32], count: usize) -> Option<usize>
+        requires { count ≤ length out.old / diag_numbers }
+        ensures { Written diag_numbers diag_block (diags_at (model self.now.m.now) self.now.row) out.old count result out.new }
+    {
+        match self.shape() {
+            Shape::Faulty => self.put(out, Fault::NoFeature, 0, 0, count),
+            Shape::Across => self.diagnose_across(out, count),
+            Shape::Upward => self.diagnose_edge(out, Side::Source, count),
+            Shape::Downward => self.diagnose_edge(out, Side::Destination, count),
+            Shape::Neither => Some(count),
+        }
     }
 }
 
 // Writes the diagnostics of all X rows, from the front of the output on.
-pub fn diagnose_connections(bytes: &[u8], n: &[u32], c: &[u32], x: &[u32], out: &mut [u32]) -> Wrote
-    requires { Traceable c.now x.now }
-    ensures { Written diag_numbers diag_block (traced_diags (wiring_at bytes n c x)) out.old 0 result out.new }
+pub fn diagnose_connections(m: &Tables, out: &mut [u32]) -> Option<usize>
+    requires { Traceable (model m.now) }
+    ensures { Written diag_numbers diag_block (traced_diags (model m.now)) out.old 0 result out.new }
 {
-    let rows = x.len() / X_NUMBERS;
     let mut done = 0;
-    let mut i = 0;
-    while i < rows {
-        match diagnose_connection(bytes, n, c, x, out, i, done) {
-            Wrote::Full => {
-                return Wrote::Full;
-            }
-            Wrote::Count(r) => {
-                done = r;
-            }
-        }
-        i += 1;
+    for row in 0..m.x.len() / X_NUMBERS {
+        done = Connection { m, row }.diagnose(out, done)?;
     }
-    Wrote::Count(done)
+    Some(done)
 }

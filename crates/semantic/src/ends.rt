@@ -1,115 +1,101 @@
 // What a connection names: its shape, the children on each side, the pattern by which they are paired.
-ghost use Rattle.std.specs.Prelude.{◌≡◌, [], ◌≤◌, length};
-ghost use Rattle.as5506.specs.Tables.{present, c_count, c_parent};
-ghost use Rattle.as5506.specs.Tracing.{shape, named, one_to_one};
-ghost use Rattle.lent.specs.Lent.{components_in, connections_in, components_at, wiring_at};
+ghost use Rattle.std.specs.Prelude.{◌≡◌, ◌≤◌, length};
+ghost use Rattle.as5506.specs.Tables.{present, c_count, c_parent, x_owner};
+ghost use Rattle.as5506.specs.Tracing.{shape, named, one_to_one, step_limit};
+ghost use Rattle.lent.specs.Model.{model};
 ghost use Rattle.columns.specs.Side.{side_of};
 ghost use Rattle.name.specs.Pattern.{says_one_to_one};
 ghost use Rattle.children.specs.Found.{after_child, Inside};
 ghost use Rattle.semantic.specs.Rows.{shape_of, named_from, component_of, limit_of};
 
-use super::{Shape, Start};
+use super::{Connection, Shape, Start};
 use as5506::{MISSING, STEPS};
-use children::Child;
 use columns::{Side, component, connection};
 use name::ConnectionPattern;
 
-// The shape of X row i.
-pub fn shape_of(x: &[u32], i: usize) -> Shape
-    ensures { shape_of result ≡ shape (connections_in [] [] x.now) i }
-{
-    if connection::feature_of(x, Side::Source, i) == MISSING {
-        return Shape::Faulty;
-    }
-    if connection::feature_of(x, Side::Destination, i) == MISSING {
-        return Shape::Faulty;
-    }
-    let to = connection::subcomponent_of(x, Side::Destination, i);
-    if connection::subcomponent_of(x, Side::Source, i) == MISSING {
-        if to == MISSING {
-            return Shape::Neither;
+impl Connection<'_, '_> {
+    // What it is.
+    #[tactic(auto, unfolding(as5506::specs::Tracing::shape, as5506::specs::Tables::has_ends))]
+    pub fn shape(&self) -> Shape
+        ensures { shape_of result ≡ shape (model self.now.m.now) self.now.row }
+    {
+        if connection::feature_of(self.m, Side::Source, self.row) == MISSING
+            || connection::feature_of(self.m, Side::Destination, self.row) == MISSING
+        {
+            return Shape::Faulty;
         }
-        return Shape::Downward;
+        let from = connection::subcomponent_of(self.m, Side::Source, self.row);
+        let to = connection::subcomponent_of(self.m, Side::Destination, self.row);
+        match (from == MISSING, to == MISSING) {
+            (false, false) => Shape::Across,
+            (false, true) => Shape::Upward,
+            (true, false) => Shape::Downward,
+            (true, true) => Shape::Neither,
+        }
     }
-    if to == MISSING {
-        return Shape::Upward;
+
+    // The component that has it.
+    pub fn owner(&self) -> u32
+        ensures { result ≡ x_owner (model self.now.m.now) self.now.row }
+    {
+        connection::owner_of(self.m, self.row)
     }
-    Shape::Across
-}
 
-// Whether a component has a parent.
-pub fn has_parent(c: &[u32], owner: u32) -> bool
-    ensures { result ≡ present (c_parent (components_in [] [] c.now) owner) }
-{
-    component::parent_of(c, owner as usize) != MISSING
-}
+    // Whether that component has a parent.
+    pub fn is_inside(&self) -> bool
+        ensures { result ≡ present (c_parent (model self.now.m.now) (x_owner (model self.now.m.now) self.now.row)) }
+    {
+        component::parent_of(self.m, self.owner() as usize) != MISSING
+    }
 
-// The pattern of a component's connections.
-pub fn resolve_connection_pattern(
-    bytes: &[u8],
-    n: &[u32],
-    c: &[u32],
-    owner: u32,
-) -> ConnectionPattern
-    ensures { says_one_to_one result ≡ one_to_one (components_at bytes n c) owner }
-{
-    name::pattern_of(bytes, n, component::pattern_of(c, owner as usize))
-}
+    // The pattern of that component's connections.
+    #[tactic(auto, unfolding(as5506::specs::Tracing::one_to_one))]
+    pub fn pattern(&self) -> ConnectionPattern
+        ensures { says_one_to_one result ≡ one_to_one (model self.now.m.now) (x_owner (model self.now.m.now) self.now.row) }
+    {
+        name::pattern_of(self.m, component::pattern_of(self.m, self.owner() as usize))
+    }
 
-// The first child from `from` on (0 is the start, i + 1 is behind child i) that X row i names on a side.
-pub fn next_named(
-    bytes: &[u8],
-    n: &[u32],
-    c: &[u32],
-    x: &[u32],
-    side: Side,
-    i: usize,
-    from: usize,
-) -> Child
-    ensures from_value { named_from (wiring_at bytes n c x) (side_of side) i from
-        ≡ after_child (named_from (wiring_at bytes n c x) (side_of side) i) result }
-    ensures inside { Inside c.now result }
-{
-    children::find_child_by_name(
-        bytes,
-        n,
-        c,
-        connection::owner_of(x, i),
-        connection::subcomponent_of(x, side, i),
-        from,
-    )
-}
+    // The first child from `from` on (0 is the start, i + 1 is behind child i) that it names on a side.
+    #[tactic(auto, unfolding(crate::specs::Rows::named_from))]
+    pub fn next_named(&self, side: Side, from: usize) -> Option<usize>
+        ensures from_value { named_from (model self.now.m.now) (side_of side) self.now.row from
+            ≡ after_child (named_from (model self.now.m.now) (side_of side) self.now.row) result }
+        ensures inside { Inside (model self.now.m.now) result }
+    {
+        let wanted = connection::subcomponent_of(self.m, side, self.row);
+        children::find_child_by_name(self.m, self.owner(), wanted, from)
+    }
 
-// How many children X row i names on a side.
-pub fn count_named(bytes: &[u8], n: &[u32], c: &[u32], x: &[u32], side: Side, i: usize) -> usize
-    ensures value { result ≡ length (named (wiring_at bytes n c x) (side_of side) i) }
-    ensures upper_bound { result ≤ c_count (wiring_at bytes n c x) }
-{
-    children::count_children(
-        bytes,
-        n,
-        c,
-        connection::owner_of(x, i),
-        connection::subcomponent_of(x, side, i),
-    )
-}
-
-// The component of a start.
-pub fn component_of(at: Start) -> u32
-    ensures { result ≡ component_of at }
-{
-    match at {
-        Start::Child(i) => i,
-        Start::Owner(i) => i,
+    // How many children it names on a side.
+    #[tactic(auto, unfolding(as5506::specs::Tracing::named))]
+    pub fn count_named(&self, side: Side) -> usize
+        ensures value { result ≡ length (named (model self.now.m.now) (side_of side) self.now.row) }
+        ensures upper_bound { result ≤ c_count (model self.now.m.now) }
+    {
+        let wanted = connection::subcomponent_of(self.m, side, self.row);
+        children::count_children(self.m, self.owner(), wanted)
     }
 }
 
-// How many steps are made from a start.
-pub fn limit_of(at: Start) -> usize
-    ensures { result ≡ limit_of at }
-{
-    match at {
-        Start::Child(_) => STEPS,
-        Start::Owner(_) => 0,
+impl Start {
+    // Its component.
+    pub fn component(self) -> u32
+        ensures { result ≡ component_of self }
+    {
+        match self {
+            Start::Child(i) | Start::Owner(i) => i,
+        }
+    }
+
+    // How many steps are made from it.
+    pub fn limit(self) -> usize
+        ensures value { result ≡ limit_of self }
+        ensures upper_bound { result ≤ step_limit }
+    {
+        match self {
+            Start::Child(_) => STEPS,
+            Start::Owner(_) => 0,
+        }
     }
 }

@@ -2,23 +2,23 @@
 use mathlib.Core.Bool.{Bool, true, false, cond}
 use mathlib.Core.List.{List, [], ◌∷◌, map}
 use mathlib.Core.Option.{Option, none, some}
-use mathlib.Core.Path.{◌≡◌, refl, sym, ap, ap₂, ◌∙◌}
+use mathlib.Core.Path.{◌≡◌, refl, sym, ap, ◌∙◌}
 use Prim.Native.Nat.{ℕ, zero, suc, ◌+◌, ◌≤◌, ◌<◌}
 use native.Mathlib.Decide.{dec_le}
 use native.Mathlib.Nat.{not-suc-le-zero, le_of_suc-le-suc}
 use native.Mathlib.Omega.{arith}
 use borrow.Author.Tests.{eqb-true, eq-eqb}
-use lib.Dec.{T, eqb}
+use lib.Dec.{eqb}
 use lib.ListN.{length, get_or, drop, get_or-eq_default}
-use Rattle.as5506.specs.Columns.{order, rank, letter_byte, Column, columns, letter_count, line_bytes, row_cells}
-use Rattle.as5506.specs.Fields.{fields_fit, field_numbers}
-use Rattle.as5506.specs.Lists.{span, put_if, keep, first_of, all_of}
+use Rattle.as5506.specs.Columns.{order, rank, letter_byte, columns, letter_count, line_bytes, row_cells}
+use Rattle.as5506.specs.Lists.{span, put_if, keep, first_of}
 use Rattle.as5506.specs.Sheet.{letter_of}
 use Rattle.as5506.specs.Tables.{Letter, letter_n, width}
 use Rattle.as5506.proofs.Letters.{each-letter, row-cells as width-cells}
-use Rattle.fields.specs.Fields.{columns_by, marks_of, is_sized}
-use Rattle.fields.proofs.Laws.{columns-fit, columns-numbers, columns-bytes, columns-cells}
-use Rattle.sheet.specs.Steps.{letter_at, rank_of, index_of}
+use Rattle.std.specs.Prelude.{Option as Found, Some, None, MatchOption}
+use Rattle.std.proofs.lemmas.Option.{none-some, same_Some}
+use Rattle.sheet.proofs.Lines.{index_found, index_none}
+use Rattle.sheet.specs.Steps.{letter_at, place_of, rank_of, index_of}
 
 -- ---- by rank
 
@@ -39,62 +39,6 @@ mapped_at f (l ∷ ls) (suc k) h = mapped_at f ls k (le_of_suc-le-suc h)
 entry : (f : Letter → ℕ) (k : ℕ) → k < letter_count → get_or (map f order) k 0 ≡ f (letter_at k)
 entry f = mapped_at f order
 
--- tables with an entry for each letter: as5506::WIDTHS and LETTERS are the first two, the code's FIELDS, MARKS and COLUMNS the others
-abbrev pub widths : List ℕ
-widths = map width order
-
-abbrev pub letters : List ℕ
-letters = map letter_byte order
-
-abbrev pub counts : List ℕ
-counts = map (λ l. length (columns l)) order
-
-abbrev pub marks : List ℕ
-marks = 0 ∷ 0x100210 ∷ 0 ∷ 0x1111000 ∷ 0 ∷ 0 ∷ 0 ∷ 0 ∷ 0x111111000 ∷ 0x11110000 ∷ 0x10000 ∷ 0 ∷ []
-
-marks-right : marks ≡ map (λ l. marks_of (columns l)) order
-unfolding marks_of
-marks-right = refl
-
-abbrev pub bytes : List ℕ
-bytes = map (λ l. line_bytes (columns l)) order
-
--- each field takes the columns that its mark says
-sized : (l : Letter) → T (all_of is_sized (columns l))
-sized = each-letter (λ l. T (all_of is_sized (columns l))) tt tt tt tt tt tt tt tt tt tt tt tt
-
-module _ (k : ℕ) (h : k < letter_count) where
-  pub width-at : get_or widths k 0 ≡ width (letter_at k)
-  width-at = entry width k h
-
-  pub byte_at : get_or letters k 0 ≡ letter_byte (letter_at k)
-  byte_at = entry letter_byte k h
-
-  count_at : get_or counts k 0 ≡ length (columns (letter_at k))
-  count_at = entry (λ l. length (columns l)) k h
-
-  mark-at : get_or marks k 0 ≡ marks_of (columns (letter_at k))
-  mark-at = ap (λ (xs : List ℕ). get_or xs k 0) marks-right ∙ entry (λ l. marks_of (columns l)) k h
-
-  pub bytes-at : get_or bytes k 0 ≡ line_bytes (columns (letter_at k))
-  bytes-at = entry (λ l. line_bytes (columns l)) k h
-
-  -- the fields that the code goes by: those of the letter, but for what they mean
-  columns-are : columns_by (get_or counts k 0) (get_or marks k 0) ≡ columns_by (length (columns (letter_at k))) (marks_of (columns (letter_at k)))
-  columns-are = ap₂ columns_by count_at mark-at
-
-  pub fit_at : (s : List ℕ) → fields_fit (columns_by (get_or counts k 0) (get_or marks k 0)) s ≡ fields_fit (columns (letter_at k)) s
-  fit_at s = ap (λ (cs : List Column). fields_fit cs s) columns-are ∙ columns-fit (columns (letter_at k)) (sized (letter_at k)) s
-
-  pub numbers-at : (s : List ℕ) → field_numbers (columns_by (get_or counts k 0) (get_or marks k 0)) s ≡ field_numbers (columns (letter_at k)) s
-  numbers-at s = ap (λ (cs : List Column). field_numbers cs s) columns-are ∙ columns-numbers (columns (letter_at k)) (sized (letter_at k)) s
-
-  pub line_at : line_bytes (columns_by (get_or counts k 0) (get_or marks k 0)) ≡ get_or bytes k 0
-  line_at = ap line_bytes columns-are ∙ columns-bytes (columns (letter_at k)) (sized (letter_at k)) ∙ sym bytes-at
-
-  cells_at : row_cells (columns_by (get_or counts k 0) (get_or marks k 0)) ≡ row_cells (columns (letter_at k))
-  cells_at = ap row_cells columns-are ∙ columns-cells (columns (letter_at k))
-
 span-at : (i n k : ℕ) → k < n → get_or (span i n) k 0 ≡ i + k
 span-at i zero k h = absurd (not-suc-le-zero h)
 span-at i (suc n) zero h = omega arith
@@ -103,8 +47,26 @@ span-at i (suc n) (suc k) h = span-at (suc i) n k (le_of_suc-le-suc h) ∙ omega
 pub rank-at : (k : ℕ) → k < letter_count → rank (letter_at k) ≡ k
 rank-at k h = sym (entry rank k h) ∙ span-at 0 letter_count k h ∙ omega arith
 
-pub width_small : (l : Letter) → width l < 10
-width_small = each-letter (λ l. width l < 10) (omega arith) (omega arith) (omega arith) (omega arith) (omega arith) (omega arith) (omega arith) (omega arith) (omega arith) (omega arith) (omega arith) (omega arith)
+-- tables that agree by letter agree at each place
+pub same_at : {A B C : Type 0} (f : A → C) (g : B → C) (d : A) (e : B) (xs : List A) (ys : List B) (k : ℕ) → k < length ys → map f xs ≡ map g ys → f (get_or xs k d) ≡ g (get_or ys k e)
+same_at f g d e xs [] k h q = absurd (not-suc-le-zero h)
+same_at f g d e [] (y ∷ ys) k h q = absurd (let z : ◌≡◌ {A = ℕ} 0 (length (map g (y ∷ ys))) = ap length q in omega arith)
+same_at f g d e (x ∷ xs) (y ∷ ys) zero h q = ap (λ cs. get_or cs 0 (f x)) q
+same_at f g d e (x ∷ xs) (y ∷ ys) (suc k) h q = same_at f g d e xs ys k (le_of_suc-le-suc h) (ap (drop 1) q)
+
+-- as5506::WIDTHS and LETTERS
+abbrev pub widths : List ℕ
+widths = map width order
+
+abbrev pub letters : List ℕ
+letters = map letter_byte order
+
+module _ (k : ℕ) (h : k < letter_count) where
+  pub width-at : get_or widths k 0 ≡ width (letter_at k)
+  width-at = entry width k h
+
+  pub code-byte : get_or letters k 0 ≡ letter_byte (letter_at k)
+  code-byte = entry letter_byte k h
 
 -- a line of a letter other than N has more bytes than its row has numbers
 pub width-bytes : (l : Letter) → (rank l ≡ 0 → ⊥) → width l ≤ line_bytes (columns l)
@@ -116,12 +78,8 @@ pub bytes-few : (l : Letter) → line_bytes (columns l) < 100
 bytes-few = each-letter (λ l. line_bytes (columns l) < 100) (omega arith) (omega arith) (omega arith) (omega arith) (omega arith) (omega arith) (omega arith) (omega arith) (omega arith) (omega arith) (omega arith) (omega arith)
 
 -- of every letter but N the row has the numbers of its fields
-pub cell-count : (k : ℕ) → 0 < k → k < letter_count → width (letter_at k) ≡ row_cells (columns (letter_at k))
-cell-count k p h = width-cells (letter_at k) (λ z. omega (arith, z, rank-at k h))
-
--- and so have the fields that the code goes by
-pub row-cells : (k : ℕ) → 0 < k → k < letter_count → row_cells (columns_by (get_or counts k 0) (get_or marks k 0)) ≡ get_or widths k 0
-row-cells k p h = cells_at k h ∙ sym (width-at k h ∙ cell-count k p h)
+pub cell-count : (k : ℕ) → 0 < k → k < letter_count → row_cells (columns (letter_at k)) ≡ get_or widths k 0
+cell-count k p h = sym (width-at k h ∙ width-cells (letter_at k) (λ z. omega (arith, z, rank-at k h)))
 
 -- ---- a line's letter
 
@@ -142,6 +100,21 @@ pub letter-rank : (s : List ℕ) → index_of (get_or s 0 0) letters ≡ rank_of
 unfolding letter_of index_of
 letter-rank [] = refl
 letter-rank (b ∷ s) = sym (first_by b order 0 refl refl ∙ omega arith)
+
+-- the code's letter: the place of the first byte among the letters
+pub letter_found : (s : List ℕ) (b : ℕ) (r : Found ℕ) → b ≡ get_or s 0 0
+    → MatchOption r ((k : ℕ) → k < 12 → get_or letters k 0 ≡ b → ⊥) (λ i. (i < 12) × (get_or letters i 0 ≡ b) × ((k : ℕ) → k < i → get_or letters k 0 ≡ b → ⊥))
+    → r ≡ place_of (letter_of s)
+letter_found s b None e z = go (letter_of s) (sym (letter-rank s) ∙ ap (λ (b : ℕ). index_of b letters) (sym e) ∙ index_none letters b z)
+  where
+    go : (o : Option Letter) → rank_of o ≡ 12 → None ≡ place_of o
+    go none h = refl
+    go (some l) h = absurd (omega (arith, h, rank_below l))
+letter_found s b (Some k) e z = go (letter_of s) (sym (letter-rank s) ∙ ap (λ (b : ℕ). index_of b letters) (sym e) ∙ sym (index_found letters b k z.0 z.1 z.2))
+  where
+    go : (o : Option Letter) → rank_of o ≡ k → Some k ≡ place_of o
+    go none q = absurd (omega (arith, z.0, q))
+    go (some l) q = ap Some (sym q)
 
 passes : (p : Letter → Bool) (ls : List Letter) (l : Letter) → first_of (keep p ls) ≡ some l → p l ≡ true
 passes p [] l e = absurd (let z : ◌≡◌ {A = ℕ} 0 1 = cc in omega arith)
@@ -183,13 +156,16 @@ byte-letter (b ∷ s) l e = ap (λ (c : ℕ). letter_of (c ∷ s)) (eqb-true b (
 pub same_byte : (a b : Letter) → letter_byte a ≡ letter_byte b → a ≡ b
 same_byte a b e = cc (known a [], byte-letter (letter_byte a ∷ []) b (eq-eqb (letter_byte a) (letter_byte b) e))
 
-rank-letter : (o : Option Letter) (k : ℕ) → k < letter_count → k ≡ rank_of o → o ≡ some (letter_at k)
-rank-letter none k h e = absurd (omega arith)
-rank-letter (some l) k h e = ap some (sym (letter_at_lem l) ∙ ap letter_at (sym e))
+known_at : (o : Option Letter) (k : ℕ) → Some k ≡ place_of o → o ≡ some (letter_at k)
+known_at none k e = absurd (none-some k (sym e))
+known_at (some l) k e = ap some (sym (letter_at_lem l) ∙ ap letter_at (sym (same_Some k (rank l) e)))
 
--- the letter of a line whose rank the code has
-pub letter-is : (s : List ℕ) (k : ℕ) → k < letter_count → k ≡ rank_of (letter_of s) → letter_of s ≡ some (letter_at k)
-letter-is s = rank-letter (letter_of s)
+-- the letter of a line whose place the code has
+pub letter-is : (s : List ℕ) (k : ℕ) → Some k ≡ place_of (letter_of s) → letter_of s ≡ some (letter_at k)
+letter-is s = known_at (letter_of s)
+
+pub letter-below : (s : List ℕ) (k : ℕ) → Some k ≡ place_of (letter_of s) → k < letter_count
+letter-below s k e = rw (same_Some k _ (e ∙ ap place_of (letter-is s k e))) (rank_below (letter_at k))
 
 -- a line of one letter is of no other
 pub other_byte : (s : List ℕ) (a b : Letter) → letter_of s ≡ some a → (rank b ≡ rank a → ⊥) → eqb (get_or s 0 0) (letter_byte b) ≡ false

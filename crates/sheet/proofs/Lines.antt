@@ -1,31 +1,37 @@
--- The lines of a sheet: the first line of what is left from a byte on. Assumes nothing.
+-- The lines of a sheet: the first one. Assumes nothing.
 use mathlib.Core.Bool.{Bool, true, false, cond}
 use mathlib.Core.List.{List, [], ◌∷◌}
-use mathlib.Core.Path.{◌≡◌, refl, ap, ◌∙◌}
-use Prim.Native.Nat.{ℕ, suc, ◌+◌, ◌-◌, ◌≤◌, ◌<◌}
+use mathlib.Core.Path.{◌≡◌, refl, sym, ap, ◌∙◌}
+use Prim.Native.Nat.{ℕ, zero, suc, ◌+◌, ◌-◌, ◌≤◌, ◌<◌}
 use native.Mathlib.Nat.{not-suc-le-zero}
 use native.Mathlib.Numerals.{add-one}
 use native.Mathlib.Omega.{arith}
 use borrow.Author.Tests.{eq-eqb, ne_eqb}
 use lib.Dec.{eqb}
-use lib.ListN.{length, take, drop, get_or, length-drop, drop_of_length-le}
-use lib.Seq.{drop-cons, drop-drop, length-take-le}
+use lib.ListN.{length, take, drop, get_or, length-drop}
+use lib.Seq.{take_all}
 use Rattle.as5506.specs.Sheet.{ended, unended, line_feed, line_with, lines_of}
 use Rattle.sheet.specs.Steps.{index_of}
 
 -- ---- a search
 
-pub index-here : (s : List ℕ) (b i : ℕ) → i < length s → get_or s i 0 ≡ b → index_of b (drop i s) ≡ 0
+pub index_found : (s : List ℕ) (b i : ℕ) → i < length s → get_or s i 0 ≡ b → ((k : ℕ) → k < i → get_or s k 0 ≡ b → ⊥) → i ≡ index_of b s
 unfolding index_of
-index-here s b i h e = rw (drop-cons s i 0 h, eq-eqb (get_or s i 0) b e)
+index_found [] b i h e z = absurd (not-suc-le-zero h)
+index_found (x ∷ s) b zero h e z = rw (eq-eqb x b e)
+index_found (x ∷ s) b (suc i) h e z =
+    rw (ne_eqb x b (z 0 (omega arith))) (ap suc (index_found s b i (omega arith) e (λ k g. z (suc k) (omega arith))))
 
-pub index-step : (s : List ℕ) (b i : ℕ) → i < length s → (get_or s i 0 ≡ b → ⊥) → index_of b (drop i s) ≡ suc (index_of b (drop (i + 1) s))
-unfolding index_of
-index-step s b i h e = rw (add-one, drop-cons s i 0 h, ne_eqb (get_or s i 0) b e)
+-- what the code splits behind the first LF
+pub first_split : (s : List ℕ) (i : ℕ) → (i < length s) × (get_or s i 0 ≡ 10) × ((k : ℕ) → k < i → get_or s k 0 ≡ 10 → ⊥)
+    → (index_of line_feed s < length s) × (take i s ≡ take (index_of line_feed s) s) × (take (length s - (i + 1)) (drop (i + 1) s) ≡ drop (index_of line_feed s + 1) s)
+first_split s i h =
+    rw (sym (index_found s line_feed i h.0 h.1 h.2)) (h.0, refl, take_all (length s - (i + 1)) (drop (i + 1) s) (omega (arith, length-drop (i + 1) s)))
 
-pub index-end : (s : List ℕ) (b i : ℕ) → length s ≤ i → index_of b (drop i s) ≡ 0
+pub index_none : (s : List ℕ) (b : ℕ) → ((k : ℕ) → k < length s → get_or s k 0 ≡ b → ⊥) → index_of b s ≡ length s
 unfolding index_of
-index-end s b i h = rw (drop_of_length-le s h)
+index_none [] b z = refl
+index_none (x ∷ s) b z = rw (ne_eqb x b (z 0 (omega arith))) (ap suc (index_none s b (λ k g. z (suc k) (omega arith))))
 
 pub index-within : (s : List ℕ) (b : ℕ) → index_of b s ≤ length s
 unfolding index_of
@@ -64,25 +70,19 @@ unfolding lines_of index_of
 lines-unended [] h e = absurd (not-suc-le-zero h)
 lines-unended (b ∷ s) h e = unended-case (eqb b line_feed) b s (lines-unended s) e
 
--- ---- the lines of s from byte `from` on; `stop` is where the first one's LF stands, or the end
+-- ---- the first line of s, whose LF stands at `stop`, or the end
 
-module _ (s : List ℕ) (from : ℕ) where
-  pub no_lines : length s ≤ from → lines_of (drop from s) ≡ []
-  unfolding lines_of
-  no_lines h = rw (drop_of_length-le s h)
+pub no_lines : (s : List ℕ) → length s ≡ 0 → lines_of s ≡ []
+unfolding lines_of
+no_lines [] h = refl
+no_lines (b ∷ s) h = absurd (omega arith)
 
-  pub line-length : (stop : ℕ) → from ≤ stop → stop ≤ length s → length (take (stop - from) (drop from s)) ≡ stop - from
-  line-length stop h k = length-take-le (stop - from) (drop from s) (omega (arith, length-drop from s))
+module _ (s : List ℕ) where
+  abbrev pub stop_of : ℕ
+  stop_of = index_of line_feed s
 
-  module _ (stop : ℕ) (found : stop ≡ from + index_of line_feed (drop from s)) where
-    pub last_line : from < length s → stop ≡ length s → lines_of (drop from s) ≡ unended (drop from s) ∷ []
-    last_line h e =
-        let d = length-drop from s in
-        lines-unended (drop from s) (omega arith) (omega arith)
+  pub last_line : 0 < length s → stop_of ≡ length s → lines_of s ≡ unended s ∷ []
+  last_line h e = lines-unended s h e
 
-    pub next-line : stop < length s → lines_of (drop from s) ≡ ended (take (stop - from) (drop from s)) ∷ lines_of (drop (stop + 1) s)
-    next-line h =
-        let d = length-drop from s in
-        let e : index_of line_feed (drop from s) ≡ stop - from = omega arith in
-        let f : from + suc (stop - from) ≡ stop + 1 = omega arith in
-        lines-ended (drop from s) (omega arith) ∙ rw (e, drop-drop (suc (stop - from)) from s, f)
+  pub next-line : stop_of < length s → lines_of s ≡ ended (take stop_of s) ∷ lines_of (drop (stop_of + 1) s)
+  next-line h = lines-ended s h ∙ ap (λ (n : ℕ). ended (take stop_of s) ∷ lines_of (drop n s)) (sym (add-one stop_of))

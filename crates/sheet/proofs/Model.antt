@@ -18,7 +18,8 @@ use Rattle.sheet.proofs.Whole.{no-fault, read_is, table_fits, bytes_fit}
 use Rattle.sheet.specs.Read.{counts_of, sheet_read, ReadInto}
 use Rattle.sheet.specs.Steps.{texts}
 use Rattle.sheet.specs.declared.Counts.{Counts}
-use Rattle.sheet.specs.declared.SheetRead.TheVariants.{Read}
+use Rattle.std.specs.Prelude.{Ok}
+use Rattle.as5506.proofs.Answers.{ok-same}
 
 -- ---- names
 
@@ -58,16 +59,13 @@ pub record Model (before : Tables) (s : List ℕ) (counts : Counts) (after : Tab
   pub bytes-within : counts.bytes ≤ length after.bytes
   pub bytes : take counts.bytes after.bytes ≡ model.bytes
 
-read_of : (c d : Counts) → Read c ≡ Read d → c ≡ d
-read_of c d e = cc
-
-pub handed : (before : Tables) (s : List ℕ) (counts : Counts) (after : Tables) → ReadInto before s (Read counts) after → Model before s counts after
+pub handed : (before : Tables) (s : List ℕ) (counts : Counts) (after : Tables) → ReadInto before s (Ok counts) after → Model before s counts after
 unfolding table_after bytes_after
 handed before s counts after k =
-    let none = no-fault (lent_of before) s counts k.answer in
+    let none = no-fault (lent_of before) s counts (sym k.answer) in
     let r = read_is (lent_of before) s none in
     let m = tables_read (texts s) in
-    let c : counts ≡ counts_of m = read_of counts (counts_of m) (k.answer ∙ ap sheet_read r) in
+    let c : counts ≡ counts_of m = ok-same counts (counts_of m) (k.answer ∙ ap sheet_read r) in
     let w : (l : Letter) → length (table m l) ≡ count m l * width l = λ l. whole-rows (texts s) l ∙ ap (λ (n : ℕ). n * width l) (sym (rows-counted (texts s) l)) in
     let t : (l : Letter) → table after l ≡ padded (length (table before l)) (table m l) = λ l. k.tables l ∙ ap (table_after (lent_of before) l) r in
     let b : after.bytes ≡ padded (length before.bytes) m.bytes = k.bytes ∙ ap (bytes_after (lent_of before)) r in

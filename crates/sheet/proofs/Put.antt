@@ -1,184 +1,215 @@
 -- Writing the tables: what a line writes, and the pass over the lines of a letter. Assumes nothing.
-use mathlib.Core.Bool.{Bool, true, false}
+use mathlib.Core.Bool.{true}
 use mathlib.Core.List.{List, [], ◌∷◌, ◌++◌, map}
 use mathlib.Core.Path.{◌≡◌, refl, sym, ap, ◌∙◌}
 use Prim.Native.Nat.{ℕ, ◌+◌, ◌-◌, ◌≤◌, ◌<◌}
 use native.Mathlib.Omega.{arith}
-use borrow.Author.Tests.{eqb-true, eqb-false, eq-eqb, ne_eqb}
-use lib.Dec.{eqb}
-use lib.ListN.{length, drop, get_or, length-append, length-drop}
-use lib.Seq.{sets, length-sets}
-use Rattle.as5506.specs.Columns.{rank, letter_byte, columns, letter_count}
+use borrow.Author.Rules.{rules}
+use lib.ListN.{length, take, drop, get_or, length-append, length-drop}
+use lib.Seq.{sets, length-sets, take_all, drop-drop}
+use Rattle.std.specs.Prelude.{Option as Found, Some, None, MatchOption}
+use Rattle.std.specs.Option.{IsSome}
+use Rattle.as5506.specs.Columns.{rank, letter_byte, Column, columns, line_bytes, row_cells}
 use Rattle.as5506.specs.Fields.{field_numbers}
-use Rattle.as5506.specs.Lists.{total, each}
-use Rattle.as5506.specs.Sheet.{text_of, lines_of, lines_with, line_name, line_row, name_bytes, placed, rows_read}
+use Rattle.as5506.specs.Lists.{each}
+use Rattle.as5506.specs.Sheet.{text_of, lines_of, lines_with, line_name, line_row, placed, rows_read}
 use Rattle.as5506.specs.Tables.{Letter, letter_n}
 use Rattle.as5506.proofs.Fields.{numbers-length}
+use Rattle.fields.specs.Fields.{plain}
+use Rattle.fields.proofs.Laws.{plain-bytes, plain-numbers, plain-cells}
 use Rattle.lent.proofs.Sets.{sets-append}
-use Rattle.fields.specs.Fields.{columns_by}
 use Rattle.sheet.proofs.Check.{name-size}
-use Rattle.sheet.proofs.Letters.{widths, counts, marks, width-at, numbers-at, cell-count, letter-byte, other_byte}
-use Rattle.sheet.proofs.Order.{line_from, Turn, none-later, passed}
+use Rattle.sheet.proofs.Letters.{letter-byte, other_byte}
+use Rattle.sheet.proofs.Order.{Turn, none-later, passed}
 use Rattle.sheet.proofs.Rows.{own_line, other-line}
-use Rattle.sheet.specs.Steps.{letter_at, texts, in_order, LeftFrom}
+use Rattle.sheet.specs.Steps.{texts, in_order, Left}
 
--- ---- the bytes of a line's name
+-- ---- the pass of the letter l over the sheet s₀ stands before its rest s: of later letters all lines are left
 
-module _ (s : List ℕ) where
-  pub bytes-own : get_or s 0 0 ≡ 78 → length s - 2 ≡ name_bytes (s ∷ [])
-  unfolding lines_with
-  bytes-own e = sym (ap (total (λ s. length (line_name s))) (own_line letter_n s [] (eq-eqb (get_or s 0 0) 78 e)) ∙ omega (arith, length-drop 2 s))
+pub record Going (l : Letter) (s₀ s : List ℕ) : Type 0 where
+  pub order : in_order (rank l) (lines_of s) ≡ true
+  pub later : (m : Letter) → rank l < rank m → lines_with m (texts s) ≡ lines_with m (texts s₀)
 
-  pub bytes-other : (get_or s 0 0 ≡ 78 → ⊥) → 0 ≡ name_bytes (s ∷ [])
-  unfolding lines_with
-  bytes-other z = sym (ap (total (λ s. length (line_name s))) (other-line letter_n s [] (ne_eqb (get_or s 0 0) 78 z)))
+-- what a pass leaves of what the passes before it left
+pub left_on : (s r t : List ℕ) (k : ℕ) → Left s k r → Left r (k + 1) t → Left s (k + 1) t
+left_on s r t k a b = record { order = b.order; lines = λ l h. b.lines l h ∙ a.lines l (omega arith) }
 
-  pub bytes-short : length s < 2 → 0 ≡ name_bytes (s ∷ [])
-  bytes-short h = go (eqb (get_or s 0 0) 78) refl
-    where
-      go : (t : Bool) → eqb (get_or s 0 0) 78 ≡ t → 0 ≡ name_bytes (s ∷ [])
-      go true e = omega (arith, bytes-own (eqb-true (get_or s 0 0) 78 e))
-      go false e = bytes-other (eqb-false (get_or s 0 0) 78 e)
+-- the rows of a letter are those of the whole sheet
+pub rows-left : (s r : List ℕ) (l : Letter) → Left s (rank l) r → rows_read l (texts r) ≡ rows_read l (texts s)
+unfolding rows_read
+rows-left s r l k = ap (each (line_row l)) (k.lines l (omega arith))
 
-  pub bytes_small : name_bytes (s ∷ []) ≤ length s
-  bytes_small = go (eqb (get_or s 0 0) 78) refl
-    where
-      go : (t : Bool) → eqb (get_or s 0 0) 78 ≡ t → name_bytes (s ∷ []) ≤ length s
-      go true e = omega (arith, bytes-own (eqb-true (get_or s 0 0) 78 e))
-      go false e = omega (arith, bytes-other (eqb-false (get_or s 0 0) 78 e))
+-- so they fit where those do, and are written as those
+module _ (s r : List ℕ) (l : Letter) (k : Left s (rank l) r) where
+  pub left-fits : (n : ℕ) → length (rows_read l (texts s)) ≤ n → length (rows_read l (texts r)) ≤ n
+  left-fits n h = rw (rows-left s r l k) h
 
--- ---- what the code writes for a line of the letter k
+  pub left-written : (t t' : List ℕ) → t' ≡ sets t 0 (rows_read l (texts r)) → t' ≡ sets t 0 (rows_read l (texts s))
+  left-written t t' e = e ∙ ap (sets t 0) (rows-left s r l k)
 
-module _ (s : List ℕ) (k : ℕ) (p : 0 < k) (h : k < letter_count) where
-  pub row_written : field_numbers (columns_by (get_or counts k 0) (get_or marks k 0)) (drop 1 s) ≡ line_row (letter_at k) s
-  row_written = numbers-at k h (drop 1 s)
+module _ (l : Letter) (s₀ s : List ℕ) (g : Going l s₀ s) (b : get_or s 0 0 ≡ letter_byte l → ⊥) where
+  -- the end: no line of the letter l begins
+  pub going-end : Left s₀ (rank l + 1) s
+  going-end = record { order = passed l s b g.order; lines = λ m h. g.later m (omega (arith, h)) }
 
-  pub row_count : length (line_row (letter_at k) s) ≡ get_or widths k 0
-  row_count = numbers-length (columns (letter_at k)) (drop 1 s) ∙ sym (width-at k h ∙ cell-count k p h)
-
--- ---- writing: the pass of the letter l stands at byte `from`. Of `all` the part W is left, which goes to t from index `at` on; t₀ is the table at the
--- start. Of later letters all lines are left.
-
-pub record Writing (l : Letter) (s : List ℕ) (from : ℕ) (t₀ t W all : List ℕ) (at : ℕ) : Type 0 where
-  pub within : from ≤ length s
-  pub order : in_order (rank l) (lines_of (drop from s)) ≡ true
-  pub later : (m : Letter) → rank l < rank m → lines_with m (texts (drop from s)) ≡ lines_with m (texts s)
-  pub size : length t ≡ length t₀
-  pub room : at + length W ≤ length t₀
-  pub left : sets t at W ≡ sets t₀ 0 all
-
-pub left-all : (s : List ℕ) → in_order 0 (lines_of s) ≡ true → LeftFrom s 0 0
-left-all s w = record { within = omega arith; order = w; lines = λ l h. refl }
-
-pub writing_start : (l : Letter) (s : List ℕ) (from : ℕ) (t W all : List ℕ) → LeftFrom s (rank l) from → W ≡ all → length all ≤ length t → Writing l s from t t W all 0
-writing_start l s from t W all k e h =
-    record {
-      within = k.within;
-      order = k.order;
-      later = λ m g. k.lines m (omega arith);
-      size = refl;
-      room = omega (arith, ap length e, h);
-      left = ap (sets t 0) e;
-    }
+  pub none-left : lines_with l (texts s) ≡ []
+  none-left = none-later l (rank l + 1) (lines_of s) (omega arith) going-end.order
 
 -- ---- a turn
 
-module _ (l : Letter) (s : List ℕ) (from stop : ℕ) (turn : Turn l s from stop) where
-  texts-are : texts (drop from s) ≡ line_from s from stop ∷ texts (drop (stop + 1) s)
+module _ (l : Letter) (s : List ℕ) (stop : ℕ) (turn : Turn l s stop) where
+  abbrev line : List ℕ
+  line = take stop s
+
+  abbrev rest : List ℕ
+  rest = drop (stop + 1) s
+
+  texts-are : texts s ≡ line ∷ texts rest
   texts-are = ap (map text_of) turn.lines_are
 
   -- of the letter l it takes the first line away
-  lines_left : lines_with l (texts (drop from s)) ≡ line_from s from stop ∷ lines_with l (texts (drop (stop + 1) s))
-  lines_left = ap (lines_with l) texts-are ∙ own_line l (line_from s from stop) (texts (drop (stop + 1) s)) (letter-byte (line_from s from stop) l turn.known)
+  lines_left : lines_with l (texts s) ≡ line ∷ lines_with l (texts rest)
+  lines_left = ap (lines_with l) texts-are ∙ own_line l line (texts rest) (letter-byte line l turn.known)
 
   -- of a later letter none
-  still-left : (m : Letter) → rank l < rank m → lines_with m (texts (drop from s)) ≡ lines_with m (texts (drop (stop + 1) s))
-  still-left m h =
-      ap (lines_with m) texts-are
-      ∙ other-line m (line_from s from stop) (texts (drop (stop + 1) s)) (other_byte (line_from s from stop) l m turn.known (λ z. omega (arith, h)))
+  still-left : (m : Letter) → rank l < rank m → lines_with m (texts s) ≡ lines_with m (texts rest)
+  still-left m h = ap (lines_with m) texts-are ∙ other-line m line (texts rest) (other_byte line l m turn.known (λ z. omega (arith, h)))
 
-  module _ (t₀ t W all : List ℕ) (at : ℕ) (k : Writing l s from t₀ t W all at) (A R : List ℕ) (split : W ≡ A ++ R) where
-    -- a block A has its place
-    room_by : at + length A ≤ length t
-    room_by = omega (arith, k.size, k.room, ap length split ∙ length-append A R)
-
-    -- it is written, and R is left
-    turn_by : (t' : List ℕ) (at' : ℕ) → t' ≡ sets t at A → at' ≡ at + length A → Writing l s (stop + 1) t₀ t' R all at'
-    turn_by t' at' wrote next =
-        record {
-          within = omega (arith, turn.inside);
-          order = turn.rest;
-          later = λ m h. sym (still-left m h) ∙ k.later m h;
-          size = ap length wrote ∙ length-sets t at A ∙ k.size;
-          room = omega (arith, next, ap length split ∙ length-append A R, k.room);
-          left = rw (wrote, next) (sym (sets-append A R t at)) ∙ ap (sets t at) (sym split) ∙ k.left;
-        }
+  pub going-turn : (s₀ : List ℕ) → Going l s₀ s → Going l s₀ rest
+  going-turn s₀ g = record { order = turn.rest; later = λ m h. sym (still-left m h) ∙ g.later m h }
 
   -- for the rows of a letter
-  rows_split : rows_read l (texts (drop from s)) ≡ line_row l (line_from s from stop) ++ rows_read l (texts (drop (stop + 1) s))
+  pub rows_split : rows_read l (texts s) ≡ line_row l line ++ rows_read l (texts rest)
   unfolding rows_read
   rows_split = ap (each (line_row l)) lines_left
 
-  module _ (t₀ t all : List ℕ) (at : ℕ) (w : Writing l s from t₀ t (rows_read l (texts (drop from s))) all at) where
-    pub rows-room : at + length (line_row l (line_from s from stop)) ≤ length t
-    rows-room = room_by t₀ t _ all at w (line_row l (line_from s from stop)) (rows_read l (texts (drop (stop + 1) s))) rows_split
+  pub rest-shorter : length rest + stop + 1 ≡ length s
+  rest-shorter = omega (arith, length-drop (stop + 1) s, turn.inside)
 
-    pub rows-turn : (t' : List ℕ) (at' from' : ℕ) → t' ≡ sets t at (line_row l (line_from s from stop)) → at' ≡ at + length (line_row l (line_from s from stop)) → from' ≡ stop + 1
-        → Writing l s from' t₀ t' (rows_read l (texts (drop from' s))) all at'
-    rows-turn t' at' from' wrote next behind = rw behind (turn_by t₀ t _ all at w (line_row l (line_from s from stop)) _ rows_split t' at' wrote next)
-
-module _ (s : List ℕ) (from stop : ℕ) (turn : Turn letter_n s from stop) where
+module _ (s : List ℕ) (stop : ℕ) (turn : Turn letter_n s stop) where
   -- a name has 1 to 63 bytes behind the letter and a space
-  pub name-room : (3 ≤ stop - from) × (stop - from ≤ 65)
-  name-room = let n = name-size (line_from s from stop) turn.rules in (omega (arith, n.0, turn.size), omega (arith, n.1, turn.size))
+  pub name-room : (3 ≤ stop) × (stop ≤ 65)
+  name-room = let n = name-size (take stop s) turn.rules in (omega (arith, n.0, turn.size), omega (arith, n.1, turn.size))
 
-  name-bytes : length (drop 2 (line_from s from stop)) ≡ stop - from - 2
-  name-bytes = omega (arith, length-drop 2 (line_from s from stop), turn.size)
+  pub name-bytes : length (drop 2 (take stop s)) ≡ stop - 2
+  name-bytes = omega (arith, length-drop 2 (take stop s), turn.size)
 
   -- for the names
-  names-split : each line_name (lines_with letter_n (texts (drop from s))) ≡ drop 2 (line_from s from stop) ++ each line_name (lines_with letter_n (texts (drop (stop + 1) s)))
-  names-split = ap (each line_name) (lines_left letter_n s from stop turn)
-
-  module _ (t₀ t all : List ℕ) (at : ℕ) (w : Writing letter_n s from t₀ t (each line_name (lines_with letter_n (texts (drop from s)))) all at) where
-    pub names-room : at + (stop - from - 2) ≤ length t
-    names-room =
-        omega (arith, name-bytes, room_by letter_n s from stop turn t₀ t _ all at w (drop 2 (line_from s from stop)) (each line_name (lines_with letter_n (texts (drop (stop + 1) s)))) names-split)
-
-    pub names-turn : (t' : List ℕ) (at' : ℕ) → t' ≡ sets t at (drop 2 (line_from s from stop)) → at' ≡ at + (stop - from - 2)
-        → Writing letter_n s (stop + 1) t₀ t' (each line_name (lines_with letter_n (texts (drop (stop + 1) s)))) all at'
-    names-turn t' at' wrote next =
-        turn_by letter_n s from stop turn t₀ t _ all at w (drop 2 (line_from s from stop)) _ names-split t' at' wrote (next ∙ ap (λ (n : ℕ). at + n) (sym name-bytes))
+  pub names_split : each line_name (lines_with letter_n (texts s)) ≡ drop 2 (take stop s) ++ each line_name (lines_with letter_n (texts (drop (stop + 1) s)))
+  names_split = ap (each line_name) (lines_left letter_n s stop turn)
 
   -- for the rows of names
-  placed-split : (used : ℕ) → placed used (map line_name (lines_with letter_n (texts (drop from s))))
-      ≡ (used ∷ (stop - from - 2) ∷ []) ++ placed (used + (stop - from - 2)) (map line_name (lines_with letter_n (texts (drop (stop + 1) s))))
+  pub placed_split : (used : ℕ) → placed used (map line_name (lines_with letter_n (texts s)))
+      ≡ (used ∷ (stop - 2) ∷ []) ++ placed (used + (stop - 2)) (map line_name (lines_with letter_n (texts (drop (stop + 1) s))))
   unfolding placed
-  placed-split used = ap (λ (ls : List (List ℕ)). placed used (map line_name ls)) (lines_left letter_n s from stop turn) ∙ rw name-bytes
-
-  module _ (t₀ t all : List ℕ) (at used : ℕ) (w : Writing letter_n s from t₀ t (placed used (map line_name (lines_with letter_n (texts (drop from s))))) all at) where
-    pub placed-room : at + 2 ≤ length t
-    placed-room = room_by letter_n s from stop turn t₀ t _ all at w (used ∷ (stop - from - 2) ∷ []) _ (placed-split used)
-
-    pub placed-turn : (t' : List ℕ) (at' used' : ℕ) → t' ≡ sets t at (used ∷ (stop - from - 2) ∷ []) → at' ≡ at + 2 → used' ≡ used + (stop - from - 2)
-        → Writing letter_n s (stop + 1) t₀ t' (placed used' (map line_name (lines_with letter_n (texts (drop (stop + 1) s))))) all at'
-    placed-turn t' at' used' wrote next more =
-        rw more (turn_by letter_n s from stop turn t₀ t _ all at w (used ∷ (stop - from - 2) ∷ []) _ (placed-split used) t' at' wrote next)
-
--- ---- the end: no line of the letter l begins at byte `from`
-
-module _ (l : Letter) (s : List ℕ) (from : ℕ) (t₀ t W all : List ℕ) (at : ℕ) (k : Writing l s from t₀ t W all at) (b : get_or s from 0 ≡ letter_byte l → ⊥) where
-  pub left-from : LeftFrom s (rank l + 1) from
-  left-from = record { within = k.within; order = passed l s from b k.order; lines = λ m h. k.later m (omega (arith, h)) }
-
-  -- what is made of the letter's lines, and is nothing where there are none, is written
-  pub writing-end : (f : List (List ℕ) → List ℕ) → f [] ≡ [] → W ≡ f (lines_with l (texts (drop from s))) → t ≡ sets t₀ 0 all
-  writing-end f none e =
-      sym (ap (sets t at) (e ∙ ap f (none-later l (rank l + 1) (lines_of (drop from s)) (omega arith) (passed l s from b k.order)) ∙ none)) ∙ k.left
-
-pub rows_of : (l : Letter) (ls : List (List ℕ)) → rows_read l ls ≡ each (line_row l) (lines_with l ls)
-unfolding rows_read
-rows_of l ls = refl
+  placed_split used = ap (λ (ls : List (List ℕ)). placed used (map line_name ls)) (lines_left letter_n s stop turn) ∙ rw name-bytes
 
 pub none-placed : (used : ℕ) → placed used [] ≡ []
 unfolding placed
 none-placed used = refl
+
+pub none-rows : (l : Letter) (s : List ℕ) → lines_with l (texts s) ≡ [] → rows_read l (texts s) ≡ []
+unfolding rows_read
+none-rows l s e = ap (each (line_row l)) e
+
+-- ---- writing: of `all` the part W is left, which goes to the table t from index `at` on; t₀ is the table at the start
+
+pub record Writing (t₀ t W all : List ℕ) (at : ℕ) : Type 0 where
+  pub room : at + length W ≤ length t
+  pub left : sets t at W ≡ sets t₀ 0 all
+
+module _ (t₀ t W all : List ℕ) (at : ℕ) (w : Writing t₀ t W all at) where
+  module _ (A R : List ℕ) (split : W ≡ A ++ R) where
+    -- a block A has its place
+    pub writing-room : at + length A ≤ length t
+    writing-room = omega (arith, w.room, ap length split ∙ length-append A R)
+
+    -- it is written, and R is left
+    pub writing-turn : (t' : List ℕ) (at' : ℕ) → t' ≡ sets t at A → at' ≡ at + length A → Writing t₀ t' R all at'
+    writing-turn t' at' wrote next =
+        record {
+          room = omega (arith, next, ap length split ∙ length-append A R, w.room, ap length wrote ∙ length-sets t at A);
+          left = rw (wrote, next) (sym (sets-append A R t at)) ∙ ap (sets t at) (sym split) ∙ w.left;
+        }
+
+  pub writing-end : W ≡ [] → t ≡ sets t₀ 0 all
+  writing-end e = sym (ap (sets t at) e) ∙ w.left
+
+-- ---- a turn of the code: `line` and `behind` are what it takes the rest s of the sheet to
+
+module _ (s line behind : List ℕ) (stop : ℕ) (turn : Turn letter_n s stop) (l : line ≡ take stop s) (b : behind ≡ drop (stop + 1) s) where
+  abbrev name : List ℕ
+  name = take (length line - 2) (drop 2 line)
+
+  pub line-long : (3 ≤ length line) × (length line ≤ 65)
+  line-long = let e = ap length l ∙ turn.size in let n = name-room s stop turn in (omega arith, omega arith)
+
+  name-is : name ≡ drop 2 (take stop s)
+  name-is = take_all (length line - 2) (drop 2 line) (omega (arith, length-drop 2 line)) ∙ ap (drop 2) l
+
+  name-size-is : length name ≡ stop - 2
+  name-size-is = ap length name-is ∙ name-bytes s stop turn
+
+  pub names-going : (s₀ : List ℕ) → Going letter_n s₀ s → Going letter_n s₀ behind
+  names-going s₀ g = rw b (going-turn letter_n s stop turn s₀ g)
+
+  pub names-turn : (t₀ t t' all : List ℕ) (at : ℕ) → Writing t₀ t (each line_name (lines_with letter_n (texts s))) all at → t' ≡ sets t at name
+      → Writing t₀ t' (each line_name (lines_with letter_n (texts behind))) all (at + length name)
+  names-turn t₀ t t' all at w wrote =
+      rw b
+      (writing-turn t₀ t _ all at w (drop 2 (take stop s)) (each line_name (lines_with letter_n (texts (drop (stop + 1) s)))) (names_split s stop turn) t' (at + length name) (wrote ∙ ap (sets t at) name-is)
+      (ap (λ (n : List ℕ). at + length n) name-is))
+
+  pub placed-turn : (t₀ t t' all : List ℕ) (at used : ℕ) → Writing t₀ t (placed used (map line_name (lines_with letter_n (texts s)))) all at → t' ≡ sets t at (used ∷ length name ∷ [])
+      → Writing t₀ t' (placed (used + length name) (map line_name (lines_with letter_n (texts behind)))) all (at + 2)
+  placed-turn t₀ t t' all at used w wrote =
+      rw (b, name-size-is)
+      (writing-turn t₀ t _ all at w (used ∷ (stop - 2) ∷ []) (placed (used + (stop - 2)) (map line_name (lines_with letter_n (texts (drop (stop + 1) s))))) (placed_split s stop turn used) t' (at + 2)
+      (wrote ∙ ap (λ (n : ℕ). sets t at (used ∷ n ∷ [])) name-size-is) refl)
+
+  pub names-fewer : (used n : ℕ) → used + length s ≤ n → used + length name + length behind ≤ n
+  names-fewer used n h = omega (arith, h, name-size-is, ap length b, rest-shorter letter_n s stop turn, (name-room s stop turn).0)
+
+module _ (l : Letter) (z : rank l ≡ 0 → ⊥) (s : List ℕ) (cs : List Column) (n : ℕ) (same : cs ≡ map plain (columns l)) (size : n ≡ line_bytes (columns l))
+    (turn : Turn l s (1 + line_bytes (columns l))) (line back : List ℕ) (f : line ≡ take (1 + n) s) (b : back ≡ drop (1 + n) s) where
+  abbrev fields : List ℕ
+  fields = take (length line - 1) (drop 1 line)
+
+  abbrev behind : List ℕ
+  behind = take (length back - 1) (drop 1 back)
+
+  fields_are : fields ≡ drop 1 (take (1 + line_bytes (columns l)) s)
+  fields_are = take_all (length line - 1) (drop 1 line) (omega (arith, length-drop 1 line)) ∙ ap (drop 1) f ∙ ap (λ (n : ℕ). drop 1 (take (1 + n) s)) size
+
+  pub fields_size : length fields ≡ line_bytes cs
+  fields_size = omega (arith, ap length fields_are, length-drop 1 (take (1 + line_bytes (columns l)) s), turn.size, ap line_bytes same, plain-bytes (columns l))
+
+  pub back_some : 1 ≤ length back
+  back_some = omega (arith, ap length b, length-drop (1 + n) s, size, turn.inside)
+
+  behind-is : behind ≡ drop (1 + line_bytes (columns l) + 1) s
+  behind-is = take_all (length back - 1) (drop 1 back) (omega (arith, length-drop 1 back)) ∙ ap (drop 1) b ∙ drop-drop 1 (1 + n) s ∙ ap (λ (n : ℕ). drop (1 + n + 1) s) size
+
+  row-is : field_numbers cs fields ≡ line_row l (take (1 + line_bytes (columns l)) s)
+  row-is = ap (λ (cs : List Column). field_numbers cs fields) same ∙ plain-numbers (columns l) fields ∙ ap (field_numbers (columns l)) fields_are
+
+  row-cells_are : length (line_row l (take (1 + line_bytes (columns l)) s)) ≡ row_cells cs
+  row-cells_are = numbers-length (columns l) _ ∙ sym (ap row_cells same ∙ plain-cells (columns l))
+
+  pub rows_room : (t₀ t all : List ℕ) (at : ℕ) → Writing t₀ t (rows_read l (texts s)) all at → at + row_cells cs ≤ length t
+  rows_room t₀ t all at w =
+      omega (arith, row-cells_are, writing-room t₀ t _ all at w (line_row l (take (1 + line_bytes (columns l)) s)) _ (rows_split l s (1 + line_bytes (columns l)) turn))
+
+  pub rows_going : (s₀ : List ℕ) → Going l s₀ s → Going l s₀ behind
+  rows_going s₀ g = rw behind-is (going-turn l s (1 + line_bytes (columns l)) turn s₀ g)
+
+  pub rows_turn : (t₀ t t' all : List ℕ) (at at' : ℕ) → Writing t₀ t (rows_read l (texts s)) all at → t' ≡ sets t at (field_numbers cs fields) → at' ≡ at + row_cells cs
+      → Writing t₀ t' (rows_read l (texts behind)) all at'
+  rows_turn t₀ t t' all at at' w wrote next =
+      rw behind-is
+      (writing-turn t₀ t _ all at w (line_row l (take (1 + line_bytes (columns l)) s)) _ (rows_split l s (1 + line_bytes (columns l)) turn) t' at' (wrote ∙ ap (sets t at) row-is)
+      (next ∙ ap (λ (n : ℕ). at + n) (sym row-cells_are)))
+
+pub is-found : {A : Type 0} (r : Found A) (m n : ℕ) (P : A → Type 0) → MatchOption r (m ≡ n) P → m < n → IsSome r
+is-found None m n P h k = absurd (omega (arith, h, k))
+is-found (Some x) m n P h k = search rules

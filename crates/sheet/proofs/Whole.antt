@@ -21,10 +21,10 @@ use Rattle.sheet.proofs.Letters.{byte-letter}
 use Rattle.sheet.proofs.Order.{first-in}
 use Rattle.sheet.proofs.Rows.{none-with, own_line, other-line, names-length, whole-rows, lines_split, names-split}
 use Rattle.sheet.specs.Read.{sheet_read, ReadInto}
-use Rattle.sheet.specs.Steps.{lent_by, first_fault, texts, in_order, Cleared}
+use Rattle.sheet.specs.Steps.{lent_by, texts, in_order, Cleared}
 use Rattle.sheet.specs.declared.Counts.{Counts}
-use Rattle.sheet.specs.declared.SheetRead.{SheetRead}
-use Rattle.sheet.specs.declared.SheetRead.TheVariants.{Read, Refused}
+use Rattle.std.specs.Prelude.{Result, Ok, Err}
+use Rattle.as5506.proofs.Answers.{ok-not-err}
 
 -- ---- lists of faults that are empty
 
@@ -44,7 +44,7 @@ module _ (lent : Lent) where
   unfolding faults_from
   first_good before k s ls e =
       let h = nil-both (map (λ n. refusal n (line k)) (line_faults lent before (ended s))) (faults_from lent (s ∷ before) (suc k) ls) e in
-      (good lent before s (ap first_fault (nil-map (λ n. refusal n (line k)) (line_faults lent before (ended s)) h.0)), h.1)
+      (good lent before s (nil-map (λ n. refusal n (line k)) (line_faults lent before (ended s)) h.0), h.1)
 
   none-unended : {A : Type 0} (before : List (List ℕ)) (k : ℕ) (s : List ℕ) (ls : List Line) → faults_from lent before k (unended s ∷ ls) ≡ [] → A
   unfolding faults_from line_faults
@@ -144,22 +144,22 @@ pub lent_is : (m : Tables)
 lent_is m = λ i. record { bytes = length m.bytes; numbers = λ l. each-letter (λ l. get_or (length m.n ∷ length m.c ∷ length m.f ∷ length m.x ∷ length m.p ∷ length m.i ∷ length m.t ∷ length m.q ∷ length m.u ∷ length m.e ∷ length m.r ∷ length m.m ∷ []) (rank l) 0 ≡ length (table m l)) refl refl refl refl refl refl refl refl refl refl refl refl l i }
 
 -- a sheet that is read has no fault
-pub no-fault : (lent : Lent) (s : List ℕ) (counts : Counts) → Read counts ≡ sheet_read (read_sheet lent s) → sheet_faults lent s ≡ []
+pub no-fault : (lent : Lent) (s : List ℕ) (counts : Counts) → sheet_read (read_sheet lent s) ≡ Ok counts → sheet_faults lent s ≡ []
 unfolding read_sheet
 no-fault lent s counts e = go (sheet_faults lent s) e
   where
-    go : (rs : List Refusal) → Read counts ≡ sheet_read (unless_faults rs (tables_read (texts s))) → rs ≡ []
+    go : (rs : List Refusal) → sheet_read (unless_faults rs (tables_read (texts s))) ≡ Ok counts → rs ≡ []
     go [] e = refl
-    go (r ∷ rs) e = absurd (let z : ◌≡◌ {A = ℕ} 0 1 = cc in omega arith)
+    go (r ∷ rs) e = absurd (ok-not-err _ _ (sym e))
 
-module _ (before cleared : Tables) (zeroed : Cleared before cleared) (s : List ℕ) (z : SheetRead) (e : z ≡ sheet_read (read_sheet (lent_of before) s)) where
+module _ (before cleared : Tables) (zeroed : Cleared before cleared) (s : List ℕ) (z : Result Counts Told) (e : z ≡ sheet_read (read_sheet (lent_of before) s)) where
   -- "A refusal leaves zeros in the reader's tables"
-  pub refused-into : (r : Told) → z ≡ Refused r → ReadInto before s z cleared
+  pub refused-into : (r : Told) → z ≡ Err r → ReadInto before s z cleared
   unfolding table_after bytes_after
   refused-into r h = record { answer = e; bytes = (go (read_sheet (lent_of before) s) e).0; tables = (go (read_sheet (lent_of before) s) e).1 }
     where
       go : (a : Answer Tables) → z ≡ sheet_read a → (cleared.bytes ≡ bytes_after (lent_of before) a) × ((l : Letter) → table cleared l ≡ table_after (lent_of before) l a)
-      go (given m) e = absurd (let z : ◌≡◌ {A = ℕ} 0 1 = cc in omega arith)
+      go (given m) e = absurd (ok-not-err _ _ (sym e ∙ h))
       go (refused r) e = (zeroed.bytes, zeroed.tables)
 
   module _ (none : sheet_faults (lent_of before) s ≡ []) where

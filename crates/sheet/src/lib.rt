@@ -1,25 +1,26 @@
-// The reader of a sheet: from any bytes to tables, or to one refusal. A first pass checks every line and writes nothing; then each table is
-// written by a pass of its own over the lines of its letter, which begins where the pass of the letter before ended: the letters stand in order. So
-// nothing has to be taken back, and the contract of a pass speaks of its table alone. (Each line is checked once and written once, the N lines twice: a
-// pass for their bytes and one for their rows. bench/sheet says how long that takes.)
+// The reader of a sheet: from any bytes to tables, or to one refusal. A first pass checks every line and writes nothing; then the lines of each letter
+// are written to its table (those of N to the byte table too) by a pass of their own, which begins where the pass of the letter before ended: the
+// letters stand in order. So nothing has to be taken back, and the contract of a pass speaks of its tables alone. (Each line is checked once and
+// written once. bench/sheet says how long that takes.)
 // Definitions: as5506, Sheet and Fields; specs/Read.antt says what a call gives, specs/Steps.antt what the private functions say beside that.
 // Laws for callers: proofs/Model.antt.
 #![tactic(auto)]
 
-ghost use Rattle.std.specs.Prelude.{◌≡◌, true, false, List, [], ◌∷◌, map, reverse, ℕ, ◌+◌, ◌≤◌, ◌<◌, leb, length, drop, get_or};
+ghost use Rattle.std.specs.Prelude.{◌≡◌, ◌≢◌, true, List, [], ◌∷◌, map, reverse, ℕ, ◌+◌, ◌≤◌, ◌<◌, length, drop, take, slice_index, MatchOption, Some};
 ghost use Rattle.std.proofs.lemmas.List.Edits.{sets};
 ghost use Rattle.as5506.specs.Lists.{each};
 ghost use Rattle.as5506.specs.Columns.{letter_count};
 ghost use Rattle.as5506.specs.Tables.{letter_n};
 ghost use Rattle.as5506.specs.Answers.{refusal, line, told};
-ghost use Rattle.as5506.specs.Sheet.{ended, letter_of, lines_of, lines_with, line_name, keeps_rules, has_place, line_faults, name_bytes, placed, rows_read, tables_read, read_sheet};
+ghost use Rattle.as5506.specs.Sheet.{letter_of, line_feed, lines_of, lines_with, line_name, keeps_rules, placed, rows_read, tables_read, read_sheet};
 ghost use Rattle.sheet.specs.Read.{counts_of, sheet_read, ReadInto};
-ghost use Rattle.sheet.specs.Steps.{letter_at, rank_of, index_of, lent_by, Counted, first_fault, answer_from, texts, in_order, LeftFrom, Cleared};
+ghost use Rattle.sheet.specs.Steps.{letter_at, FormOf, place_of, index_of, lent_by, has_room, Small, Counted, Checked, answer_from, texts, in_order, Left, Cleared};
 ghost use Rattle.lent.specs.Lent.{tables_to_fill, tables_left};
 
-use as5506::LETTER_COUNT;
+use as5506::{LETTER_COUNT, LETTERS, Refusal, WIDTHS};
+use fields::Mark::{self, Long, Needed, Optional};
 
-// The bytes of names, and the rows of each letter, that were read.
+// The bytes of names, and the rows of each letter, that were read: named as the tables are (lent::Tables), which callers cut to that length.
 #[derive(Clone, Copy)]
 pub struct Counts {
     pub bytes: usize,
@@ -37,98 +38,134 @@ pub struct Counts {
     pub m: usize,
 }
 
-// What a call gives: what was read, or the refusal of the first bad line.
+// The form of a letter's lines: a mark for each field, and the columns that these take together.
 #[derive(Clone, Copy)]
-pub enum SheetRead {
-    Read(Counts),
-    Refused(as5506::Refusal),
+struct Form {
+    marks: &'static [Mark],
+    columns: usize,
 }
 
-// The fields of a line, by letter. How many there are:
-const FIELDS: [usize; LETTER_COUNT] = [0, 7, 3, 7, 1, 2, 3, 4, 9, 8, 5, 3];
-// A hexadecimal digit for each, the first field lowest: 0 where it must be there, 1 where it may be missing, 2 where it is long and may be missing.
-const MARKS: [usize; LETTER_COUNT] = [
-    0,
-    0x100210,
-    0,
-    0x1111000,
-    0,
-    0,
-    0,
-    0,
-    0x111111000,
-    0x11110000,
-    0x10000,
-    0,
+// By letter. (The line of N is a name.)
+const FORMS: [Form; LETTER_COUNT] = [
+    Form {
+        marks: &[],
+        columns: 0,
+    },
+    Form {
+        marks: &[Needed, Optional, Long, Needed, Needed, Optional, Needed],
+        columns: 56,
+    },
+    Form {
+        marks: &[Needed, Needed, Needed],
+        columns: 18,
+    },
+    Form {
+        marks: &[
+            Needed, Needed, Needed, Optional, Optional, Optional, Optional,
+        ],
+        columns: 42,
+    },
+    Form {
+        marks: &[Needed],
+        columns: 6,
+    },
+    Form {
+        marks: &[Needed, Needed],
+        columns: 12,
+    },
+    Form {
+        marks: &[Needed, Needed, Needed],
+        columns: 18,
+    },
+    Form {
+        marks: &[Needed, Needed, Needed, Needed],
+        columns: 24,
+    },
+    Form {
+        marks: &[
+            Needed, Needed, Needed, Optional, Optional, Optional, Optional, Optional, Optional,
+        ],
+        columns: 54,
+    },
+    Form {
+        marks: &[
+            Needed, Needed, Needed, Needed, Optional, Optional, Optional, Optional,
+        ],
+        columns: 48,
+    },
+    Form {
+        marks: &[Needed, Needed, Needed, Needed, Optional],
+        columns: 30,
+    },
+    Form {
+        marks: &[Needed, Needed, Needed],
+        columns: 18,
+    },
 ];
-// The columns that they take together: six each, a long one twenty.
-const COLUMNS: [usize; LETTER_COUNT] = [0, 56, 18, 42, 6, 12, 18, 24, 54, 48, 30, 18];
 
-// What the caller lends: the bytes of the byte table and the numbers of each letter's table.
-#[derive(Clone, Copy)]
-pub struct Room {
-    pub bytes: usize,
-    pub numbers: [usize; LETTER_COUNT],
+// The form of the lines of the letter k.
+fn form_of(k: usize) -> Form
+    requires { k < letter_count }
+    ensures { FormOf k result }
+{
+    FORMS[k]
 }
 
-// What the lines seen so far take of it, and the last one's letter.
+// The bytes of the byte table and the numbers of each letter's table: those that the caller lends, or those that lines take.
 #[derive(Clone, Copy)]
-pub struct Seen {
-    pub last: usize,
-    pub bytes: usize,
-    pub numbers: [usize; LETTER_COUNT],
+struct Sizes {
+    bytes: usize,
+    numbers: [usize; LETTER_COUNT],
+}
+
+// What the lines seen so far take, and the last one's letter.
+#[derive(Clone, Copy)]
+struct Seen {
+    last: usize,
+    used: Sizes,
 }
 
 // ---- lines
 
-// The index of the first `b` from `at` on, the length where there is none.
-fn index_from(s: &[u8], at: usize, b: u8) -> usize
-    requires { at ≤ length s.now }
-    ensures { (result ≡ at + index_of b (drop at s.now)) × (result ≤ length s.now) }
+// The index of the first `b`.
+fn index_of(s: &[u8], b: u8) -> Option<usize>
+    ensures { MatchOption result
+        ((k : ℕ) → k < length s.now → slice_index s.now k ≢ b)
+        (λ i. (i < length s.now) × (slice_index s.now i ≡ b) × ((k : ℕ) → k < i → slice_index s.now k ≢ b)) }
 {
-    let mut i = at;
-    while i < s.len() {
-        if s[i] == b {
-            return i;
-        }
-        i += 1;
-    }
-    i
+    s.iter().position(|x| *x == b)
 }
 
-// A line's letter, LETTER_COUNT where it is unknown. (An empty line's first byte is 0, which is no letter.)
-fn letter(line: &[u8]) -> usize
-    ensures { result ≡ rank_of (letter_of line.now) }
+// A sheet's first line without its LF, and what follows that; none where no line ends.
+#[tactic(auto, using(crate::proofs::Lines::index_none))]
+fn first_line(sheet: &[u8]) -> Option<(&[u8], &[u8])>
+    ensures { MatchOption result
+        (index_of line_feed sheet.now ≡ length sheet.now)
+        (λ p. (index_of line_feed sheet.now < length sheet.now)
+        × (p.0.now ≡ take (index_of line_feed sheet.now) sheet.now)
+        × (p.1.now ≡ drop (index_of line_feed sheet.now + 1) sheet.now)) }
 {
-    index_from(&as5506::LETTERS, 0, lent::byte_at(line, 0))
+    let end = index_of(sheet, b'\n')?;
+    Some((&sheet[..end], &sheet[end + 1..]))
 }
 
-// The length of an N line's name; 0 of any other line.
-fn name_length(line: &[u8]) -> usize
-    ensures { result ≡ name_bytes (line.now ∷ []) }
+// The place of a line's letter, where that is known. (An empty line's first byte is 0, which is no letter.)
+fn letter(line: &[u8]) -> Option<usize>
+    ensures { result ≡ place_of (letter_of line.now) }
 {
-    if lent::byte_at(line, 0) != b'N' {
-        return 0;
-    }
-    if line.len() < 2 {
-        return 0;
-    }
-    line.len() - 2
+    index_of(&LETTERS, lent::get_or(line, 0, 0))
 }
 
 // ---- no. 4
 
 // Whether an N line keeps the rules: one space, then a name.
+#[tactic(auto, using(crate::proofs::Check::name_laws))]
 fn name_ok(line: &[u8]) -> bool
     ensures { result ≡ keeps_rules letter_n line.now }
 {
-    if line.len() < 2 {
-        return false;
-    }
-    if line[1] == b' ' {
-        name::good_name(&line[2..])
-    } else {
-        false
+    match line {
+        [_, b' ', name @ ..] => name::good_name(name),
+        _ => false,
     }
 }
 
@@ -137,11 +174,8 @@ fn row_ok(line: &[u8], k: usize) -> bool
     requires { (0 < k) × (k < letter_count) }
     ensures { result ≡ keeps_rules (letter_at k) line.now }
 {
-    if line.len() == 1 + COLUMNS[k] {
-        fields::fields_fit(line, FIELDS[k], MARKS[k])
-    } else {
-        false
-    }
+    let form = form_of(k);
+    line.len() == 1 + form.columns && fields::fields_fit(&line[1..], form.marks)
 }
 
 // "length, field or name against the sheet's rules": whether a line of the letter k keeps them.
@@ -156,77 +190,67 @@ fn line_ok(line: &[u8], k: usize) -> bool
     }
 }
 
-// ---- no. 5
-
-// Whether `more` behind the first `at` of `of` have a place.
-fn has_room(at: usize, more: usize, of: usize) -> bool
-    ensures { result ≡ leb (at + more) of }
-{
-    if at <= of { more <= of - at } else { false }
-}
-
-// Whether a line of the letter k has a place: its row in the letter's table, and at N its name in the byte table.
-fn has_place(line: &[u8], k: usize, seen: Seen, room: Room) -> bool
-    requires { k < letter_count }
-    ensures { (before : List (List ℕ)) → Counted seen before → result ≡ has_place (lent_by room) before (letter_at k) line.now }
-{
-    let numbers = seen.numbers;
-    let places = room.numbers;
-    if !has_room(numbers[k], as5506::WIDTHS[k], places[k]) {
-        return false;
-    }
-    if k != 0 {
-        return true;
-    }
-    has_room(seen.bytes, name_length(line), room.bytes)
-}
-
 // ---- the check
 
-// The number of a line's refusal, 0 where it has none. "The table is the order of checks."
-fn check_line(line: &[u8], seen: Seen, room: Room) -> u32
-    ensures { (before : List (List ℕ)) → Counted seen before → result ≡ first_fault (line_faults (lent_by room) before (ended line.now)) }
+// A refusal at a line; 0 where it has no place.
+fn at_line(number: u32, place: u32) -> Refusal
+    ensures { result ≡ told (refusal number (line place)) }
 {
-    let k = letter(line);
-    if LETTER_COUNT <= k {
-        return 2;
+    Refusal {
+        number,
+        place,
+        letter: b'-',
     }
-    if k < seen.last {
-        return 3;
-    }
-    let rules = line_ok(line, k);
-    let place = has_place(line, k, seen, room);
-    if !rules {
-        return 4;
-    }
-    if !place {
-        return 5;
-    }
-    0
 }
 
-// What has been seen after one more line, of the letter k.
-fn count_line(line: &[u8], k: usize, seen: Seen) -> Seen
-    requires { (k < letter_count) × (k ≡ rank_of (letter_of line.now)) × (length line.now ≤ 16384) × (seen.bytes ≤ 16384) × (get_or seen.numbers k 0 ≤ 16384) }
-    ensures { (before : List (List ℕ)) → Counted seen before → Counted result (line.now ∷ before) }
+// One more line is seen, of the letter k: at N it takes its name's bytes too.
+fn count_line(line: &[u8], k: usize, seen: &mut Seen)
+    requires { (k < letter_count) × (Some k ≡ place_of (letter_of line.now)) × (length line.now ≤ 16384) × Small seen.old.used }
+    ensures { (before : List (List ℕ)) → Counted seen.old before → Counted seen.new (line.now ∷ before) }
 {
-    let more = name_length(line);
-    let mut numbers = seen.numbers;
-    numbers[k] = numbers[k] + as5506::WIDTHS[k];
-    Seen {
-        last: k,
-        bytes: seen.bytes + more,
-        numbers,
+    seen.last = k;
+    seen.used.numbers[k] += WIDTHS[k];
+    if k == 0 {
+        seen.used.bytes += line.len().saturating_sub(2);
     }
+}
+
+// No. 5: whether lines of which the last is of the letter k have a place: their rows in that letter's table, and at N their names in the byte table.
+fn has_room(k: usize, used: &Sizes, room: &Sizes) -> bool
+    requires { k < letter_count }
+    ensures { result ≡ has_room k used.now room.now }
+{
+    used.numbers[k] <= room.numbers[k] && (k != 0 || used.bytes <= room.bytes)
+}
+
+// One more line is seen, or refused. "The table is the order of checks."
+fn check_line(line: &[u8], place: u32, seen: &mut Seen, room: &Sizes) -> Result<(), Refusal>
+    requires { (length line.now ≤ 16384) × Small seen.old.used }
+    ensures { (before : List (List ℕ)) → Counted seen.old before → Checked (lent_by room.now) before place line.now seen.new result }
+{
+    let Some(k) = letter(line) else {
+        return Err(at_line(2, place));
+    };
+    if k < seen.last {
+        return Err(at_line(3, place));
+    }
+    if !line_ok(line, k) {
+        return Err(at_line(4, place));
+    }
+    count_line(line, k, seen);
+    if !has_room(k, &seen.used, room) {
+        return Err(at_line(5, place));
+    }
+    Ok(())
 }
 
 // The rows of each letter, from the numbers in its table.
-fn counted(seen: Seen) -> Counts
-    ensures { (before : List (List ℕ)) → Counted seen before → result ≡ counts_of (tables_read (reverse before)) }
+fn counted(seen: &Seen) -> Counts
+    ensures { (before : List (List ℕ)) → Counted seen.now before → result ≡ counts_of (tables_read (reverse before)) }
 {
-    let numbers = seen.numbers;
+    let numbers = &seen.used.numbers;
     Counts {
-        bytes: seen.bytes,
+        bytes: seen.used.bytes,
         n: numbers[0] / as5506::N_NUMBERS,
         c: numbers[1] / as5506::C_NUMBERS,
         f: numbers[2] / as5506::F_NUMBERS,
@@ -242,115 +266,85 @@ fn counted(seen: Seen) -> Counts
     }
 }
 
-// A refusal at a line; 0 where it has no place.
-fn refused(number: u32, place: u32) -> SheetRead
-    ensures { result ≡ SheetRead.Refused (told (refusal number (line place))) }
-{
-    SheetRead::Refused(as5506::Refusal {
-        number,
-        place,
-        letter: b'-',
-    })
-}
-
 // "Lines go singly through 2 to 5, up to the first bad one."
-fn check_lines(sheet: &[u8], room: Room) -> SheetRead
+fn check_lines(sheet: &[u8], room: &Sizes) -> Result<Counts, Refusal>
     requires { length sheet.now ≤ 16384 }
-    ensures { result ≡ answer_from (lent_by room) [] 1 (lines_of sheet.now) }
+    ensures { result ≡ answer_from (lent_by room.now) [] 1 (lines_of sheet.now) }
 {
     let mut seen = Seen {
         last: 0,
-        bytes: 0,
-        numbers: [0; LETTER_COUNT],
+        used: Sizes {
+            bytes: 0,
+            numbers: [0; LETTER_COUNT],
+        },
     };
-    let mut from = 0;
+    let mut rest = sheet;
     let mut place: u32 = 1;
-    while from < sheet.len() {
-        let end = index_from(sheet, from, b'\n');
-        if end == sheet.len() {
-            return refused(2, place);
-        }
-        let line = &sheet[from..end];
-        let number = check_line(line, seen, room);
-        if number != 0 {
-            return refused(number, place);
-        }
-        seen = count_line(line, letter(line), seen);
-        from = end + 1;
+    while !rest.is_empty() {
+        let Some((line, behind)) = first_line(rest) else {
+            return Err(at_line(2, place));
+        };
+        check_line(line, place, &mut seen, room)?;
+        rest = behind;
         place += 1;
     }
-    SheetRead::Read(counted(seen))
+    Ok(counted(&seen))
 }
 
 // The reader's answer. Nothing is written.
-fn check_sheet(sheet: &[u8], room: Room) -> SheetRead
-    ensures { result ≡ sheet_read (read_sheet (lent_by room) sheet.now) }
+#[tactic(auto, using(crate::proofs::Check::length_laws))]
+fn check_sheet(sheet: &[u8], room: &Sizes) -> Result<Counts, Refusal>
+    ensures { result ≡ sheet_read (read_sheet (lent_by room.now) sheet.now) }
 {
     if as5506::SHEET_BYTES < sheet.len() {
-        return refused(1, 0);
+        return Err(at_line(1, 0));
     }
     check_lines(sheet, room)
 }
 
 // ---- the tables
 
-// Writes the names one after the other to the byte table.
-fn put_names(sheet: &[u8], bytes: &mut [u8])
-    requires { (in_order 0 (lines_of sheet.now) ≡ true) × (length (each line_name (lines_with letter_n (texts sheet.now))) ≤ length bytes.old) }
-    ensures { bytes.new ≡ sets bytes.old 0 (each line_name (lines_with letter_n (texts sheet.now))) }
-{
-    let mut from = 0;
-    let mut used = 0;
-    while lent::byte_at(sheet, from) == b'N' {
-        let end = index_from(sheet, from, b'\n');
-        let line = &sheet[from..end];
-        lent::put_bytes(bytes, used, &line[2..]);
-        used += line.len() - 2;
-        from = end + 1;
-    }
-}
-
-// Writes the rows of N, each name's offset and length in the byte table, and gives where the first line behind the N lines begins.
-fn put_name_rows(sheet: &[u8], n: &mut [u32]) -> usize
-    requires { (length sheet.now ≤ 16384) × (in_order 0 (lines_of sheet.now) ≡ true) × (length (placed 0 (map line_name (lines_with letter_n (texts sheet.now)))) ≤ length n.old) }
-    ensures { LeftFrom sheet.now 1 result
+// Writes the names one after the other to the byte table, and each one's offset and length there to the table of N, and gives what follows the N lines.
+fn put_names<'a>(sheet: &'a [u8], bytes: &mut [u8], n: &mut [u32]) -> &'a [u8]
+    requires { (length sheet.now ≤ 16384) × (in_order 0 (lines_of sheet.now) ≡ true)
+        × (length (each line_name (lines_with letter_n (texts sheet.now))) ≤ length bytes.old)
+        × (length (placed 0 (map line_name (lines_with letter_n (texts sheet.now)))) ≤ length n.old) }
+    ensures { Left sheet.now 1 result.now
+        × (bytes.new ≡ sets bytes.old 0 (each line_name (lines_with letter_n (texts sheet.now))))
         × (n.new ≡ sets n.old 0 (placed 0 (map line_name (lines_with letter_n (texts sheet.now))))) }
 {
-    let mut from = 0;
-    let mut at = 0;
+    let mut rest = sheet;
     let mut used = 0;
-    while lent::byte_at(sheet, from) == b'N' {
-        let end = index_from(sheet, from, b'\n');
-        let bytes = end - from - 2;
-        n[at] = used as u32;
-        n[at + 1] = bytes as u32;
+    let mut at = 0;
+    while lent::get_or(rest, 0, 0) == b'N' {
+        let (line, behind) = first_line(rest).unwrap();
+        let name = &line[2..];
+        lent::put_all(bytes, used, name);
+        lent::put_all(n, at, &[used as u32, name.len() as u32]);
+        used += name.len();
         at += 2;
-        used += bytes;
-        from = end + 1;
+        rest = behind;
     }
-    from
+    rest
 }
 
-// Writes the rows of a letter k other than N, whose lines begin at byte `start`, to its table, and gives where the first line behind them begins.
+// Writes the rows of a letter k other than N, whose lines come first in a sheet, to its table, and gives what follows those lines.
 // Every line of the letter takes the same columns, so its LF need not be looked for.
-fn put_rows(sheet: &[u8], start: usize, k: usize, table: &mut [u32]) -> usize
-    requires { (0 < k) × (k < letter_count) × LeftFrom sheet.now k start × (length (rows_read (letter_at k) (texts sheet.now)) ≤ length table.old) }
-    ensures { LeftFrom sheet.now (k + 1) result
+fn put_rows<'a>(sheet: &'a [u8], k: usize, table: &mut [u32]) -> &'a [u8]
+    requires { (0 < k) × (k < letter_count) × (in_order k (lines_of sheet.now) ≡ true) × (length (rows_read (letter_at k) (texts sheet.now)) ≤ length table.old) }
+    ensures { Left sheet.now (k + 1) result.now
         × (table.new ≡ sets table.old 0 (rows_read (letter_at k) (texts sheet.now))) }
 {
-    let width = as5506::WIDTHS[k];
-    let count = FIELDS[k];
-    let marks = MARKS[k];
-    let columns = COLUMNS[k];
-    let mut from = start;
+    let form = form_of(k);
+    let mut rest = sheet;
     let mut at = 0;
-    while lent::byte_at(sheet, from) == as5506::LETTERS[k] {
-        let end = from + (1 + columns);
-        fields::put_fields(&sheet[from..end], count, marks, table, at);
-        at += width;
-        from += 2 + columns;
+    while lent::get_or(rest, 0, 0) == LETTERS[k] {
+        let (line, behind) = rest.split_at(1 + form.columns);
+        fields::put_fields(&line[1..], form.marks, table, at);
+        at += WIDTHS[k];
+        rest = &behind[1..];
     }
-    from
+    rest
 }
 
 // ---- the whole
@@ -375,22 +369,24 @@ fn clear_all(
         (tables_to_fill bytes n c f x p i t q u e r m)
         (tables_left bytes n c f x p i t q u e r m) }
 {
-    lent::clear_bytes(bytes);
-    lent::clear_numbers(n);
-    lent::clear_numbers(c);
-    lent::clear_numbers(f);
-    lent::clear_numbers(x);
-    lent::clear_numbers(p);
-    lent::clear_numbers(i);
-    lent::clear_numbers(t);
-    lent::clear_numbers(q);
-    lent::clear_numbers(u);
-    lent::clear_numbers(e);
-    lent::clear_numbers(r);
-    lent::clear_numbers(m);
+    bytes.fill(0);
+    n.fill(0);
+    c.fill(0);
+    f.fill(0);
+    x.fill(0);
+    p.fill(0);
+    i.fill(0);
+    t.fill(0);
+    q.fill(0);
+    u.fill(0);
+    e.fill(0);
+    r.fill(0);
+    m.fill(0);
 }
 
 // THE READER: the answer, and every lent slice afterwards. The tables are cleared first; a refusal leaves it at that.
+// (The thirteen slices stay parameters of their own, as the C interface hands them over and as each pass takes them: a struct of them would be made at
+// every call and taken apart here.)
 pub fn read_sheet(
     sheet: &[u8],
     bytes: &mut [u8],
@@ -406,13 +402,13 @@ pub fn read_sheet(
     e: &mut [u32],
     r: &mut [u32],
     m: &mut [u32],
-) -> SheetRead
+) -> Result<Counts, Refusal>
     ensures { ReadInto
         (tables_to_fill bytes n c f x p i t q u e r m)
         sheet.now result
         (tables_left bytes n c f x p i t q u e r m) }
 {
-    let room = Room {
+    let room = Sizes {
         bytes: bytes.len(),
         numbers: [
             n.len(),
@@ -430,22 +426,19 @@ pub fn read_sheet(
         ],
     };
     clear_all(bytes, n, c, f, x, p, i, t, q, u, e, r, m);
-    let read = check_sheet(sheet, room);
-    let SheetRead::Read(_) = read else {
-        return read;
-    };
-    put_names(sheet, bytes);
-    let from_c = put_name_rows(sheet, n);
-    let from_f = put_rows(sheet, from_c, 1, c);
-    let from_x = put_rows(sheet, from_f, 2, f);
-    let from_p = put_rows(sheet, from_x, 3, x);
-    let from_i = put_rows(sheet, from_p, 4, p);
-    let from_t = put_rows(sheet, from_i, 5, i);
-    let from_q = put_rows(sheet, from_t, 6, t);
-    let from_u = put_rows(sheet, from_q, 7, q);
-    let from_e = put_rows(sheet, from_u, 8, u);
-    let from_r = put_rows(sheet, from_e, 9, e);
-    let from_m = put_rows(sheet, from_r, 10, r);
-    put_rows(sheet, from_m, 11, m);
-    read
+    let counts = check_sheet(sheet, &room)?;
+    // Call by call, and no loop over an array of the slices: an array of `&mut` of different lifetimes is not covered by the check.
+    let from_c = put_names(sheet, bytes, n);
+    let from_f = put_rows(from_c, 1, c);
+    let from_x = put_rows(from_f, 2, f);
+    let from_p = put_rows(from_x, 3, x);
+    let from_i = put_rows(from_p, 4, p);
+    let from_t = put_rows(from_i, 5, i);
+    let from_q = put_rows(from_t, 6, t);
+    let from_u = put_rows(from_q, 7, q);
+    let from_e = put_rows(from_u, 8, u);
+    let from_r = put_rows(from_e, 9, e);
+    let from_m = put_rows(from_r, 10, r);
+    put_rows(from_m, 11, m);
+    Ok(counts)
 }

@@ -1,7 +1,6 @@
 -- Laws of `Dull`: a feature that is dull changes nothing, and stays dull; one that leaves the use of both outputs as it was is dull from then
 -- on. A walk keeps to them in group_walk's proofs/Calm.antt. Assumes nothing.
 use mathlib.Core.Bool.{Bool, true, false}
-use mathlib.Core.Option.{Option, none, some}
 use mathlib.Core.Path.{◌≡◌, refl, sym, ap, ap₂, ◌∙◌, subst}
 use mathlib.Core.List.{List, [], ◌∷◌}
 use Prim.Native.Nat.{ℕ, zero, suc, ◌+◌, ◌≤◌, ◌<◌}
@@ -9,13 +8,16 @@ use native.Mathlib.Omega.{arith}
 use native.Mathlib.Decide.{dec_le}
 use borrow.Author.Tests.{eqb-true, eqb-false}
 use lib.Dec.{eqb}
+use Rattle.std.specs.Prelude.{Option, Some, None}
 use lib.ListN.{length, get_or, set, length-set}
 use lib.Seq.{set_out, set-set, set_comm, get_or-set_same}
+use Rattle.as5506.specs.Tables.{Tables}
 use Rattle.as5506.specs.Groups.{Feature}
 use Rattle.as5506.specs.Rows.{diag}
 use Rattle.as5506.specs.Layout.{feature_block, diag_block}
 use Rattle.lent.specs.Append.{Filled, filled, append}
 use Rattle.lent.proofs.Append.{append-fits, append-full, append-length, append-bound, Extended, extended-nothing, extended_then, append-extends}
+use Rattle.sink.specs.declared.Matching.{Matching}
 use Rattle.sink.specs.declared.Purpose.{Purpose}
 use Rattle.sink.specs.declared.Purpose.TheVariants.{Count, All, First, Match}
 use Rattle.sink.specs.Take.{Held, partner_of, code_of, match_block, first_by, match_by, taken}
@@ -130,68 +132,65 @@ first-grows true f h w = (append-extends (feature_block f) h.out w.0, extended-n
 abbrev Known : Option ℕ → ℕ → Held → Type 0
 Known a k h = (set h.memo k (code_of a) ≡ h.memo) × DullMatch a h
 
-module _ (conn src dst : ℕ) (kept : List ℕ) where
-  abbrev matched : Option ℕ → Feature → Held → Held
-  matched a f h = match_by a conn src dst kept f h
-
-  match-same : (a : Option ℕ) (f : Feature) (h : Held) → Known a f.name h → matched a f h ≡ h
+module _ (m : Matching) where
+  match-same : (a : Option ℕ) (f : Feature) (h : Held) → Known a f.name h → match_by a m f h ≡ h
   unfolding match_by
-  match-same none f h d = ap₂ (λ (m : List ℕ) (o : Filled). record { memo = m; out = h.out; notes = o }) d.0 (append-same _ h.notes d.1)
-  match-same (some i) f h d = ap₂ (λ (m : List ℕ) (o : Filled). record { memo = m; out = o; notes = h.notes }) d.0 (append-same _ h.out d.1)
+  match-same None f h d = ap₂ (λ (l : List ℕ) (o : Filled). record { memo = l; out = h.out; notes = o }) d.0 (append-same _ h.notes d.1)
+  match-same (Some i) f h d = ap₂ (λ (l : List ℕ) (o : Filled). record { memo = l; out = o; notes = h.notes }) d.0 (append-same _ h.out d.1)
 
   match-stays : (a b : Option ℕ) (g : Feature) (k : ℕ) (h : Held) → set (set h.memo g.name (code_of b)) k (code_of a) ≡ set h.memo g.name (code_of b)
-      → DullMatch a h → Known a k (matched b g h)
+      → DullMatch a h → Known a k (match_by b m g h)
   unfolding match_by
-  match-stays none none g k h e d = (e, full-stays _ h.notes d)
-  match-stays none (some i) g k h e d = (e, d)
-  match-stays (some j) none g k h e d = (e, d)
-  match-stays (some j) (some i) g k h e d = (e, full-stays _ h.out d)
+  match-stays None None g k h e d = (e, full-stays _ h.notes d)
+  match-stays None (Some i) g k h e d = (e, d)
+  match-stays (Some j) None g k h e d = (e, d)
+  match-stays (Some j) (Some i) g k h e d = (e, full-stays _ h.out d)
 
-  match-quiet : (a : Option ℕ) (f : Feature) (h : Held) → (matched a f h).out.used ≡ h.out.used → (matched a f h).notes.used ≡ h.notes.used
-      → Known a f.name (matched a f h)
+  match-quiet : (a : Option ℕ) (f : Feature) (h : Held) → (match_by a m f h).out.used ≡ h.out.used → (match_by a m f h).notes.used ≡ h.notes.used
+      → Known a f.name (match_by a m f h)
   unfolding match_by
-  match-quiet none f h p q = (set-set h.memo f.name 1 1, append-quiet _ h.notes (diag-long conn f.name) q)
-  match-quiet (some i) f h p q = (set-set h.memo f.name (i + 2) (i + 2), append-quiet _ h.out (match-long conn src dst _ _) p)
+  match-quiet None f h p q = (set-set h.memo f.name 1 1, append-quiet _ h.notes (diag-long m.connection f.name) q)
+  match-quiet (Some i) f h p q = (set-set h.memo f.name (i + 2) (i + 2), append-quiet _ h.out (match-long m.connection m.source m.destination _ _) p)
 
-  match_grows : (a : Option ℕ) (f : Feature) (h : Held) → Bounded h → Grown h (matched a f h)
+  match_grows : (a : Option ℕ) (f : Feature) (h : Held) → Bounded h → Grown h (match_by a m f h)
   unfolding match_by
-  match_grows none f h w = (extended-nothing h.out, append-extends _ h.notes w.1, (w.0, append-within _ h.notes))
-  match_grows (some i) f h w = (append-extends _ h.out w.0, extended-nothing h.notes, (append-within _ h.out, w.1))
+  match_grows None f h w = (extended-nothing h.out, append-extends _ h.notes w.1, (w.0, append-within _ h.notes))
+  match_grows (Some i) f h w = (append-extends _ h.out w.0, extended-nothing h.notes, (append-within _ h.out, w.1))
 
 -- ---- every purpose
 
-module _ (bytes n kept : List ℕ) where
+module _ (m : Tables) where
   -- a dull feature changes nothing
-  pub same : (p : Purpose) (f : Feature) (h : Held) → Dull p bytes n kept f.name h → taken p bytes n kept f h ≡ h
+  pub same : (p : Purpose) (f : Feature) (h : Held) → Dull p m f.name h → taken p m f h ≡ h
   unfolding Dull taken
   same Count f h d = refl
   same All f h d = ap (λ (o : Filled). record { memo = h.memo; out = o; notes = h.notes }) (append-same (feature_block f) h.out d)
   same First f h d = first-same (eqb (get_or h.memo f.name 0) 0) f h refl d
-  same (Match conn src dst count) f h d = match-same conn src dst kept (partner_of bytes n kept count f.name) f h d
+  same (Match k) f h d = match-same k (partner_of m k.kept.now f.name) f h d
 
   -- what is dull stays so, whatever feature comes
-  pub stays : (p : Purpose) (g : Feature) (k : ℕ) (h : Held) → Dull p bytes n kept k h → Dull p bytes n kept k (taken p bytes n kept g h)
+  pub stays : (p : Purpose) (g : Feature) (k : ℕ) (h : Held) → Dull p m k h → Dull p m k (taken p m g h)
   unfolding Dull taken
   stays Count g k h d = tt
   stays All g k h d = full-stays (feature_block g) h.out d
   stays First g k h d = first-stays (eqb (get_or h.memo g.name 0) 0) g k h d
-  stays (Match conn src dst count) g k h d =
-      match-stays conn src dst kept (partner_of bytes n kept count k) (partner_of bytes n kept count g.name) g k h
-      (put-stays (λ i. code_of (partner_of bytes n kept count i)) h.memo k g.name d.0) d.1
+  stays (Match q) g k h d =
+      match-stays q (partner_of m q.kept.now k) (partner_of m q.kept.now g.name) g k h
+      (put-stays (λ i. code_of (partner_of m q.kept.now i)) h.memo k g.name d.0) d.1
 
   -- a feature that leaves the use of both outputs as it was is dull from then on
-  pub quiet : (p : Purpose) (f : Feature) (h : Held) → (taken p bytes n kept f h).out.used ≡ h.out.used
-      → (taken p bytes n kept f h).notes.used ≡ h.notes.used → Dull p bytes n kept f.name (taken p bytes n kept f h)
+  pub quiet : (p : Purpose) (f : Feature) (h : Held) → (taken p m f h).out.used ≡ h.out.used
+      → (taken p m f h).notes.used ≡ h.notes.used → Dull p m f.name (taken p m f h)
   unfolding Dull taken
   quiet Count f h x y = tt
   quiet All f h x y = append-quiet (feature_block f) h.out (feature-long f) x
   quiet First f h x y = first-quiet (eqb (get_or h.memo f.name 0) 0) f h refl x
-  quiet (Match conn src dst count) f h x y = match-quiet conn src dst kept (partner_of bytes n kept count f.name) f h x y
+  quiet (Match k) f h x y = match-quiet k (partner_of m k.kept.now f.name) f h x y
 
   -- an output is only added to
-  pub grows : (p : Purpose) (f : Feature) (h : Held) → Bounded h → Grown h (taken p bytes n kept f h)
+  pub grows : (p : Purpose) (f : Feature) (h : Held) → Bounded h → Grown h (taken p m f h)
   unfolding taken
   grows Count f h w = grown-nothing h w
   grows All f h w = (append-extends (feature_block f) h.out w.0, extended-nothing h.notes, (append-within (feature_block f) h.out, w.1))
   grows First f h w = first-grows (eqb (get_or h.memo f.name 0) 0) f h w
-  grows (Match conn src dst count) f h w = match_grows conn src dst kept (partner_of bytes n kept count f.name) f h w
+  grows (Match k) f h w = match_grows k (partner_of m k.kept.now f.name) f h w

@@ -1,76 +1,73 @@
 -- What a feature does, for each purpose and answer, put together from what the calls give. Assumes nothing.
-use mathlib.Core.Path.{◌≡◌, sym, ap, subst, ◌∙◌}
+use mathlib.Core.Bool.{Bool, true, false}
+use mathlib.Core.Path.{◌≡◌, sym, subst, ◌∙◌}
 use mathlib.Core.List.{List, [], ◌∷◌}
-use mathlib.Core.Option.{Option, none, some}
-use Prim.Native.Nat.{ℕ, ◌*◌, ◌≤◌, ◌<◌}
-use borrow.Author.Tests.{eq-eqb, ne_eqb}
-use lib.ListN.{length, get_or, take, drop, set}
+use Prim.Native.Nat.{ℕ, ◌+◌, ◌*◌, ◌≤◌, ◌<◌}
+use native.Mathlib.Omega.{arith}
+use Rattle.std.specs.Prelude.{cond, Option, Some, None, IfSome}
+use lib.Dec.{eqb}
+use lib.ListN.{length, get_or, set}
+use Rattle.as5506.specs.Tables.{Tables}
 use Rattle.as5506.specs.Groups.{Feature as Meant}
 use Rattle.as5506.specs.Layout.{feature_numbers, feature_block, diag_block}
-use Rattle.lent.specs.Append.{Filled, append}
-use Rattle.sink.specs.declared.Place.{Place}
-use Rattle.sink.specs.declared.Place.TheVariants.{At, Nowhere}
+use Rattle.lent.specs.Append.{Filled, filled, append}
+use Rattle.lent.proofs.Append.{append-past}
+use Rattle.sink.specs.declared.Matching.{Matching}
 use Rattle.sink.specs.declared.Purpose.{Purpose}
-use Rattle.sink.specs.declared.Purpose.TheVariants.{Count, All, First, Match}
-use Rattle.sink.specs.Take.{Held, partner_of, code_of, match_block, first_by, match_by, taken, Memory, Ready}
-use Rattle.sink.specs.Place.{place_of}
-use Rattle.sink.proofs.Search.{partner-below}
+use Rattle.sink.specs.declared.Purpose.TheVariants.{Match}
+use Rattle.sink.specs.Take.{kept_count, Memory, Ready, Held, partner_of, code_of, kept_block, match_block, first_by, match_by}
+use Rattle.sink.proofs.Search.{partner_below}
 
 abbrev holding : List ℕ → Filled → Filled → Held
 holding memo out notes = record { memo = memo; out = out; notes = notes }
 
-module _ (p : Purpose) (bytes n kept : List ℕ) (f : Meant) (memo : List ℕ) (out notes : Filled) where
-  pub taken-count : p ≡ Count → holding memo out notes ≡ taken p bytes n kept f (holding memo out notes)
-  unfolding taken
-  taken-count e = rw e
+-- ---- first appearances; b tells whether the name has not come yet, and m is its memory
 
-  pub taken-all : p ≡ All → (block : List ℕ) (o : Filled) → block ≡ feature_block f → o ≡ append block out → holding memo o notes ≡ taken p bytes n kept f (holding memo out notes)
-  unfolding taken
-  taken-all e block o b h = rw (e, h, b)
+pub first_again : (f : Meant) (memo : List ℕ) (out notes : Filled) (b : Bool) (m : List ℕ) → m ≡ cond b (set memo f.name 1) memo
+    → b ≡ eqb (get_or memo f.name 0) 0 → b ≡ false → holding m out notes ≡ first_by (eqb (get_or memo f.name 0) 0) f (holding memo out notes)
+unfolding first_by
+first_again f memo out notes b m w e z = rw (← e, z, w, z)
 
-  -- ---- first appearances; v is what the memory has for the name
+pub first_come : (f : Meant) (memo : List ℕ) (out notes : Filled) (b : Bool) (m : List ℕ) (block : List ℕ) (o : Filled) → m ≡ cond b (set memo f.name 1) memo
+    → b ≡ eqb (get_or memo f.name 0) 0 → b ≡ true → o ≡ append block out → block ≡ feature_block f
+    → holding m o notes ≡ first_by (eqb (get_or memo f.name 0) 0) f (holding memo out notes)
+unfolding first_by
+first_come f memo out notes b m block o w e z h k = rw (← e, z, w, z, h, k)
 
-  module _ (e : p ≡ First) (v : ℕ) (k : v ≡ get_or memo f.name 0) where
-    pub taken-again : (v ≡ 0 → ⊥) → holding memo out notes ≡ taken p bytes n kept f (holding memo out notes)
-    unfolding taken first_by
-    taken-again z = rw (e, ← k, ne_eqb v 0 z)
+-- ---- matching; z is the answer of the search, and m its memory
 
-    pub taken-first :
-        v ≡ 0 → (block : List ℕ) (m : List ℕ) (o : Filled) → m ≡ set memo f.name 1 → block ≡ feature_block f → o ≡ append block out
-        → holding m o notes ≡ taken p bytes n kept f (holding memo out notes)
-    unfolding taken first_by
-    taken-first z block m o w b h = rw (e, ← k, eq-eqb v 0 z, w, h, b)
+module _ (a : Option ℕ) (q : Matching) (f : Meant) (memo : List ℕ) (out notes : Filled) (z : Option ℕ) (m : List ℕ) where
+  pub unmatched : z ≡ None → z ≡ a → m ≡ set memo f.name (code_of a) → (o : Filled) → o ≡ append (5 ∷ q.connection ∷ f.name ∷ 0 ∷ []) notes
+      → holding m out o ≡ match_by a q f (holding memo out notes)
+  unfolding match_by diag_block
+  unmatched t e w o h = rw (w, ← e, t, h)
 
-  -- ---- matching; z is the answer of the search, and m its memory
+  pub matches : (i : ℕ) → z ≡ Some i → z ≡ a → m ≡ set memo f.name (code_of a) → (row : List ℕ) (o : Filled) → o ≡ append row out
+      → row ≡ match_block q.connection q.source q.destination (feature_block f) (kept_block q.kept.now i) → holding m o notes ≡ match_by a q f (holding memo out notes)
+  unfolding match_by
+  matches i t e w row o h r = rw (w, ← e, t, h, r)
 
-  module _ (conn src dst count : ℕ) (e : p ≡ Match conn src dst count) (z : Place) (m : List ℕ) (q : place_of z ≡ partner_of bytes n kept count f.name)
-      (w : m ≡ set memo f.name (code_of (partner_of bytes n kept count f.name))) where
-    by_answer :
-        (a : Option ℕ) → place_of z ≡ a
-        → (m ≡ set memo f.name (code_of a)) × (taken p bytes n kept f (holding memo out notes) ≡ match_by a conn src dst kept f (holding memo out notes))
-    unfolding taken
-    by_answer a t = let s : partner_of bytes n kept count f.name ≡ a = sym q ∙ t in (rw (← s) w, rw (e, s))
-
-    pub taken-unmatched :
-        z ≡ Nowhere → (o : Filled) → o ≡ append (5 ∷ conn ∷ f.name ∷ 0 ∷ []) notes
-        → holding m out o ≡ taken p bytes n kept f (holding memo out notes)
-    unfolding match_by diag_block
-    taken-unmatched t o h = let d = by_answer none (ap place_of t) in sym (d.1 ∙ rw (d.0, h))
-
-    pub taken-matched :
-        (i : ℕ) → z ≡ At i → (o : Filled) → o ≡ append (match_block conn src dst (feature_block f) (take feature_numbers (drop (i * feature_numbers) kept))) out
-        → holding m o notes ≡ taken p bytes n kept f (holding memo out notes)
-    unfolding match_by
-    taken-matched i t o h = let d = by_answer (some i) (ap place_of t) in sym (d.1 ∙ rw (d.0, h))
+-- the output is full already
+pub matches_past : (a : Option ℕ) (q : Matching) (f : Meant) (memo l : List ℕ) (used : ℕ) (notes : Filled) (z : Option ℕ) (m : List ℕ) (i : ℕ) → z ≡ Some i → z ≡ a
+    → m ≡ set memo f.name (code_of a) → length l < used → holding m (filled l (length l + 1)) notes ≡ match_by a q f (holding memo (filled l used) notes)
+unfolding match_by
+matches_past a q f memo l used notes z m i t e w h =
+    rw (w, ← e, t, ← append-past (match_block q.connection q.source q.destination (feature_block f) (kept_block q.kept.now i)) l used h)
 
 -- ---- what the calls of a match ask for
 
-module _ (bytes n kept : List ℕ) (count : ℕ) where
-  pub match-ready :
-      (p : Purpose) (memo : List ℕ) (conn src dst : ℕ) → p ≡ Match conn src dst count → Ready p bytes n kept memo
-      → (count ≤ 4096) × (count * feature_numbers ≤ length kept) × Memory bytes n kept count memo
-  unfolding Ready
-  match-ready p memo conn src dst e r = subst (λ (q : Purpose). Ready q bytes n kept memo) e r
+pub partner_few : (m : Tables) (kept : List ℕ) (name : ℕ) (z : Option ℕ) → z ≡ partner_of m kept name → kept_count kept ≤ 4096 → IfSome z (λ i. i < 4096)
+partner_few m kept name None e h = tt
+partner_few m kept name (Some i) e h = omega (arith, partner_below m kept name i e, h)
 
-  pub match-below : (name : ℕ) (z : Place) (i : ℕ) → place_of z ≡ partner_of bytes n kept count name → z ≡ At i → i < count
-  match-below name z i q t = partner-below bytes n kept count name i (ap place_of (sym t) ∙ q)
+pub partner_whole : (m : Tables) (kept : List ℕ) (name : ℕ) (z : Option ℕ) (i : ℕ) → z ≡ partner_of m kept name → z ≡ Some i
+    → i * feature_numbers + feature_numbers ≤ length kept
+partner_whole m kept name z i e t = omega (arith, partner_below m kept name i (sym t ∙ e))
+
+pub match_few : (p : Purpose) (q : Matching) (m : Tables) (memo : List ℕ) → p ≡ Match q → Ready p m memo → kept_count q.kept.now ≤ 4096
+unfolding Ready
+match_few p q m memo e r = (subst (λ (x : Purpose). Ready x m memo) e r).0
+
+pub match_memory : (p : Purpose) (q : Matching) (m : Tables) (memo : List ℕ) → p ≡ Match q → Ready p m memo → Memory m q.kept.now memo
+unfolding Ready
+match_memory p q m memo e r = (subst (λ (x : Purpose). Ready x m memo) e r).1

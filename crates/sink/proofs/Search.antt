@@ -1,97 +1,82 @@
 -- Laws of the search for a partner: its loop, that its answer is a kept feature, and its memory. Assumes nothing.
 use mathlib.Core.Bool.{Bool, true, false}
 use mathlib.Core.Path.{◌≡◌, refl, sym, ap, ◌∙◌}
-use mathlib.Core.List.{List}
-use mathlib.Core.Option.{Option, none, some}
+use mathlib.Core.List.{List, [], ◌∷◌}
 use Prim.Native.Nat.{ℕ, zero, suc, ◌+◌, ◌-◌, ◌≤◌, ◌<◌}
 use native.Mathlib.Nat.{sub-zero}
 use native.Mathlib.Omega.{arith}
+use Rattle.std.specs.Prelude.{Option, Some, None}
+use Rattle.std.proofs.lemmas.Option.{none-some, same_Some}
 use lib.ListN.{get_or, set}
 use lib.Seq.{set-get_or}
-use Rattle.as5506.specs.Lists.{span, up_to, keep, first_of, same_bytes}
-use Rattle.as5506.specs.Tables.{name_in}
+use Rattle.as5506.specs.Lists.{span, up_to, keep, same_bytes}
+use Rattle.as5506.specs.Tables.{Tables, name_of}
 use Rattle.as5506.specs.Names.{key, same_folded}
-use Rattle.as5506.proofs.Laws.{all_keep, all_first, up_to-below}
+use Rattle.as5506.proofs.Laws.{All, all_keep, up_to-below}
 use Rattle.as5506.proofs.Scans.{keep-hit, keep-miss, keep-done}
-use Rattle.lent.specs.Lent.{names_in}
 use Rattle.name.proofs.Compare.{keys-folded}
-use Rattle.sink.specs.declared.Place.{Place}
-use Rattle.sink.specs.declared.Place.TheVariants.{At, Nowhere}
-use Rattle.sink.specs.Take.{kept_name, partner_of, code_of, Remembered, Memory}
-use Rattle.sink.specs.Place.{place_of}
+use Rattle.sink.specs.Take.{kept_count, kept_name, first_place, partner_of, code_of, Remembered, answer_of, Memory}
 
 -- ---- the loop: no feature before place i is the partner
 
-module _ (bytes n kept : List ℕ) (count name : ℕ) where
+module _ (m : Tables) (kept : List ℕ) (name : ℕ) where
   abbrev test : ℕ → Bool
-  test i = same_bytes (key (names_in bytes n) name) (key (names_in bytes n) (kept_name kept i))
+  test i = same_bytes (key m name) (key m (kept_name kept i))
 
   pub record Searching (i : ℕ) : Type 0 where
-    pub within : i ≤ count
-    pub left : first_of (keep test (span i (count - i))) ≡ partner_of bytes n kept count name
+    pub within : i ≤ kept_count kept
+    pub left : first_place (keep test (span i (kept_count kept - i))) ≡ partner_of m kept name
 
-  pub searching-start : Searching 0
+  pub searching_start : Searching 0
   unfolding partner_of
-  searching-start = record { within = omega arith; left = rw sub-zero }
+  searching_start = record { within = omega arith; left = rw sub-zero }
 
   module _ (i : ℕ) (s : Searching i) where
     -- r is the code's test of place i, whose name is v
-    module _ (r : Bool) (v : ℕ) (e : r ≡ same_folded (name_in bytes n name) (name_in bytes n v)) (p : v ≡ kept_name kept i) where
+    module _ (r : Bool) (v : ℕ) (e : r ≡ same_folded (name_of m name) (name_of m v)) (p : v ≡ kept_name kept i) (h : i < kept_count kept) where
       tested : test i ≡ r
-      tested = sym (e ∙ keys-folded (names_in bytes n) name v ∙ ap (λ (k : ℕ). same_bytes (key (names_in bytes n) name) (key (names_in bytes n) k)) p)
+      tested = sym (e ∙ keys-folded m name v ∙ ap (λ (k : ℕ). same_bytes (key m name) (key m k)) p)
 
-      pub searching-turn : i < count → r ≡ false → Searching (i + 1)
-      searching-turn h q = record { within = omega arith; left = sym (ap first_of (keep-miss test i count h (tested ∙ q))) ∙ s.left }
+      pub searching_turn : r ≡ false → Searching (i + 1)
+      searching_turn q = record { within = omega arith; left = sym (ap first_place (keep-miss test i (kept_count kept) h (tested ∙ q))) ∙ s.left }
 
-      pub searching-hit : i < count → r ≡ true → some i ≡ partner_of bytes n kept count name
-      searching-hit h q = sym (ap first_of (keep-hit test i count h (tested ∙ q))) ∙ s.left
+      pub searching_hit : r ≡ true → Some i ≡ partner_of m kept name
+      searching_hit q = sym (ap first_place (keep-hit test i (kept_count kept) h (tested ∙ q))) ∙ s.left
 
-    pub searching-end : count ≤ i → none ≡ partner_of bytes n kept count name
-    searching-end h = sym (ap first_of (keep-done test i count h)) ∙ s.left
+    pub searching_end : kept_count kept ≤ i → None ≡ partner_of m kept name
+    searching_end h = sym (ap first_place (keep-done test i (kept_count kept) h)) ∙ s.left
 
-  -- the partner is one of the features that were kept
-  pub partner-below : (i : ℕ) → some i ≡ partner_of bytes n kept count name → i < count
-  unfolding partner_of
-  partner-below i e =
-      all_first (λ j. j < count) (keep test (up_to count)) (all_keep (λ j. j < count) (λ j. j < count) test (λ j t h. h) (up_to count) (up_to-below count)) i e
+-- ---- the partner is one of the features that were kept
+
+all-first : (n : ℕ) (is : List ℕ) → All (λ j. j < n) is → (i : ℕ) → Some i ≡ first_place is → i < n
+all-first n [] a i e = absurd (none-some i (sym e))
+all-first n (j ∷ is) a i e = rw (same_Some _ _ e) a.0
+
+pub partner_below : (m : Tables) (kept : List ℕ) (name i : ℕ) → Some i ≡ partner_of m kept name → i < kept_count kept
+unfolding partner_of
+partner_below m kept name i e =
+    let n : ℕ = kept_count kept in
+    all-first n (keep (test m kept name) (up_to n)) (all_keep (λ j. j < n) (λ j. j < n) (test m kept name) (λ j t h. h) (up_to n) (up_to-below n)) i e
 
 -- ---- the memory
 
-code-none : (a : Option ℕ) → code_of a ≡ 1 → none ≡ a
-code-none none e = refl
-code-none (some i) e = absurd (omega arith)
+-- a number that it has keeps the answer
+pub remembered : (v : ℕ) (a known : Option ℕ) → Remembered v a → answer_of v ≡ Some known → (known ≡ a) × (v ≡ code_of a)
+remembered zero a known r e = absurd (none-some known e)
+remembered (suc zero) None known r e = (sym (same_Some _ _ e), refl)
+remembered (suc zero) (Some i) known r e = absurd (omega (arith, r))
+remembered (suc (suc v)) None known r e = absurd (omega (arith, r))
+remembered (suc (suc v)) (Some i) known r e = (sym (same_Some _ _ e) ∙ ap Some (omega (arith, r)), r)
 
-code-some : (a : Option ℕ) → (code_of a ≡ 1 → ⊥) → some (code_of a - 2) ≡ a
-code-some none e = absurd (e refl)
-code-some (some i) e = let q : i + 2 - 2 ≡ i = omega arith in ap some q
+-- what it has for a name is the search's answer
+module _ (m : Tables) (kept memo : List ℕ) (name v : ℕ) (z : Option (Option ℕ)) (known : Option ℕ) (all : Memory m kept memo) (e : v ≡ get_or memo name 0)
+    (a : z ≡ answer_of v) (k : z ≡ Some known) where
+  both : (known ≡ partner_of m kept name) × (get_or memo name 0 ≡ code_of (partner_of m kept name))
+  unfolding Memory
+  both = remembered (get_or memo name 0) (partner_of m kept name) known (all name) (ap answer_of (sym e) ∙ sym a ∙ k)
 
-told : (v : ℕ) (a : Option ℕ) → Remembered v a → (v ≡ 0 → ⊥) → v ≡ code_of a
-told zero a r z = absurd (z refl)
-told (suc v) a r z = r
+  pub recalled : known ≡ partner_of m kept name
+  recalled = both.0
 
--- v is what the memory has for the name
-module _ (bytes n kept : List ℕ) (count : ℕ) (memo : List ℕ) (name v : ℕ) (known : Memory bytes n kept count memo) (e : v ≡ get_or memo name 0) where
-  abbrev answer : Option ℕ
-  answer = partner_of bytes n kept count name
-
-  module _ (z : v ≡ 0 → ⊥) where
-    code : v ≡ code_of answer
-    unfolding Memory
-    code = e ∙ told (get_or memo name 0) answer (known name) (λ q. z (e ∙ q))
-
-    same : memo ≡ set memo name (code_of answer)
-    same = sym (set-get_or memo name 0) ∙ ap (set memo name) (sym e ∙ code)
-
-    pub known_at : (v ≡ 1 → ⊥) → (some (v - 2) ≡ answer) × (memo ≡ set memo name (code_of answer))
-    known_at h = (ap (λ (k : ℕ). some (k - 2)) code ∙ code-some answer (λ q. h (code ∙ q)), same)
-
-  pub known-none : v ≡ 1 → (none ≡ answer) × (memo ≡ set memo name (code_of answer))
-  known-none h = let z : v ≡ 0 → ⊥ = λ q. omega arith in (code-none answer (sym (code z) ∙ h), same z)
-
--- the answer of the search, kept
-module _ (a : Option ℕ) (z : Place) (memo memo' : List ℕ) (name : ℕ) (p : place_of z ≡ a) where
-  pub asked-none : z ≡ Nowhere → memo' ≡ set memo name 1 → (place_of z ≡ a) × (memo' ≡ set memo name (code_of a))
-  asked-none q e = (p, e ∙ ap (set memo name) (ap (λ (w : Place). code_of (place_of w)) (sym q) ∙ ap code_of p))
-
-  pub asked-at : (i : ℕ) → z ≡ At i → memo' ≡ set memo name (i + 2) → (some i ≡ a) × (memo' ≡ set memo name (code_of a))
-  asked-at i q e = (ap place_of (sym q) ∙ p, e ∙ ap (set memo name) (ap (λ (w : Place). code_of (place_of w)) (sym q) ∙ ap code_of p))
+  pub recalled_memo : memo ≡ set memo name (code_of (partner_of m kept name))
+  recalled_memo = sym (set-get_or memo name 0) ∙ ap (set memo name) both.1

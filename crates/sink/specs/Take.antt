@@ -1,21 +1,21 @@
 -- What is done with a feature of an expansion: for each purpose of a walk. Assumes nothing.
-use Rattle.std.specs.Prelude.{Bool, true, false, ◌≡◌, List, ◌∷◌, ◌++◌, ℕ, zero, suc, ◌+◌, ◌-◌, ◌*◌, ◌≤◌, eqb, length, get_or, take, drop, set}
-use Rattle.std.proofs.Math.Option.{Option, none, some}
-use Rattle.as5506.specs.Lists.{keep, first_of, up_to, zeros, same_bytes}
+use Rattle.std.specs.Prelude.{Bool, true, false, ◌≡◌, List, [], ◌∷◌, ◌++◌, ℕ, zero, suc, ◌+◌, ◌-◌, ◌*◌, ◌/◌, ◌≤◌, eqb, length, get_or, take, drop, set, Option, Some, None}
+use Rattle.as5506.specs.Lists.{keep, up_to, zeros, same_bytes}
+use Rattle.as5506.specs.Tables.{Tables}
 use Rattle.as5506.specs.Names.{key}
 use Rattle.as5506.specs.Groups.{Feature as Meant}
 use Rattle.as5506.specs.Rows.{diag}
 use Rattle.as5506.specs.Layout.{row_numbers, feature_numbers, feature_block, diag_block}
 use Rattle.lent.specs.Append.{Filled, filled, append}
-use Rattle.lent.specs.Lent.{names_in}
 use Rattle.sink.specs.declared.Feature.{Feature}
-use Rattle.sink.specs.declared.Tally.{Tally}
+use Rattle.sink.specs.declared.Matching.{Matching}
+use Rattle.sink.specs.declared.Sink.{Sink}
 use Rattle.sink.specs.declared.Purpose.{Purpose}
 use Rattle.sink.specs.declared.Purpose.TheVariants.{Count, All, First, Match}
 
 -- the definition's feature for the code's
 abbrev pub feature_of : Feature → Meant
-feature_of f = record { name = f.name; kind = f.kind; direction = f.direction; prefix = take f.len f.prefix }
+feature_of f = record { name = f.name; kind = f.kind; direction = f.direction; prefix = f.prefix.now }
 
 -- what a walk carries: a number for each name, the output of features or rows, and that of diagnostics
 pub record Held : Type 0 where
@@ -23,8 +23,14 @@ pub record Held : Type 0 where
   pub out : Filled
   pub notes : Filled
 
-abbrev pub held : Tally → List ℕ → List ℕ → List ℕ → Held
-held t memo out notes = record { memo = memo; out = filled out t.used; notes = filled notes t.noted }
+abbrev pub held : Sink → Held
+held s = record { memo = s.memo.now; out = filled s.out.now s.tally.used; notes = filled s.notes.now s.tally.noted }
+
+-- whether two are in the same lent slices
+pub record SameBuffers (s t : Sink) : Type 0 where
+  pub memo : t.memo.ghost_name ≡ s.memo.ghost_name
+  pub out : t.out.ghost_name ≡ s.out.ghost_name
+  pub notes : t.notes.ghost_name ≡ s.notes.ghost_name
 
 -- ---- first appearances: a feature whose name has not come yet
 
@@ -34,14 +40,23 @@ first_by false f h = h
 
 -- ---- matching against the features that were kept: `kept` holds a block for each
 
--- the name of the feature that was kept at place i
+abbrev pub kept_count : List ℕ → ℕ
+kept_count kept = length kept / feature_numbers
+
+-- the name of the feature that was kept at place i, and its block
 abbrev pub kept_name : List ℕ → ℕ → ℕ
 kept_name kept i = get_or kept (i * feature_numbers) 0
 
--- "the first destination feature whose last name is equal folded": its place among the `count` that were kept
-unfoldable pub partner_of : List ℕ → List ℕ → List ℕ → ℕ → ℕ → Option ℕ
-partner_of bytes n kept count name =
-    first_of (keep (λ i. same_bytes (key (names_in bytes n) name) (key (names_in bytes n) (kept_name kept i))) (up_to count))
+abbrev pub kept_block : List ℕ → ℕ → List ℕ
+kept_block kept i = take feature_numbers (drop (i * feature_numbers) kept)
+
+abbrev pub first_place : List ℕ → Option ℕ
+first_place [] = None
+first_place (i ∷ is) = Some i
+
+-- "the first destination feature whose last name is equal folded": its place among those that were kept
+unfoldable pub partner_of : Tables → List ℕ → ℕ → Option ℕ
+partner_of m kept name = first_place (keep (λ i. same_bytes (key m name) (key m (kept_name kept i))) (up_to (kept_count kept)))
 
 -- the numbers of a row that a match leaves unused
 abbrev pub spare_numbers : ℕ
@@ -54,39 +69,45 @@ match_block conn src dst s d = conn ∷ src ∷ dst ∷ (s ++ d ++ zeros spare_n
 
 -- how the memory keeps an answer: 0 is kept of no answer
 abbrev pub code_of : Option ℕ → ℕ
-code_of none = 1
-code_of (some i) = i + 2
+code_of None = 1
+code_of (Some i) = i + 2
 
-unfoldable pub match_by : Option ℕ → ℕ → ℕ → ℕ → List ℕ → Meant → Held → Held
-match_by none conn src dst kept f h =
-    record { memo = set h.memo f.name 1; out = h.out; notes = append (diag_block (diag 5 conn f.name 0)) h.notes }
-match_by (some i) conn src dst kept f h =
+unfoldable pub match_by : Option ℕ → Matching → Meant → Held → Held
+match_by None k f h = record { memo = set h.memo f.name 1; out = h.out; notes = append (diag_block (diag 5 k.connection f.name 0)) h.notes }
+match_by (Some i) k f h =
     record {
       memo = set h.memo f.name (i + 2);
-      out = append (match_block conn src dst (feature_block f) (take feature_numbers (drop (i * feature_numbers) kept))) h.out;
+      out = append (match_block k.connection k.source k.destination (feature_block f) (kept_block k.kept.now i)) h.out;
       notes = h.notes;
     }
 
 -- ---- WHAT A FEATURE DOES, by the purpose of the walk
 
-unfoldable pub taken : Purpose → List ℕ → List ℕ → List ℕ → Meant → Held → Held
-taken Count bytes n kept f h = h
-taken All bytes n kept f h = record { memo = h.memo; out = append (feature_block f) h.out; notes = h.notes }
-taken First bytes n kept f h = first_by (eqb (get_or h.memo f.name 0) 0) f h
-taken (Match conn src dst count) bytes n kept f h = match_by (partner_of bytes n kept count f.name) conn src dst kept f h
+unfoldable pub taken : Purpose → Tables → Meant → Held → Held
+taken Count m f h = h
+taken All m f h = record { memo = h.memo; out = append (feature_block f) h.out; notes = h.notes }
+taken First m f h = first_by (eqb (get_or h.memo f.name 0) 0) f h
+taken (Match k) m f h = match_by (partner_of m k.kept.now f.name) k f h
 
 -- ---- what a walk relies on, and every feature keeps
 
+-- what a number of the memory says of an answer
 abbrev pub Remembered : ℕ → Option ℕ → Type 0
 Remembered zero a = Unit {0}
 Remembered (suc k) a = suc k ≡ code_of a
 
--- what the memory keeps of a name is the search's answer
-unfoldable pub Memory : List ℕ → List ℕ → List ℕ → ℕ → List ℕ → Type 0
-Memory bytes n kept count memo = (k : ℕ) → Remembered (get_or memo k 0) (partner_of bytes n kept count k)
+-- the answer that such a number keeps, if it keeps one
+abbrev pub answer_of : ℕ → Option (Option ℕ)
+answer_of zero = None
+answer_of (suc zero) = Some None
+answer_of (suc (suc i)) = Some (Some i)
 
-unfoldable pub Ready : Purpose → List ℕ → List ℕ → List ℕ → List ℕ → Type 0
-Ready Count bytes n kept memo = Unit {0}
-Ready All bytes n kept memo = Unit {0}
-Ready First bytes n kept memo = Unit {0}
-Ready (Match conn src dst count) bytes n kept memo = (count ≤ 4096) × (count * feature_numbers ≤ length kept) × Memory bytes n kept count memo
+-- what the memory keeps of a name is the search's answer
+unfoldable pub Memory : Tables → List ℕ → List ℕ → Type 0
+Memory m kept memo = (k : ℕ) → Remembered (get_or memo k 0) (partner_of m kept k)
+
+unfoldable pub Ready : Purpose → Tables → List ℕ → Type 0
+Ready Count m memo = Unit {0}
+Ready All m memo = Unit {0}
+Ready First m memo = Unit {0}
+Ready (Match k) m memo = (kept_count k.kept.now ≤ 4096) × Memory m k.kept.now memo

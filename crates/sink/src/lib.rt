@@ -2,24 +2,66 @@
 // finds no room, its output counts as full from then on, and the walk goes on: whether 13 strikes is known at its end only.
 #![tactic(auto)]
 
-ghost use Rattle.std.specs.Prelude.{◌≡◌, ◌+◌, ◌*◌, ◌≤◌, length, take, drop, set};
+ghost use Rattle.std.specs.Prelude.{◌≡◌, ◌+◌, ◌*◌, ◌≤◌, ◌<◌, cond, eqb, length, get_or, set, IfSome};
 ghost use Rattle.as5506.specs.Layout.{feature_numbers, feature_block};
-ghost use Rattle.lent.specs.Append.{filled, append};
-ghost use Rattle.sink.specs.Take.{feature_of, held, partner_of, match_block, code_of, Memory, taken, Ready};
-ghost use Rattle.sink.specs.Place.{place_of};
+ghost use Rattle.lent.specs.Model.{model};
+ghost use Rattle.sink.specs.Take.{feature_of, held, SameBuffers, first_by, partner_of, kept_count, kept_block, match_block, code_of, answer_of, match_by, Memory, taken, Ready};
 
 use as5506::{FEATURE_NUMBERS, ROW_NUMBERS};
-use lent::number_at;
+use lent::{Tables, get_or};
 use name::same_folded_names;
 
-// A feature: its name, kind and direction, and the names of the groups that it is nested in, the first `len` of `prefix`.
+// How many visits of a walk may lie one inside the other.
+pub const LEVELS: usize = 11;
+
+// The names of the groups that one group lies in, outermost first.
+pub type Path = path::Path<LEVELS>;
+
+// A feature: its name, kind and direction, and the names of the groups that it is nested in.
 #[derive(Clone, Copy)]
-pub struct Feature {
+pub struct Feature<'a> {
     pub name: u32,
     pub kind: u32,
     pub direction: u32,
-    pub prefix: [u32; 11],
-    pub len: usize,
+    pub prefix: &'a Path,
+}
+
+impl Feature<'_> {
+    // Its block: name, kind, direction, length of the prefix, its names.
+    #[tactic(auto, using(crate::proofs::Blocks::block_put))]
+    fn block(&self) -> [u32; FEATURE_NUMBERS]
+        requires { length self.now.prefix.now ≤ 10 }
+        ensures { result ≡ feature_block (feature_of self.now) }
+    {
+        let names = self.prefix.numbers();
+        let mut block = [0u32; FEATURE_NUMBERS];
+        block[0] = self.name;
+        block[KIND] = self.kind;
+        block[DIRECTION] = self.direction;
+        block[PREFIX_LENGTH] = names.len() as u32;
+        lent::put_all(&mut block, PREFIX, names);
+        block
+    }
+}
+
+// What the features of a source are matched with: the connection, its two components, and the blocks of the features kept of the destination.
+#[derive(Clone, Copy)]
+pub struct Matching<'a> {
+    pub connection: u32,
+    pub source: u32,
+    pub destination: u32,
+    pub kept: &'a [u32],
+}
+
+// What a walk is for: to count its visits; to write all its features; to write those whose name has not come yet; to list the features that have
+// a partner among those kept, and to diagnose the others. An enum and no closure: these are all, and that a visit changes nothing any more is
+// proved for each of them.
+#[derive(Clone, Copy)]
+pub enum Purpose<'a> {
+    Count,
+    All,
+    First,
+    Match(Matching<'a>),
 }
 
 // How many numbers are used in the output of features or rows, and in that of diagnostics.
@@ -29,185 +71,162 @@ pub struct Tally {
     pub noted: usize,
 }
 
-// What a walk is for: to count its visits; to write all its features; to write those whose name has not come yet; to list, for a connection and
-// its two components, the features that have a partner among the `count` features kept, and to diagnose the others.
-#[derive(Clone, Copy)]
-pub enum Purpose {
-    Count,
-    All,
-    First,
-    Match {
-        connection: u32,
-        source: u32,
-        destination: u32,
-        count: usize,
-    },
+// What a walk carries: a number for each name, the output of features or rows, and that of diagnostics; and how much of both is used.
+#[derive(Drop)]
+pub struct Sink<'a> {
+    pub memo: &'a mut [u32],
+    pub out: &'a mut [u32],
+    pub notes: &'a mut [u32],
+    pub tally: Tally,
 }
 
-// A place among the features kept.
-#[derive(Clone, Copy)]
-pub enum Place {
-    At(usize),
-    Nowhere,
-}
+// The code of the diagnostic of a source feature that has no partner. There is no other here, so it is a constant and no enum.
+const UNMATCHED: u32 = 5;
 
-// What the memory has for a name that has no partner.
-const NO_PARTNER: u32 = 1;
+// The places in a feature's block: name, kind, direction, length of the prefix, its names.
+pub const KIND: usize = 1;
 
-// The block of a feature: name, kind, direction, length of the prefix, its names.
-fn block_of(feature: Feature) -> [u32; FEATURE_NUMBERS]
-    requires { (feature.len ≤ 10) × (length feature.prefix ≡ 11) }
-    ensures { result ≡ feature_block (feature_of feature) }
+const DIRECTION: usize = 2;
+
+pub const PREFIX_LENGTH: usize = 3;
+
+pub const PREFIX: usize = 4;
+
+// The places of a match in its row: connection, two components, the source feature's block, its partner's.
+pub const SOURCE: usize = 3;
+
+pub const PARTNER: usize = SOURCE + FEATURE_NUMBERS;
+
+// The memory is a lent table of numbers, one for each name: 0 for a name not yet asked for, 1 for one that has no partner, or the partner's place
+// plus 2.
+fn code_of(partner: Option<usize>) -> u32
+    requires { IfSome partner (λ i. i < 4096) }
+    ensures { result ≡ code_of partner }
 {
-    let prefix = feature.prefix;
-    let len = feature.len;
-    let mut block = [0u32; FEATURE_NUMBERS];
-    block[0] = feature.name;
-    block[1] = feature.kind;
-    block[2] = feature.direction;
-    block[3] = len as u32;
-    let mut k: usize = 0;
-    while k < len {
-        block[k + 4] = prefix[k];
-        k += 1;
+    match partner {
+        None => 1,
+        Some(i) => i as u32 + 2,
     }
-    block
 }
 
-// The first of the kept features whose name is equal folded to a name.
-fn find_partner(bytes: &[u8], n: &[u32], kept: &[u32], count: usize, name: u32) -> Place
-    requires { count ≤ 4096 }
-    ensures { place_of result ≡ partner_of bytes.now n.now kept.now count name }
+// What such a number says.
+fn answer_of(code: u32) -> Option<Option<usize>>
+    ensures { result ≡ answer_of code }
 {
-    let mut i: usize = 0;
-    while i < count {
-        if same_folded_names(bytes, n, name, number_at(kept, i * FEATURE_NUMBERS)) {
-            break;
-        }
-        i += 1;
+    match code {
+        0 => None,
+        1 => Some(None),
+        _ => Some(Some(code as usize - 2)),
     }
-    if i < count {
-        return Place::At(i);
-    }
-    Place::Nowhere
 }
 
-// The same, searched once for each name: the memory has 0 for a name not yet asked for, `NO_PARTNER`, or the partner's place plus 2.
-fn partner(
-    bytes: &[u8],
-    n: &[u32],
-    kept: &[u32],
-    memo: &mut [u32],
-    count: usize,
-    name: u32,
-) -> Place
-    requires { (count ≤ 4096) × Memory bytes.now n.now kept.now count memo.old }
-    ensures result_value { place_of result ≡ partner_of bytes.now n.now kept.now count name }
-    ensures memo_after { memo.new ≡ set memo.old name (code_of (partner_of bytes.now n.now kept.now count name)) }
+// Whether a name has not come yet; from then on it has: the memory has 1 for it.
+fn comes_first(memo: &mut [u32], name: u32) -> bool
+    ensures first { result ≡ eqb (get_or memo.old name 0) 0 }
+    ensures memo_after { memo.new ≡ cond result (set memo.old name 1) memo.old }
 {
-    let known = number_at(memo, name as usize);
-    if known == NO_PARTNER {
-        return Place::Nowhere;
+    let first = get_or(memo, name as usize, 0) == 0;
+    if first {
+        lent::put(memo, name as usize, 1);
     }
-    if known != 0 {
-        return Place::At(known as usize - 2);
-    }
-    let place = find_partner(bytes, n, kept, count, name);
-    match place {
-        Place::At(i) => {
-            lent::put_number(memo, name as usize, i as u32 + 2);
-        }
-        Place::Nowhere => {
-            lent::put_number(memo, name as usize, NO_PARTNER);
-        }
-    }
-    place
+    first
 }
 
-// Writes the match of a source feature and the kept feature at place i, unless the output is full already.
-fn put_match(
-    kept: &[u32],
-    out: &mut [u32],
-    used: usize,
-    connection: u32,
-    source: u32,
-    destination: u32,
-    feature: Feature,
-    i: usize,
-) -> usize
-    requires { (feature.len ≤ 10) × (length feature.prefix ≡ 11) × (i * feature_numbers + feature_numbers ≤ length kept.now) }
-    ensures { filled out.new result ≡ append (match_block connection source destination (feature_block (feature_of feature)) (take feature_numbers (drop (i * feature_numbers) kept.now))) (filled out.old used) }
-{
-    if out.len() < used {
-        return out.len() + 1;
-    }
-    let mut row = [0u32; ROW_NUMBERS];
-    row[0] = connection;
-    row[1] = source;
-    row[2] = destination;
-    let block = block_of(feature);
-    lent::put_numbers(&mut row, 3, &block);
-    let base = i * FEATURE_NUMBERS;
-    lent::put_numbers(&mut row, 17, &kept[base..base + FEATURE_NUMBERS]);
-    lent::append_numbers(out, used, &row)
-}
-
-// What a feature does, by the purpose of the walk.
-pub fn take_feature(
-    bytes: &[u8],
-    n: &[u32],
-    kept: &[u32],
-    memo: &mut [u32],
-    out: &mut [u32],
-    notes: &mut [u32],
-    purpose: Purpose,
-    feature: Feature,
-    tally: Tally,
-) -> Tally
-    requires { (feature.len ≤ 10) × (length feature.prefix ≡ 11) × Ready purpose bytes.now n.now kept.now memo.old }
-    ensures { held result memo.new out.new notes.new
-        ≡ taken purpose bytes.now n.now kept.now (feature_of feature) (held tally memo.old out.old notes.old) }
-{
-    let name = feature.name;
-    let used = tally.used;
-    let noted = tally.noted;
-    match purpose {
-        Purpose::Count => tally,
-        Purpose::All => {
-            let block = block_of(feature);
-            Tally {
-                used: lent::append_numbers(out, used, &block),
-                noted: noted,
+impl Matching<'_> {
+    // The first of the kept features whose name is equal folded to a name.
+    #[tactic(auto, using(crate::proofs::Search::searching_start, crate::proofs::Search::searching_end))]
+    fn find_partner(&self, m: &Tables, name: u32) -> Option<usize>
+        ensures { result ≡ partner_of (model m.now) self.now.kept.now name }
+    {
+        let count = self.kept.len() / FEATURE_NUMBERS;
+        let mut found = None;
+        for i in 0..count {
+            if same_folded_names(m, name, get_or(self.kept, i * FEATURE_NUMBERS, 0)) {
+                found = Some(i);
+                break;
             }
         }
-        Purpose::First => {
-            if number_at(memo, name as usize) != 0 {
-                return tally;
+        found
+    }
+
+    // The same, searched once for each name.
+    #[tactic(auto, using(crate::proofs::Search::recalled, crate::proofs::Search::recalled_memo, crate::proofs::Purposes::partner_few))]
+    fn partner(&self, m: &Tables, memo: &mut [u32], name: u32) -> Option<usize>
+        requires { (kept_count self.now.kept.now ≤ 4096) × Memory (model m.now) self.now.kept.now memo.old }
+        ensures value { result ≡ partner_of (model m.now) self.now.kept.now name }
+        ensures memo_after { memo.new ≡ set memo.old name (code_of (partner_of (model m.now) self.now.kept.now name)) }
+    {
+        if let Some(known) = answer_of(get_or(memo, name as usize, 0)) {
+            return known;
+        }
+        let found = self.find_partner(m, name);
+        lent::put(memo, name as usize, code_of(found));
+        found
+    }
+
+    // The row of a source feature and the kept feature at place i, until its names are composed.
+    fn row(&self, feature: &Feature, i: usize) -> [u32; ROW_NUMBERS]
+        requires { (length feature.now.prefix.now ≤ 10) × (i * feature_numbers + feature_numbers ≤ length self.now.kept.now) }
+        ensures { result ≡ match_block self.now.connection self.now.source self.now.destination (feature_block (feature_of feature.now)) (kept_block self.now.kept.now i) }
+    {
+        let mut row = [0u32; ROW_NUMBERS];
+        row[0] = self.connection;
+        row[1] = self.source;
+        row[2] = self.destination;
+        lent::put_all(&mut row, SOURCE, &feature.block());
+        let base = i * FEATURE_NUMBERS;
+        lent::put_all(&mut row, PARTNER, &self.kept[base..base + FEATURE_NUMBERS]);
+        row
+    }
+}
+
+impl Sink<'_> {
+    // What a feature does whose name may have come already.
+    fn take_first(&mut self, feature: &Feature)
+        requires { length feature.now.prefix.now ≤ 10 }
+        ensures taken { held self.new ≡ first_by (eqb (get_or self.old.memo.now feature.now.name 0) 0) (feature_of feature.now) (held self.old) }
+        ensures same { SameBuffers self.old self.new }
+    {
+        if comes_first(self.memo, feature.name) {
+            self.tally.used = lent::append_numbers(self.out, self.tally.used, &feature.block());
+        }
+    }
+
+    // What a feature does that is to be matched. Where the output of rows is full, no row is made.
+    #[tactic(auto, using(crate::proofs::Purposes::unmatched, crate::proofs::Purposes::partner_whole))]
+    fn take_match(&mut self, m: &Tables, matching: &Matching, feature: &Feature)
+        requires { (length feature.now.prefix.now ≤ 10) × (kept_count matching.now.kept.now ≤ 4096) × Memory (model m.now) matching.now.kept.now self.old.memo.now }
+        ensures taken { held self.new ≡ match_by (partner_of (model m.now) matching.now.kept.now feature.now.name) matching.now (feature_of feature.now) (held self.old) }
+        ensures same { SameBuffers self.old self.new }
+    {
+        let tally = self.tally;
+        match matching.partner(m, self.memo, feature.name) {
+            None => {
+                let note = [UNMATCHED, matching.connection, feature.name, 0];
+                self.tally.noted = lent::append_numbers(self.notes, tally.noted, &note);
             }
-            lent::put_number(memo, name as usize, 1);
-            let block = block_of(feature);
-            Tally {
-                used: lent::append_numbers(out, used, &block),
-                noted: noted,
+            Some(_) if self.out.len() < tally.used => self.tally.used = self.out.len() + 1,
+            Some(i) => {
+                let row = matching.row(feature, i);
+                self.tally.used = lent::append_numbers(self.out, tally.used, &row);
             }
         }
-        Purpose::Match {
-            connection,
-            source,
-            destination,
-            count,
-        } => match partner(bytes, n, kept, memo, count, name) {
-            Place::Nowhere => {
-                let note = [5u32, connection, name, 0];
-                Tally {
-                    used: used,
-                    noted: lent::append_numbers(notes, noted, &note),
-                }
+    }
+
+    // What a feature does, by the purpose of the walk.
+    #[tactic(auto, unfolding(crate::specs::Take::taken), using(crate::proofs::Purposes::match_few, crate::proofs::Purposes::match_memory))]
+    pub fn take_feature(&mut self, m: &Tables, purpose: &Purpose, feature: &Feature)
+        requires { (length feature.now.prefix.now ≤ 10) × Ready purpose.now (model m.now) self.old.memo.now }
+        ensures taken { held self.new ≡ taken purpose.now (model m.now) (feature_of feature.now) (held self.old) }
+        ensures same { SameBuffers self.old self.new }
+    {
+        match purpose {
+            Purpose::Count => {}
+            Purpose::All => {
+                self.tally.used = lent::append_numbers(self.out, self.tally.used, &feature.block());
             }
-            Place::At(i) => Tally {
-                used: put_match(kept, out, used, connection, source, destination, feature, i),
-                noted: noted,
-            },
-        },
+            Purpose::First => self.take_first(feature),
+            Purpose::Match(matching) => self.take_match(m, matching, feature),
+        }
     }
 }

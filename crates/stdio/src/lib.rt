@@ -2,42 +2,23 @@
 // be read is no empty sheet, and a list that could not be written is none. Each function takes the streams and the arguments that it uses.
 #![tactic(auto)]
 
-ghost use Rattle.std.specs.Prelude.{length};
-ghost use Rattle.stdio.specs.Stdio.{Within};
+ghost use Rattle.std.specs.Prelude.{◌≤◌, IfOk, IfSome, length};
 
-use fields::Field;
 use std::env::{Env, FillError};
-use std::io::{Read, Write};
+use std::io::{self, Read, Write};
 
-// What came of reading standard input.
-#[derive(Clone, Copy)]
-pub enum Input {
-    // So many bytes: all that there are, or as many as found room.
-    Read(usize),
-    Failed,
-}
-
-// The one argument of a program.
-#[derive(Clone, Copy)]
-pub enum Argument {
-    Number(u64),
-    // There is none, there are more, or it is no number.
-    Wrong,
-}
-
-// Reads standard input to its end, or until the slice is full.
-fn read_all<R: Read>(input: &mut R, into: &mut [u8]) -> Input
-    ensures { Within result (length into.new) }
+// Reads into a slice to the end of the input, or until the slice is full: how many bytes were read.
+pub fn read_full<R: Read>(input: &mut R, into: &mut [u8]) -> io::Result<usize>
+    ensures { IfOk result (λ k. k ≤ length into.new) }
 {
-    let mut done: usize = 0;
+    let mut done = 0;
     while done < into.len() {
-        match input.read(&mut into[done..]) {
-            Ok(0) => return Input::Read(done),
-            Ok(more) => done += more,
-            Err(_) => return Input::Failed,
+        match input.read(&mut into[done..])? {
+            0 => break,
+            more => done += more,
         }
     }
-    Input::Read(done)
+    Ok(done)
 }
 
 // Says on standard error what happened to a program.
@@ -52,11 +33,11 @@ pub fn read_input<R: Read, E: Write>(
     errors: &mut E,
     program: &[u8],
     into: &mut [u8],
-) -> Input
-    ensures { Within result (length into.new) }
+) -> Option<usize>
+    ensures { IfSome result (λ k. k ≤ length into.new) }
 {
-    let read = read_all(input, into);
-    if let Input::Failed = read {
+    let read = read_full(input, into).ok();
+    if read.is_none() {
         say(errors, program, b": standard input could not be read\n");
     }
     read
@@ -74,21 +55,15 @@ pub fn write_output<W: Write, E: Write>(
     }
 }
 
-// The one argument that the program was started with, behind its own name. The largest number has 20 digits; of an argument that finds no room in 32
-// bytes none is taken.
-fn read_argument<A: Env>(arguments: &A) -> Argument {
+// The one argument that the program was started with, behind its own name: there is one, there are no more, and it is a number. The largest number has
+// 20 digits; of an argument that finds no room in 32 bytes none is taken.
+fn read_argument<A: Env>(arguments: &A) -> Option<u64> {
     let Err(FillError::NotPresent) = arguments.arg(2, &mut []) else {
-        return Argument::Wrong;
+        return None;
     };
     let mut digits = [0u8; 32];
-    let Ok(got) = arguments.arg(1, &mut digits) else {
-        return Argument::Wrong;
-    };
-    match fields::number_in(&digits[..got]) {
-        Field::Value(number) => Argument::Number(number),
-        Field::Dash => Argument::Wrong,
-        Field::Bad => Argument::Wrong,
-    }
+    let got = arguments.arg(1, &mut digits).ok()?;
+    fields::number_in(&digits[..got])
 }
 
 // The one argument of the program of this name: a decimal number of 64 bits at most, spelt as in a sheet. Where it is none it says so.
@@ -96,9 +71,9 @@ pub fn number_argument<A: Env, E: Write>(
     arguments: &A,
     errors: &mut E,
     program: &[u8],
-) -> Argument {
+) -> Option<u64> {
     let argument = read_argument(arguments);
-    if let Argument::Wrong = argument {
+    if argument.is_none() {
         say(
             errors,
             program,

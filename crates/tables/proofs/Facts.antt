@@ -18,9 +18,10 @@ use Rattle.as5506.proofs.Laws.{All, up_to-at, and_left, and_right, not-not, nil-
 use Rattle.as5506.proofs.Whole.{Sound}
 use Rattle.as5506.proofs.Accepted.{some-component, sound}
 use Rattle.as5506.proofs.Keys.{Unique, keys-unique}
-use Rattle.tables.proofs.Letters.{joined, at-letter}
-use Rattle.tables.proofs.Clashes.{key_p, key_t, key_q, key_u, key_r}
-use Rattle.tables.proofs.Bridge.{few-rows}
+use Rattle.tables.specs.Ends.{bad_ends, bad_references, bad_classifier}
+use Rattle.tables.specs.Keys.{key_p, key_t, key_q, key_u, key_r}
+use Rattle.tables.proofs.Order.{joined}
+use Rattle.tables.proofs.Letters.{at-letter, few-rows}
 
 -- v is below n, or missing
 abbrev pub MissingOr : ℕ → ℕ → Type 0
@@ -122,10 +123,6 @@ nand : (a b : Bool) → T (not (a && b)) → T a → T (not b)
 nand true b t u = t
 nand false b t u = absurd u
 
-contradiction : (b : Bool) → T b → T (not b) → ⊥
-contradiction true t u = u
-contradiction false t u = t
-
 absent : (v : ℕ) → T (not (present v)) → v ≡ missing
 absent v t = eqb→eq v missing (not-not (eqb v missing) t)
 
@@ -216,22 +213,13 @@ module _ (m : Tables) (ok : T (accepted m)) where
   row-facts l i h =
       says_all m i l 0 (columns l) (not-not (allows_from m l i 0 (columns l)) (no_row 6 m l (bad_row m l) (at-letter (λ l. T (is_nil (row_faults 6 m l (bad_row m l)))) (nil-each (λ l. row_faults 6 m l (bad_row m l)) order lists.1.1.1.0) l) i h))
 
-  abbrev x_bad : ℕ → Bool
-  x_bad x = bad_end m source x || bad_end m destination x
-
-  abbrev u_bad : ℕ → Bool
-  u_bad u = bad_ref (u_extends m u) || bad_ref (u_inverse_of m u)
-
-  abbrev e_bad : ℕ → Bool
-  e_bad e = bad_ref (e_classifier m e)
-
-  eight : T (is_nil (row_faults 8 m letter_x x_bad)) × All (λ ys. T (is_nil ys)) (row_faults 8 m letter_u u_bad ∷ row_faults 8 m letter_e e_bad ∷ row_faults 8 m letter_r (bad_rename m) ∷ [])
+  eight : T (is_nil (row_faults 8 m letter_x (bad_ends m))) × All (λ ys. T (is_nil ys)) (row_faults 8 m letter_u (bad_references m) ∷ row_faults 8 m letter_e (bad_classifier m) ∷ row_faults 8 m letter_r (bad_rename m) ∷ [])
   unfolding faults8
-  eight = joined-nil (row_faults 8 m letter_x x_bad) (row_faults 8 m letter_u u_bad ∷ row_faults 8 m letter_e e_bad ∷ row_faults 8 m letter_r (bad_rename m) ∷ []) lists.1.1.1.1.1.1.0
+  eight = joined-nil (row_faults 8 m letter_x (bad_ends m)) (row_faults 8 m letter_u (bad_references m) ∷ row_faults 8 m letter_e (bad_classifier m) ∷ row_faults 8 m letter_r (bad_rename m) ∷ []) lists.1.1.1.1.1.1.0
 
   end-good : (s : Side) (i : ℕ) → i < x_count m → T (not (bad_end m s i))
-  end-good source i h = nor-left (bad_end m source i) (bad_end m destination i) (no_row 8 m letter_x x_bad eight.0 i h)
-  end-good destination i h = nor-right (bad_end m source i) (bad_end m destination i) (no_row 8 m letter_x x_bad eight.0 i h)
+  end-good source i h = nor-left (bad_end m source i) (bad_end m destination i) (no_row 8 m letter_x (bad_ends m) eight.0 i h)
+  end-good destination i h = nor-right (bad_end m source i) (bad_end m destination i) (no_row 8 m letter_x (bad_ends m) eight.0 i h)
 
   end-facts : (s : Side) (i : ℕ) → i < x_count m → T (present (x_sub m s i)) → T (present (x_feat m s i))
   end-facts s i h p = not-not (present (x_feat m s i)) (nand (present (x_sub m s i)) (not (present (x_feat m s i))) (end-good s i h) p)
@@ -251,19 +239,19 @@ module _ (m : Tables) (ok : T (accepted m)) where
   extends-facts : (i : ℕ) → i < count m letter_u → GoodRef m (u_extends m i)
   extends-facts i h =
       let r = row-facts letter_u i h in
-      let t = no_row 8 m letter_u u_bad eight.1.0 i h in
+      let t = no_row 8 m letter_u (bad_references m) eight.1.0 i h in
       record { its-package = r.1.1.1.0; its-type = r.1.1.1.1.0; its-implementation = r.1.1.1.1.1.0; untyped = typed-or-bare (u_extends m i) (nor-left (bad_ref (u_extends m i)) (bad_ref (u_inverse_of m i)) t) }
 
   inverse-facts : (i : ℕ) → i < count m letter_u → GoodRef m (u_inverse_of m i)
   inverse-facts i h =
       let r = row-facts letter_u i h in
-      let t = no_row 8 m letter_u u_bad eight.1.0 i h in
+      let t = no_row 8 m letter_u (bad_references m) eight.1.0 i h in
       record { its-package = r.1.1.1.1.1.1.0; its-type = r.1.1.1.1.1.1.1.0; its-implementation = r.1.1.1.1.1.1.1.1.0; untyped = typed-or-bare (u_inverse_of m i) (nor-right (bad_ref (u_extends m i)) (bad_ref (u_inverse_of m i)) t) }
 
   classifier-facts : (i : ℕ) → i < count m letter_e → GoodRef m (e_classifier m i)
   classifier-facts i h =
       let r = row-facts letter_e i h in
-      record { its-package = r.1.1.1.1.1.0; its-type = r.1.1.1.1.1.1.0; its-implementation = r.1.1.1.1.1.1.1.0; untyped = typed-or-bare (e_classifier m i) (no_row 8 m letter_e e_bad eight.1.1.0 i h) }
+      record { its-package = r.1.1.1.1.1.0; its-type = r.1.1.1.1.1.1.0; its-implementation = r.1.1.1.1.1.1.1.0; untyped = typed-or-bare (e_classifier m i) (no_row 8 m letter_e (bad_classifier m) eight.1.1.0 i h) }
 
   rename-good : (i : ℕ) → i < count m letter_r → T (not (bad_rename m i))
   rename-good i h = no_row 8 m letter_r (bad_rename m) eight.1.1.1.0 i h

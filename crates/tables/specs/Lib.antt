@@ -1,8 +1,12 @@
--- The checks of tables, as the code has them; the proofs show that they are the definition's.
+-- The words of the checks' contracts.
 --
 --     Answer   the answer for the definition's faults
---     Tests    the tests of a row
---     Order    the order in which rules, letters and rows are gone through
+--     Letter   the letters, and what a check asks of closures
+--     Column   the fields of a row
+--     Keys     the keys of rows
+--     Ends     the bad rows of rule 8
 pub mod Answer
-pub mod Tests
-pub mod Order
+pub mod Letter
+pub mod Column
+pub mod Keys
+pub mod Ends

@@ -1,6 +1,6 @@
 -- Laws of a diagnostic's text: its message by its code, its path names, and the pieces that it is printed in. Assumes nothing.
 use mathlib.Core.Bool.{Bool}
-use mathlib.Core.Path.{◌≡◌, refl, sym, ap, ap₂, ◌∙◌}
+use mathlib.Core.Path.{◌≡◌, sym, ap, ap₂, ◌∙◌}
 use mathlib.Core.List.{List, [], ◌∷◌, ◌++◌, append_assoc, append-nil}
 use Prim.Native.Nat.{ℕ, zero, suc, ◌≤◌, ◌<◌}
 use native.Mathlib.Omega.{arith}
@@ -9,10 +9,9 @@ use lib.Dec.{ltb}
 use lib.ListN.{length, get_or}
 use lib.Seq.{take_all}
 use Rattle.as5506.specs.Lists.{each, bytes_of}
-use Rattle.as5506.specs.Tables.{Tables, name_in, name_of, c_name, x_name, x_owner}
+use Rattle.as5506.specs.Tables.{Tables, name_of, c_name, x_name, x_owner}
 use Rattle.as5506.specs.Layout.{diag_numbers, diag_back}
 use Rattle.as5506.specs.Text.{digits, column, number_line, text_line, quoted, message, path_names, diag_text}
-use Rattle.lent.specs.Lent.{names_in, components_in, connections_in, wiring_in}
 use Rattle.text.proofs.Blocks.{first-four}
 
 -- ---- the message, by its code
@@ -76,21 +75,7 @@ message-unmatched m conn name (suc (suc (suc (suc (suc k))))) a b e h =
     quoted-twice (bytes_of "feature group connection ") (bytes_of "'") conn (bytes_of ": source feature ") (name_of m a) (bytes_of " has no matching destination feature (STPA-REQ-011)")
     ∙ ap (λ (s : List ℕ). bytes_of "feature group connection '" ++ conn ++ bytes_of "': source feature '" ++ ([] ++ s ++ bytes_of "' has no matching destination feature (STPA-REQ-011)")) (sym e)
 
--- it asks for names only
-pub message-same : (m : Tables) (conn : List ℕ) (code a b : ℕ) → message m conn code a b ≡ message (names_in m.bytes m.n) conn code a b
-unfolding message
-message-same m conn zero a b = refl
-message-same m conn (suc zero) a b = refl
-message-same m conn (suc (suc zero)) a b = refl
-message-same m conn (suc (suc (suc zero))) a b = refl
-message-same m conn (suc (suc (suc (suc zero)))) a b = refl
-message-same m conn (suc (suc (suc (suc (suc k))))) a b = refl
-
 -- ---- the path names
-
-pub connection-named : (bytes n x : List ℕ) (i k : ℕ) (r : List ℕ) → k ≡ x_name (connections_in [] [] x) i → r ≡ name_in bytes n k
-    → r ≡ name_of (connections_in bytes n x) (x_name (connections_in bytes n x) i)
-connection-named bytes n x i k r e f = f ∙ ap (name_in bytes n) e
 
 abbrev pub at_line : List ℕ → List ℕ
 at_line s = bytes_of "@ " ++ s ++ bytes_of "\n"
@@ -99,29 +84,20 @@ two-lines : (s t : List ℕ) → each (text_line (bytes_of "@")) (s ∷ t ∷ []
 unfolding text_line
 two-lines s t = ap (λ (l : List ℕ). at_line s ++ l) (append-nil (at_line t))
 
-module _ (bytes n c x b : List ℕ) (code conn : ℕ) (name : List ℕ) (e : code ≡ get_or b 0 0) (f : conn ≡ get_or b 1 0)
-    (g : name ≡ name_of (connections_in bytes n x) (x_name (connections_in bytes n x) conn)) where
-  connection-is : name ≡ name_of (wiring_in bytes n c x) (x_name (wiring_in bytes n c x) (get_or b 1 0))
-  connection-is = g ∙ ap (λ (i : ℕ). name_of (wiring_in bytes n c x) (x_name (wiring_in bytes n c x) i)) f
-
-  owner-is : (owner k : ℕ) → owner ≡ x_owner (connections_in [] [] x) conn → k ≡ c_name (components_in [] [] c) owner
-      → k ≡ c_name (wiring_in bytes n c x) (x_owner (wiring_in bytes n c x) (get_or b 1 0))
-  owner-is owner k p q = q ∙ ap (c_name (components_in [] [] c)) (p ∙ ap (x_owner (connections_in [] [] x)) f)
-
-  pub path-owner : (owner k : ℕ) (above : List ℕ) → code < 5 → owner ≡ x_owner (connections_in [] [] x) conn → k ≡ c_name (components_in [] [] c) owner
-      → above ≡ name_in bytes n k
-      → each (text_line (bytes_of "@")) (path_names (wiring_in bytes n c x) (diag_back b) (ltb (get_or b 0 0) 5)) ≡ at_line above ++ at_line name
+module _ (m : Tables) (b name : List ℕ) (e : name ≡ name_of m (x_name m (get_or b 1 0))) where
+  pub path-owner : (owner k : ℕ) (above : List ℕ) → get_or b 0 0 < 5 → owner ≡ x_owner m (get_or b 1 0) → k ≡ c_name m owner → above ≡ name_of m k
+      → each (text_line (bytes_of "@")) (path_names m (diag_back b) (ltb (get_or b 0 0) 5)) ≡ at_line above ++ at_line name
   unfolding path_names diag_back
   path-owner owner k above h p q r =
-      ap (λ (v : Bool). each (text_line (bytes_of "@")) (path_names (wiring_in bytes n c x) (diag_back b) v)) (lt-ltb (get_or b 0 0) 5 (omega (arith, h, e)))
-      ∙ two-lines _ _ ∙ ap₂ (λ (s t : List ℕ). at_line s ++ at_line t) (sym (r ∙ ap (name_in bytes n) (owner-is owner k p q))) (sym connection-is)
+      ap (λ (v : Bool). each (text_line (bytes_of "@")) (path_names m (diag_back b) v)) (lt-ltb (get_or b 0 0) 5 h)
+      ∙ two-lines _ _ ∙ ap₂ (λ (s t : List ℕ). at_line s ++ at_line t) (sym (r ∙ ap (name_of m) (q ∙ ap (c_name m) p))) (sym e)
 
-  pub path-feature : (k : ℕ) (feature : List ℕ) → 5 ≤ code → k ≡ get_or b 2 0 → feature ≡ name_in bytes n k
-      → each (text_line (bytes_of "@")) (path_names (wiring_in bytes n c x) (diag_back b) (ltb (get_or b 0 0) 5)) ≡ at_line name ++ at_line feature
+  pub path-feature : (feature : List ℕ) → 5 ≤ get_or b 0 0 → feature ≡ name_of m (get_or b 2 0)
+      → each (text_line (bytes_of "@")) (path_names m (diag_back b) (ltb (get_or b 0 0) 5)) ≡ at_line name ++ at_line feature
   unfolding path_names diag_back
-  path-feature k feature h p q =
-      ap (λ (v : Bool). each (text_line (bytes_of "@")) (path_names (wiring_in bytes n c x) (diag_back b) v)) (le-ltb (get_or b 0 0) 5 (omega (arith, h, e)))
-      ∙ two-lines _ _ ∙ ap₂ (λ (s t : List ℕ). at_line s ++ at_line t) (sym connection-is) (sym (q ∙ ap (name_in bytes n) p))
+  path-feature feature h q =
+      ap (λ (v : Bool). each (text_line (bytes_of "@")) (path_names m (diag_back b) v)) (le-ltb (get_or b 0 0) 5 h)
+      ∙ two-lines _ _ ∙ ap₂ (λ (s t : List ℕ). at_line s ++ at_line t) (sym e) (sym q)
 
 -- ---- a diagnostic
 
@@ -132,21 +108,14 @@ begun-line : (d feed mark s rest : List ℕ) → d ++ feed ++ (mark ++ s ++ feed
 begun-line d feed mark s rest = simp append_assoc
 
 -- the pieces that it is printed in
-pub diag-pieces : (bytes n c x b name : List ℕ) → length b ≡ diag_numbers
-    → name ≡ name_of (connections_in bytes n x) (x_name (connections_in bytes n x) (get_or b 1 0))
-    → diag_text (wiring_in bytes n c x) (diag_back b)
-    ≡ bytes_of "D" ++ each column b ++ bytes_of "\n! " ++ message (names_in bytes n) name (get_or b 0 0) (get_or b 2 0) (get_or b 3 0) ++ bytes_of "\n"
-    ++ each (text_line (bytes_of "@")) (path_names (wiring_in bytes n c x) (diag_back b) (ltb (get_or b 0 0) 5))
+pub diag-pieces : (m : Tables) (b name : List ℕ) → length b ≡ diag_numbers → name ≡ name_of m (x_name m (get_or b 1 0))
+    → diag_text m (diag_back b)
+    ≡ bytes_of "D" ++ each column b ++ bytes_of "\n! " ++ message m name (get_or b 0 0) (get_or b 2 0) (get_or b 3 0) ++ bytes_of "\n"
+    ++ each (text_line (bytes_of "@")) (path_names m (diag_back b) (ltb (get_or b 0 0) 5))
 unfolding diag_text diag_back number_line text_line
-diag-pieces bytes n c x b name h e =
-    begun-line
-    (bytes_of "D" ++ each column (get_or b 0 0 ∷ get_or b 1 0 ∷ get_or b 2 0 ∷ get_or b 3 0 ∷ []))
-    (bytes_of "\n")
-    (bytes_of "! ")
-    (message (wiring_in bytes n c x) (name_of (wiring_in bytes n c x) (x_name (wiring_in bytes n c x) (get_or b 1 0))) (get_or b 0 0) (get_or b 2 0) (get_or b 3 0))
-    (each (text_line (bytes_of "@")) (path_names (wiring_in bytes n c x) (diag_back b) (ltb (get_or b 0 0) 5)))
-    ∙ ap₂
-    (λ (l s : List ℕ). bytes_of "D" ++ each column l ++ bytes_of "\n! " ++ s ++ bytes_of "\n"
-    ++ each (text_line (bytes_of "@")) (path_names (wiring_in bytes n c x) (diag_back b) (ltb (get_or b 0 0) 5)))
-    (whole-block b h)
-    (message-same (wiring_in bytes n c x) _ (get_or b 0 0) (get_or b 2 0) (get_or b 3 0) ∙ ap (λ (s : List ℕ). message (names_in bytes n) s (get_or b 0 0) (get_or b 2 0) (get_or b 3 0)) (sym e))
+diag-pieces m b name h e =
+    let paths = each (text_line (bytes_of "@")) (path_names m (diag_back b) (ltb (get_or b 0 0) 5)) in
+    begun-line (bytes_of "D" ++ each column (get_or b 0 0 ∷ get_or b 1 0 ∷ get_or b 2 0 ∷ get_or b 3 0 ∷ [])) (bytes_of "\n") (bytes_of "! ")
+    (message m (name_of m (x_name m (get_or b 1 0))) (get_or b 0 0) (get_or b 2 0) (get_or b 3 0)) paths
+    ∙ ap₂ (λ (l s : List ℕ). bytes_of "D" ++ each column l ++ bytes_of "\n! " ++ message m s (get_or b 0 0) (get_or b 2 0) (get_or b 3 0) ++ bytes_of "\n" ++ paths)
+    (whole-block b h) (sym e)

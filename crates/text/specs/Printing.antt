@@ -1,21 +1,14 @@
 -- The list as it is printed from what the listings' outputs hold. Assumes nothing.
-use Rattle.std.specs.Prelude.{◌≡◌, List, [], ◌∷◌, ◌++◌, ℕ, ◌+◌, ◌*◌, ◌≤◌, ◌<◌, length, get_or, take, drop}
+use Rattle.std.specs.Prelude.{◌≡◌, List, [], ◌∷◌, ◌++◌, ℕ, ◌+◌, ◌≤◌, ◌<◌, length, get_or, take, drop}
 use Rattle.std.proofs.lemmas.List.Edits.{sets}
 use Rattle.as5506.specs.Lists.{each, bytes_of}
 use Rattle.as5506.specs.Tables.{Tables}
 use Rattle.as5506.specs.Fields.{space}
 use Rattle.as5506.specs.Sheet.{line_feed}
 use Rattle.as5506.specs.Rows.{Row, Diag}
-use Rattle.as5506.specs.Layout.{row_numbers, diag_numbers}
+use Rattle.as5506.specs.Layout.{group_back, names_behind}
 use Rattle.as5506.specs.Text.{column, number_line, row_text, diag_text}
 use Rattle.as5506.specs.declared.Refusal.{Refusal}
-
--- the listings' outputs have the rows and diagnostics that are counted
-pub record Counted (rows : List ℕ) (k : ℕ) (group_rows : List ℕ) (l : ℕ) (diags : List ℕ) (d : ℕ) (group_diags : List ℕ) (g : ℕ) : Type 0 where
-  pub traced : k * row_numbers ≤ length rows
-  pub group : l * row_numbers ≤ length group_rows
-  pub diagnostics : d * diag_numbers ≤ length diags
-  pub group-diagnostics : g * diag_numbers ≤ length group_diags
 
 -- the row of a block of numbers, with its names
 unfoldable pub row_named : List ℕ → List ℕ → List ℕ → List ℕ → Row
@@ -30,6 +23,11 @@ row_named b name src_name dst_name =
       src_name = src_name;
       dst_name = dst_name;
     }
+
+-- the rows of blocks of group rows, whose names stand one behind the other
+unfoldable pub group_rows : List (List ℕ) → List ℕ → List Row
+group_rows [] names = []
+group_rows (b ∷ bs) names = group_back b names ∷ group_rows bs (names_behind b names)
 
 -- the list of the rows and diagnostics of both listings
 unfoldable pub list_of : Tables → List Row → List Row → List Diag → List Diag → List ℕ

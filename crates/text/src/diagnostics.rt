@@ -1,134 +1,102 @@
 // A diagnostic: its numbers, the Rust's message and its path names.
-ghost use Rattle.std.specs.Prelude.{◌≡◌, ◌++◌, ltb, length, get_or};
+ghost use Rattle.std.specs.Prelude.{◌≡◌, ◌++◌, ltb, get_or};
 ghost use Rattle.as5506.specs.Lists.{each, bytes_of};
-ghost use Rattle.as5506.specs.Layout.{diag_numbers, diag_back};
+ghost use Rattle.as5506.specs.Layout.{diag_back};
 ghost use Rattle.as5506.specs.Tables.{name_of, x_name};
 ghost use Rattle.as5506.specs.Text.{digits, text_line, message, path_names, diag_text};
-ghost use Rattle.lent.specs.Lent.{names_in, connections_at, wiring_at};
-ghost use Rattle.lent.specs.Added.{Added};
+ghost use Rattle.lent.specs.Model.{model};
+ghost use Rattle.output.specs.Put.{Put};
 
 use super::lines;
+use as5506::DIAGNOSTIC_NUMBERS;
 use columns::{component, connection};
+use lent::Tables;
+use output::Output;
 
 // Prints that two array sizes differ.
-fn put_sizes(a: u32, b: u32, text: &mut [u8], used: usize) -> usize
-    ensures { Added (bytes_of "One_To_One pattern requires equal array sizes (source=" ++ digits a ++ bytes_of ", destination=" ++ digits b ++ bytes_of ")")
-        text.old used text.new result }
+fn put_sizes(a: u32, b: u32, out: &mut Output)
+    ensures { Put (bytes_of "One_To_One pattern requires equal array sizes (source=" ++ digits a ++ bytes_of ", destination=" ++ digits b ++ bytes_of ")")
+        out.old out.new }
 {
-    let first = lent::append_bytes(
-        text,
-        used,
-        b"One_To_One pattern requires equal array sizes (source=",
-    );
-    let second = decimal::put_decimal(a as usize, b"", text, first);
-    let third = lent::append_bytes(text, second, b", destination=");
-    let fourth = decimal::put_decimal(b as usize, b"", text, third);
-    lent::append_bytes(text, fourth, b")")
+    out.put(b"One_To_One pattern requires equal array sizes (source=");
+    decimal::put_decimal(a as usize, b"", out);
+    out.put(b", destination=");
+    decimal::put_decimal(b as usize, b"", out);
+    out.put(b")");
 }
 
 // Prints the message of a diagnostic, by its code: `conn` is its connection's name, a and b its two numbers.
-fn put_message(
-    bytes: &[u8],
-    n: &[u32],
-    conn: &[u8],
-    code: u32,
-    a: u32,
-    b: u32,
-    text: &mut [u8],
-    used: usize,
-) -> usize
-    ensures { Added (message (names_in bytes.now n.now) conn.now code a b) text.old used text.new result }
+fn put_message(m: &Tables, conn: &[u8], code: u32, a: u32, b: u32, out: &mut Output)
+    ensures { Put (message (model m.now) conn.now code a b) out.old out.new }
 {
     if code == 0 {
-        return used;
+        return;
     }
-    let name = name::name_of(bytes, n, a);
+    let name = name::name_of(m, a);
     if 4 < code {
-        let first = lines::put_between(
+        lines::put_between(
             b"feature group connection '",
             conn,
             b"': source feature '",
-            text,
-            used,
+            out,
         );
-        return lines::put_between(
+        lines::put_between(
             b"",
             name,
             b"' has no matching destination feature (STPA-REQ-011)",
-            text,
-            first,
+            out,
         );
+        return;
     }
-    let first = lines::put_between(b"connection '", conn, b"': ", text, used);
-    if code == 1 {
-        return lent::append_bytes(text, first, b"missing endpoint");
+    lines::put_between(b"connection '", conn, b"': ", out);
+    match code {
+        1 => out.put(b"missing endpoint"),
+        2 => lines::put_between(b"unresolved source subcomponent '", name, b"'", out),
+        3 => lines::put_between(b"unresolved destination subcomponent '", name, b"'", out),
+        _ => put_sizes(a, b, out),
     }
-    if code == 2 {
-        return lines::put_between(b"unresolved source subcomponent '", name, b"'", text, first);
-    }
-    if code == 3 {
-        return lines::put_between(
-            b"unresolved destination subcomponent '",
-            name,
-            b"'",
-            text,
-            first,
-        );
-    }
-    put_sizes(a, b, text, first)
 }
 
 // The name of connection i.
-fn connection_name<'a>(bytes: &'a [u8], n: &[u32], x: &[u32], i: u32) -> &'a [u8]
-    ensures { result.now ≡ name_of (connections_at bytes n x) (x_name (connections_at bytes n x) i) }
+fn connection_name<'a>(m: &Tables<'a>, i: u32) -> &'a [u8]
+    ensures { result.now ≡ name_of (model m.now) (x_name (model m.now) i) }
 {
-    name::name_of(bytes, n, connection::name_of(x, i as usize))
+    name::name_of(m, connection::name_of(m, i as usize))
 }
 
 // Prints the path names of a diagnostic: of code 5 the connection's and the feature's, else the owner's and the connection's.
-fn put_path_names(
-    bytes: &[u8],
-    n: &[u32],
-    c: &[u32],
-    x: &[u32],
-    block: &[u32],
-    text: &mut [u8],
-    used: usize,
-) -> usize
-    ensures { Added (each (text_line (bytes_of "@")) (path_names (wiring_at bytes n c x) (diag_back block.now) (ltb (get_or block.now 0 0) 5)))
-        text.old used text.new result }
+fn put_path_names(m: &Tables, block: &[u32; DIAGNOSTIC_NUMBERS], out: &mut Output)
+    ensures { Put (each (text_line (bytes_of "@")) (path_names (model m.now) (diag_back block.now) (ltb (get_or block.now 0 0) 5)))
+        out.old out.new }
 {
-    let conn = lent::number_at(block, 1);
-    let name = connection_name(bytes, n, x, conn);
-    if lent::number_at(block, 0) < 5 {
-        let owner = connection::owner_of(x, conn as usize);
-        let above = name::name_of(bytes, n, component::name_of(c, owner as usize));
-        let first = lines::put_between(b"@ ", above, b"\n", text, used);
-        return lines::put_between(b"@ ", name, b"\n", text, first);
+    let name = connection_name(m, block[1]);
+    if block[0] < 5 {
+        let owner = connection::owner_of(m, block[1] as usize);
+        let above = name::name_of(m, component::name_of(m, owner as usize));
+        lines::put_between(b"@ ", above, b"\n", out);
+        lines::put_between(b"@ ", name, b"\n", out);
+        return;
     }
-    let feature = name::name_of(bytes, n, lent::number_at(block, 2));
-    let first = lines::put_between(b"@ ", name, b"\n", text, used);
-    lines::put_between(b"@ ", feature, b"\n", text, first)
+    let feature = name::name_of(m, block[2]);
+    lines::put_between(b"@ ", name, b"\n", out);
+    lines::put_between(b"@ ", feature, b"\n", out);
 }
 
 // Prints a diagnostic from its block of numbers.
-pub fn put_diagnostic(
-    bytes: &[u8],
-    n: &[u32],
-    c: &[u32],
-    x: &[u32],
-    block: &[u32],
-    text: &mut [u8],
-    used: usize,
-) -> usize
-    requires { length block.now ≡ diag_numbers }
-    ensures { Added (diag_text (wiring_at bytes n c x) (diag_back block.now)) text.old used text.new result }
+pub fn put_diagnostic(m: &Tables, block: &[u32; DIAGNOSTIC_NUMBERS], out: &mut Output)
+    ensures { Put (diag_text (model m.now) (diag_back block.now)) out.old out.new }
 {
-    let name = connection_name(bytes, n, x, block[1]);
-    let marked = lent::append_bytes(text, used, b"D");
-    let numbered = decimal::put_columns(block, text, marked);
-    let begun = lent::append_bytes(text, numbered, b"\n! ");
-    let told = put_message(bytes, n, name, block[0], block[2], block[3], text, begun);
-    let ended = lent::append_bytes(text, told, b"\n");
-    put_path_names(bytes, n, c, x, block, text, ended)
+    out.put(b"D");
+    decimal::put_columns(block, out);
+    out.put(b"\n! ");
+    put_message(
+        m,
+        connection_name(m, block[1]),
+        block[0],
+        block[2],
+        block[3],
+        out,
+    );
+    out.put(b"\n");
+    put_path_names(m, block, out);
 }

@@ -1,27 +1,26 @@
 -- The rows of chains behind a path: where a chain ends, and one step on. Assumes nothing.
-use mathlib.Core.Path.{◌≡◌, refl, sym, ap, ap₂, ◌∙◌, subst}
+use mathlib.Core.Path.{◌≡◌, refl, sym, ap, ap₂, ◌∙◌}
 use mathlib.Core.List.{List, [], ◌∷◌, ◌++◌, map, append_assoc, append-nil}
 use Prim.Native.Nat.{ℕ, ◌+◌, ◌-◌, ◌*◌, ◌/◌, ◌<◌, ◌≤◌}
-use native.Mathlib.Numerals.{add-one}
 use native.Mathlib.Omega.{arith}
-use lib.ListN.{length, take, set}
-use lib.Seq.{sets, take-suc-set}
+use lib.ListN.{length}
+use lib.Seq.{sets}
+use Rattle.std.specs.Prelude.{Option, Some, None}
 use Rattle.as5506.specs.Lists.{each, padded}
 use Rattle.as5506.specs.Tables.{Tables, source, destination, x_name, x_kind}
 use Rattle.as5506.specs.Tables.{Side as TheSide}
-use Rattle.as5506.specs.Tracing.{Step as TheStep, Chain, Traced, stop, push, chains, append_new, step_limit}
+use Rattle.as5506.specs.Tracing.{Step as TheStep, Chain, Traced, stop, push, chains, append_new}
 use Rattle.as5506.specs.Layout.{traced_block, path_places, row_numbers}
+use Rattle.as5506.proofs.Laws.{each_append, padded-length, each-one}
 use Rattle.lent.proofs.Sets.{sets-append}
 use Rattle.columns.specs.declared.Side.{Side}
 use Rattle.columns.specs.declared.Side.TheVariants.{Source, Destination}
-use Rattle.trace.specs.declared.Wrote.{Wrote}
-use Rattle.trace.specs.declared.Wrote.TheVariants.{Count, Full}
 use Rattle.columns.specs.Side.{side_of}
-use Rattle.trace.specs.Steps.{steps_from, step}
-use Rattle.trace.specs.Ends.{chain_places, the_end, behind, row_along, rows_at_end, rows_behind, Fit}
+use Rattle.trace.specs.declared.steps.Step.{Step}
+use Rattle.trace.specs.declared.end.End.{End}
+use Rattle.trace.specs.Steps.{steps_from, after_step, Within}
+use Rattle.trace.specs.Ends.{the_end, behind, row_along, rows_at_end, rows_behind, Fits}
 use Rattle.trace.specs.Writing.{Written}
-use Rattle.as5506.proofs.Laws.{each_append, padded-length, each-one}
-use Rattle.lent.specs.Lent.{connections_in, wiring_in}
 use Rattle.trace.proofs.Writing.{Remains, written_all, remains-start, remains-turn, remains-full, remains-end}
 use Rattle.trace.proofs.Chains.{via, chains-on}
 
@@ -31,28 +30,22 @@ use Rattle.trace.proofs.Chains.{via, chains-on}
 abbrev pub head : ℕ → ℕ → ℕ → ℕ → ℕ → ℕ → ℕ → ℕ → List ℕ
 head conn kind src dst name a b len = conn ∷ kind ∷ src ∷ dst ∷ name ∷ a ∷ b ∷ len ∷ []
 
-module _ (m : Tables) (x : ℕ) (s d : Chain) (kind name len : ℕ) (places : List ℕ)
-    (k : kind ≡ x_kind m x) (n : name ≡ x_name m x) (l : len ≡ length (append_new s.path d.path)) (p : places ≡ padded path_places (append_new s.path d.path)) where
+module _ (m : Tables) (x : ℕ) (s d : Chain) (path : List ℕ) (kind name len : ℕ) (places : List ℕ)
+    (j : path ≡ append_new s.path d.path) (k : kind ≡ x_kind m x) (n : name ≡ x_name m x) (l : len ≡ length path) (p : places ≡ padded path_places path) where
   block-is : head x kind s.comp d.comp name s.feat d.feat len ++ places ≡ traced_block m (row_along m x s d)
   unfolding traced_block row_along
-  block-is = rw (k, n, l, p)
+  block-is = rw (k, n, l, p, j)
 
   pub row_written : (out : List ℕ) (count : ℕ) (out₁ out₂ : List ℕ) → len ≤ path_places → count < length out / row_numbers
       → out₁ ≡ sets out (count * row_numbers) (head x kind s.comp d.comp name s.feat d.feat len) → out₂ ≡ sets out₁ (count * row_numbers + 8) places
-      → Written row_numbers (traced_block m) (row_along m x s d ∷ []) out count (Count (count + 1)) out₂
+      → Written row_numbers (traced_block m) (row_along m x s d ∷ []) out count (Some (count + 1)) out₂
   row_written out count out₁ out₂ h g e f =
       let b : each (traced_block m) (row_along m x s d ∷ []) ≡ head x kind s.comp d.comp name s.feat d.feat len ++ places = append-nil (traced_block m (row_along m x s d)) ∙ sym block-is in
-      let z : length places ≡ path_places = ap length p ∙ padded-length path_places (append_new s.path d.path) (omega (arith, l)) in
+      let z : length places ≡ path_places = ap length p ∙ padded-length path_places path (omega (arith, l)) in
       written_all row_numbers (traced_block m) (row_along m x s d ∷ []) out count (count + 1) refl (omega arith) out₂
       (ap length b ∙ omega (arith, z))
       (f ∙ ap (λ (o : List ℕ). sets o (count * row_numbers + 8) places) e
       ∙ sym (sets-append (head x kind s.comp d.comp name s.feat d.feat len) places out (count * row_numbers)) ∙ ap (sets out (count * row_numbers)) (sym b))
-
-pub row_same : (bytes n c x : List ℕ) (v : ℕ) (s d : Chain) (out : List ℕ) (count : ℕ) (q : Wrote) (out' : List ℕ)
-    → Written row_numbers (traced_block (connections_in [] [] x)) (row_along (connections_in [] [] x) v s d ∷ []) out count q out'
-    → Written row_numbers (traced_block (wiring_in bytes n c x)) (row_along (wiring_in bytes n c x) v s d ∷ []) out count q out'
-unfolding traced_block row_along
-row_same bytes n c x v s d out count q out' w = w
 
 -- ---- chains behind a path
 
@@ -83,54 +76,60 @@ rows-over m x k o p c f =
 
 -- ---- where the tracer's chain ends
 
-module _ (m : Tables) (x k : ℕ) (o : Chain) (p : List ℕ) (c f left : ℕ) (out : List ℕ) (count : ℕ) (q : Wrote) (out' : List ℕ) where
-  pub ends-destination : (side : Side) → side ≡ Destination → chains m (side_of side) left c f ≡ stop c f ∷ []
+-- of the destination it asks for no other chain's steps
+rows-any : (m : Tables) (x k h : ℕ) (o : Chain) (p : List ℕ) (es : List Chain) → rows_behind m destination x k o p es ≡ rows_behind m destination x h o p es
+unfolding rows_behind rows_at_end
+rows-any m x k h o p es = refl
+
+module _ (m : Tables) (x k : ℕ) (o : Chain) (p : List ℕ) (c f left : ℕ) (out : List ℕ) (count : ℕ) (q : Option ℕ) (out' : List ℕ) where
+  pub ends_destination : (side : Side) → side ≡ Destination → chains m (side_of side) left c f ≡ stop c f ∷ []
       → Written row_numbers (traced_block m) (row_along m x o (the_end c f p) ∷ []) out count q out'
       → Written row_numbers (traced_block m) (rows_behind m (side_of side) x k o p (chains m (side_of side) left c f)) out count q out'
-  ends-destination side e h w = rw (h, e, rows_last m x k o p c f) w
+  ends_destination side e h w = rw (h, e, rows_last m x k o p c f) w
 
-  pub ends-source : (side : Side) → side ≡ Source → chains m (side_of side) left c f ≡ stop c f ∷ []
-      → Written row_numbers (traced_block m) (rows_behind m destination x k (the_end c f p) o.path (chains m destination k o.comp o.feat)) out count q out'
+  pub ends_source : (side : Side) → side ≡ Source → chains m (side_of side) left c f ≡ stop c f ∷ []
+      → Written row_numbers (traced_block m) (rows_behind m destination x left (the_end c f p) o.path (chains m destination k o.comp o.feat)) out count q out'
       → Written row_numbers (traced_block m) (rows_behind m (side_of side) x k o p (chains m (side_of side) left c f)) out count q out'
-  ends-source side e h w = rw (h, e, rows-over m x k o p c f) w
+  ends_source side e h w = rw (h, e, rows-over m x k o p c f, rows-any m x k left (the_end c f p) o.path (chains m destination k o.comp o.feat)) w
 
 -- ---- the tracer's loop: `todo` are the steps that are left
 
 abbrev pub left_rows : Tables → TheSide → ℕ → ℕ → Chain → List ℕ → ℕ → List TheStep → List Traced
 left_rows m s x k o p left todo = rows_behind m s x k o p (each (via m s (left - 1)) todo)
 
-module _ (m : Tables) (s : TheSide) (x k : ℕ) (o : Chain) (c f left : ℕ) where
-  module _ (p out₀ : List ℕ) (count : ℕ) where
-    pub trace-start : (i j g : ℕ) → count ≤ length out₀ / row_numbers
-        → (left ≡ 0 → ⊥) × (steps_from m s c f 0 0 ≡ step i j g ∷ steps_from m s c f i (j + 1))
-        → Remains row_numbers (traced_block m) (rows_behind m s x k o p (chains m s left c f)) out₀ count out₀ count (left_rows m s x k o p left (steps_from m s c f 0 0))
-    trace-start i j g h b = rw (chains-on m s left c f b.0 _ _ b.1) (remains-start row_numbers (traced_block m) _ out₀ count h)
+module _ (m : Tables) (s : TheSide) (x k : ℕ) (o : Chain) (p : List ℕ) (left c f : ℕ) (out₀ : List ℕ) (count : ℕ) where
+  -- of the rows of the chains behind p, those of the steps that an answer stands for are still to be written
+  pub record Going (out : List ℕ) (done : ℕ) (next : Option Step) : Type 0 where
+    pub remains : Remains row_numbers (traced_block m) (rows_behind m s x k o p (chains m s left c f)) out₀ count out done (left_rows m s x k o p left (after_step m s c f next))
+    pub within : Within m next
 
-    pub trace-end : (out : List ℕ) (done : ℕ) (todo : List TheStep) → Remains row_numbers (traced_block m) (rows_behind m s x k o p (chains m s left c f)) out₀ count out done (left_rows m s x k o p left todo)
-        → todo ≡ [] → Written row_numbers (traced_block m) (rows_behind m s x k o p (chains m s left c f)) out₀ count (Count done) out
-    unfolding rows_behind
-    trace-end out done todo r e = remains-end row_numbers (traced_block m) _ out₀ count out done _ r (ap (left_rows m s x k o p left) e)
+  pub going_start : (st : Step) → Within m (Some st) → count ≤ length out₀ / row_numbers → (0 < left) × (steps_from m s c f 0 0 ≡ after_step m s c f (Some st)) → Going out₀ count (Some st)
+  going_start st v h b =
+      record { within = v; remains = rw (chains-on m s left c f b.0 _ _ b.1, b.1) (remains-start row_numbers (traced_block m) _ out₀ count h) }
 
-  module _ (path : List ℕ) (len : ℕ) (out₀ : List ℕ) (count : ℕ) (out : List ℕ) (done : ℕ) (todo l : List TheStep) (st : TheStep)
-      (r : Remains row_numbers (traced_block m) (rows_behind m s x k o (take len path) (chains m s left c f)) out₀ count out done (left_rows m s x k o (take len path) left todo))
-      (e : todo ≡ st ∷ l) (h : len < length path)
-      (q : Wrote) (out' : List ℕ)
-      (w : Written row_numbers (traced_block m) (rows_behind m s x k o (take (len + 1) (set path len st.conn)) (chains m s (left - 1) st.child st.feat)) out done q out') where
-    split : left_rows m s x k o (take len path) left todo
-        ≡ rows_behind m s x k o (take (len + 1) (set path len st.conn)) (chains m s (left - 1) st.child st.feat) ++ left_rows m s x k o (take len path) left l
+  pub going_end : (out : List ℕ) (done : ℕ) (next : Option Step) → Going out done next → next ≡ None
+      → Written row_numbers (traced_block m) (rows_behind m s x k o p (chains m s left c f)) out₀ count (Some done) out
+  unfolding rows_behind
+  going_end out done next g e = remains-end row_numbers (traced_block m) _ out₀ count out done _ g.remains (ap (λ (q : Option Step). left_rows m s x k o p left (after_step m s c f q)) e)
+
+  module _ (out : List ℕ) (done : ℕ) (next : Option Step) (g : Going out done next) (st : Step) (e : next ≡ Some st) (p' : List ℕ) (l : p' ≡ p ++ (st.row ∷ []))
+      (q : Option ℕ) (out' : List ℕ) (w : Written row_numbers (traced_block m) (rows_behind m s x k o p' (chains m s (left - 1) st.child st.feature)) out done q out') where
+    split : left_rows m s x k o p left (after_step m s c f next)
+        ≡ rows_behind m s x k o p' (chains m s (left - 1) st.child st.feature) ++ left_rows m s x k o p left (steps_from m s c f st.row (st.child + 1))
     unfolding via
     split =
-        ap (left_rows m s x k o (take len path) left) e
-        ∙ rows_append m s x k o (take len path) (map (push st.conn) (chains m s (left - 1) st.child st.feat)) (each (via m s (left - 1)) l)
-        ∙ ap (λ (r : List Traced). r ++ left_rows m s x k o (take len path) left l)
-        (rows-along m s x k o (take len path) st.conn (chains m s (left - 1) st.child st.feat)
-        ∙ ap (λ (p : List ℕ). rows_behind m s x k o p (chains m s (left - 1) st.child st.feat)) (sym (ap (λ (n : ℕ). take n (set path len st.conn)) (add-one len) ∙ take-suc-set path len st.conn h)))
+        ap (λ (q : Option Step). left_rows m s x k o p left (after_step m s c f q)) e
+        ∙ rows_append m s x k o p (map (push st.row) (chains m s (left - 1) st.child st.feature)) (each (via m s (left - 1)) (steps_from m s c f st.row (st.child + 1)))
+        ∙ ap (λ (r : List Traced). r ++ left_rows m s x k o p left (steps_from m s c f st.row (st.child + 1)))
+        (rows-along m s x k o p st.row (chains m s (left - 1) st.child st.feature)
+        ∙ ap (λ (r : List ℕ). rows_behind m s x k o r (chains m s (left - 1) st.child st.feature)) (sym l))
 
-    pub trace-turn : (n : ℕ) → q ≡ Count n → Remains row_numbers (traced_block m) (rows_behind m s x k o (take len path) (chains m s left c f)) out₀ count out' n (left_rows m s x k o (take len path) left l)
-    trace-turn = remains-turn row_numbers (traced_block m) _ out₀ count out done _ r _ _ split q out' w
+    pub going_on : (n : ℕ) (next' : Option Step) → Within m next' → q ≡ Some n → steps_from m s c f st.row (st.child + 1) ≡ after_step m s c f next' → Going out' n next'
+    going_on n next' v h a =
+        record { within = v; remains = rw (← a) (remains-turn row_numbers (traced_block m) _ out₀ count out done _ g.remains _ _ split q out' w n h) }
 
-    pub trace-full : q ≡ Full → Written row_numbers (traced_block m) (rows_behind m s x k o (take len path) (chains m s left c f)) out₀ count Full out'
-    trace-full = remains-full row_numbers (traced_block m) _ out₀ count out done _ r _ _ split q out' w
+    pub going_full : q ≡ None → Written row_numbers (traced_block m) (rows_behind m s x k o p (chains m s left c f)) out₀ count None out'
+    going_full = remains-full row_numbers (traced_block m) _ out₀ count out done _ g.remains _ _ split q out' w
 
 -- ---- the tracer ends: the source's steps, then the destination's
 
@@ -140,21 +139,6 @@ phase Destination = 0
 
 -- ---- paths fit
 
-pub fit-less : (side : Side) (len left len' left' o k : ℕ) → Fit side len left o k → len' + left' ≤ len + left → Fit side len' left' o k
-unfolding Fit
-fit-less Source len left len' left' o k f h = (omega (arith, f.0, h), f.1)
-fit-less Destination len left len' left' o k f h = (omega (arith, f.0, h), f.1)
-
-pub fit-room : (side : Side) (len left o k : ℕ) → Fit side len left o k → (left ≡ 0 → ⊥) → len < chain_places
-unfolding Fit
-fit-room Source len left o k f h = omega (arith, f.0, h)
-fit-room Destination len left o k f h = omega (arith, f.0, h)
-
--- from a source chain's end to the destination's start
-pub fit-over : (side : Side) (len left o k : ℕ) → side ≡ Source → Fit side len left o k → Fit Destination o k len k × (k ≤ step_limit)
-unfolding Fit
-fit-over side len left o k e f = let g : Fit Source len left o k = subst (λ (t : Side). Fit t len left o k) e f in ((g.1, omega (arith, g.0)), omega (arith, g.1))
-
-pub fit_row : (side : Side) (len left o k : ℕ) → side ≡ Destination → Fit side len left o k → (o ≤ chain_places) × (len ≤ step_limit)
-unfolding Fit
-fit_row side len left o k e f = let g : Fit Destination len left o k = subst (λ (t : Side). Fit t len left o k) e f in (g.1, omega (arith, g.0))
+pub fits_on : (side : Side) (here deeper other : End) → Fits side here other → length deeper.path + deeper.left ≤ length here.path + here.left → Fits side deeper other
+fits_on Source here deeper other f h = f
+fits_on Destination here deeper other f h = omega (arith, f, h)

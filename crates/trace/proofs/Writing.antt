@@ -6,11 +6,10 @@ use native.Mathlib.Nat.{add-mul, add-zero, zero-mul}
 use native.Mathlib.Omega.{arith}
 use lib.ListN.{length, length-append, take}
 use lib.Seq.{sets, length-sets, take_all, take-append-le, take-append-add}
+use Rattle.std.specs.Prelude.{Option, Some, None}
 use Rattle.as5506.specs.Lists.{each}
 use Rattle.as5506.proofs.Laws.{each_append}
 use Rattle.lent.proofs.Sets.{sets-append}
-use Rattle.trace.specs.declared.Wrote.{Wrote}
-use Rattle.trace.specs.declared.Wrote.TheVariants.{Count, Full}
 use Rattle.trace.specs.Writing.{Tells, fitting, Written}
 
 -- Of the entries `all`, to be written behind `count` blocks of out₀, the entries `left` are still to be written behind `done` blocks of out: `put` are
@@ -32,11 +31,11 @@ module _ {A : Type 0} (w : ℕ) (f : A → List ℕ) where
     unfolding fitting
     all_fit = take_all (length out / w - count) l (omega (arith, e, h))
 
-    pub written_all : (out' : List ℕ) → length (each f l) ≡ length l * w → out' ≡ sets out (count * w) (each f l) → Written w f l out count (Count r) out'
+    pub written_all : (out' : List ℕ) → length (each f l) ≡ length l * w → out' ≡ sets out (count * w) (each f l) → Written w f l out count (Some r) out'
     unfolding Tells
     written_all out' s u = record { tells = (e, h); whole = rw all_fit s; holds = rw all_fit u }
 
-  module _ (l : List A) (out : List ℕ) (count r : ℕ) (out' : List ℕ) (v : Written w f l out count (Count r) out') where
+  module _ (l : List A) (out : List ℕ) (count r : ℕ) (out' : List ℕ) (v : Written w f l out count (Some r) out') where
     pub counts : (r ≡ count + length l) × (r ≤ length out / w)
     unfolding Tells
     counts = v.tells
@@ -52,23 +51,23 @@ module _ {A : Type 0} (w : ℕ) (f : A → List ℕ) where
 
   -- ---- what a call that found no room says
 
-  pub overs : (l : List A) (out : List ℕ) (count : ℕ) (out' : List ℕ) → Written w f l out count Full out' → length out / w < count + length l
+  pub overs : (l : List A) (out : List ℕ) (count : ℕ) (out' : List ℕ) → Written w f l out count None out' → length out / w < count + length l
   unfolding Tells
   overs l out count out' v = v.tells
 
   -- there is no room for a single one
-  pub written_over : (a : A) (out : List ℕ) (count : ℕ) → length out / w ≤ count → Written w f (a ∷ []) out count Full out
+  pub written_over : (a : A) (out : List ℕ) (count : ℕ) → length out / w ≤ count → Written w f (a ∷ []) out count None out
   unfolding Tells fitting
   written_over a out count h =
       let z : length out / w - count ≡ 0 = omega (arith, h) in
       record { tells = omega (arith, h); whole = rw z (sym (zero-mul w)); holds = rw z refl }
 
   -- nothing to write
-  pub written_none : (out : List ℕ) (count : ℕ) → count ≤ length out / w → Written w f [] out count (Count count) out
+  pub written_none : (out : List ℕ) (count : ℕ) → count ≤ length out / w → Written w f [] out count (Some count) out
   written_none out count h = written_all [] out count count (sym (add-zero count)) h out (sym (zero-mul w)) refl
 
   -- the same entries
-  pub written_as : (l r : List A) (out : List ℕ) (count : ℕ) (q : Wrote) (out' : List ℕ) → l ≡ r → Written w f r out count q out' → Written w f l out count q out'
+  pub written_as : (l r : List A) (out : List ℕ) (count : ℕ) (q : Option ℕ) (out' : List ℕ) → l ≡ r → Written w f r out count q out' → Written w f l out count q out'
   written_as l r out count q out' e v = subst (λ (t : List A). Written w f t out count q out') (sym e) v
 
   module _ (all : List A) (out₀ : List ℕ) (count : ℕ) where
@@ -95,8 +94,8 @@ module _ {A : Type 0} (w : ℕ) (f : A → List ℕ) where
             ∙ sym (sets-append (each f m.put) (each f t) out₀ (count * w)) ∙ ap (sets out₀ (count * w)) (sym joined)
 
       -- a call writes a, the first of what is left
-      module _ (a b : List A) (e : left ≡ a ++ b) (q : Wrote) (out' : List ℕ) (v : Written w f a out done q out') where
-        turned : (r : ℕ) → Written w f a out done (Count r) out' → Remains w f all out₀ count out' r b
+      module _ (a b : List A) (e : left ≡ a ++ b) (q : Option ℕ) (out' : List ℕ) (v : Written w f a out done q out') where
+        turned : (r : ℕ) → Written w f a out done (Some r) out' → Remains w f all out₀ count out' r b
         turned r v =
             let k = counts a out done r out' v in
             let u = holds-all a out done r out' v in
@@ -111,8 +110,8 @@ module _ {A : Type 0} (w : ℕ) (f : A → List ℕ) where
               holds = joined-holds a out' s u;
             }
 
-        pub remains-turn : (r : ℕ) → q ≡ Count r → Remains w f all out₀ count out' r b
-        remains-turn r h = turned r (subst (λ (t : Wrote). Written w f a out done t out') h v)
+        pub remains-turn : (r : ℕ) → q ≡ Some r → Remains w f all out₀ count out' r b
+        remains-turn r h = turned r (subst (λ (t : Option ℕ). Written w f a out done t out') h v)
 
         -- of all entries those find room that are written, and of a those that find room behind them
         fit-joined : length out / w < done + length a → fitting w all out₀ count ≡ m.put ++ fitting w a out done
@@ -124,7 +123,7 @@ module _ {A : Type 0} (w : ℕ) (f : A → List ℕ) where
             ap (λ (k : ℕ). take k all) n ∙ ap (take (length m.put + (length out / w - done))) (m.parts ∙ ap (λ (t : List A). m.put ++ t) e)
             ∙ take-append-add m.put (a ++ b) (length out / w - done) ∙ ap (λ (t : List A). m.put ++ t) (take-append-le (length out / w - done) a b l)
 
-        overrun : Written w f a out done Full out' → Written w f all out₀ count Full out'
+        overrun : Written w f a out done None out' → Written w f all out₀ count None out'
         unfolding Tells
         overrun v =
             let h = overs a out done out' v in
@@ -136,10 +135,10 @@ module _ {A : Type 0} (w : ℕ) (f : A → List ℕ) where
               holds = rw (fit-joined h) (joined-holds (fitting w a out done) out' v.whole v.holds);
             }
 
-        pub remains-full : q ≡ Full → Written w f all out₀ count Full out'
-        remains-full h = overrun (subst (λ (t : Wrote). Written w f a out done t out') h v)
+        pub remains-full : q ≡ None → Written w f all out₀ count None out'
+        remains-full h = overrun (subst (λ (t : Option ℕ). Written w f a out done t out') h v)
 
-      pub remains-end : left ≡ [] → Written w f all out₀ count (Count done) out
+      pub remains-end : left ≡ [] → Written w f all out₀ count (Some done) out
       remains-end e =
           let p : all ≡ m.put = m.parts ∙ ap (λ (t : List A). m.put ++ t) e ∙ append-nil m.put in
           written_all all out₀ count done (m.counted ∙ ap (λ (t : List A). count + length t) (sym p)) m.room out

@@ -1,12 +1,12 @@
 -- What the tracer writes: the rows of chains that go on behind a path. Assumes nothing.
-use Rattle.std.specs.Prelude.{◌≡◌, List, [], ◌∷◌, ◌++◌, map, ℕ, ◌+◌, ◌≤◌, length, take}
+use Rattle.std.specs.Prelude.{List, [], ◌∷◌, ◌++◌, map, ℕ, ◌+◌, ◌≤◌, length}
 use Rattle.as5506.specs.Lists.{each}
 use Rattle.as5506.specs.Tables.{Tables, source, destination, x_kind}
 use Rattle.as5506.specs.Tables.{Side as TheSide}
 use Rattle.as5506.specs.Tracing.{Chain as TheEnd, Traced, append_new, chains, step_limit}
 use Rattle.columns.specs.declared.Side.{Side}
 use Rattle.columns.specs.declared.Side.TheVariants.{Source, Destination}
-use Rattle.trace.specs.declared.End.{End}
+use Rattle.trace.specs.declared.end.End.{End}
 
 -- places for a connection and the steps of one chain
 abbrev pub chain_places : ℕ
@@ -18,7 +18,7 @@ the_end c f p = record { comp = c; feat = f; path = p }
 
 -- the end that a value of the code stands for
 abbrev pub end_of : End → TheEnd
-end_of e = the_end e.component e.feature (take e.len e.path)
+end_of e = the_end e.component e.feature e.path
 
 -- a chain behind the connections p
 abbrev pub behind : List ℕ → TheEnd → TheEnd
@@ -39,18 +39,7 @@ rows_at_end m destination x k o e = row_along m x o e ∷ []
 unfoldable pub rows_behind : Tables → TheSide → ℕ → ℕ → TheEnd → List ℕ → List TheEnd → List Traced
 rows_behind m s x k o p es = each (λ e. rows_at_end m s x k o (behind p e)) es
 
--- an end whose path has all its places, and at most `most` of them taken
-pub record Held (e : End) (most : ℕ) : Type 0 where
-  pub places : length e.path ≡ chain_places
-  pub taken : e.len ≤ most
-
--- that paths fit: `len` connections so far and at most `left` more, `other` those of the other end, and where that is still to be traced at most k more
-unfoldable pub Fit : Side → ℕ → ℕ → ℕ → ℕ → Type 0
-Fit Source len left other k = (len + left ≤ chain_places) × (other + k ≤ step_limit)
-Fit Destination len left other k = (len + left ≤ step_limit) × (other ≤ chain_places)
-
--- what the tracer asks of its ends: `here`, where at most `left` steps go on, and the other, o, where at most k do
-pub record Fits (side : Side) (here : End) (left : ℕ) (o : End) (k : ℕ) : Type 0 where
-  pub places : length here.path ≡ chain_places
-  pub other-places : length o.path ≡ chain_places
-  pub steps : Fit side here.len left o.len k
+-- that a row's path fits: of the destination's end, whichever it is, the connections so far and the steps that go on are no more than a chain's steps
+abbrev pub Fits : Side → End → End → Type 0
+Fits Source here other = length other.path + other.left ≤ step_limit
+Fits Destination here other = length here.path + here.left ≤ step_limit

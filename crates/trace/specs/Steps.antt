@@ -1,13 +1,11 @@
 -- The steps that are left from an X row and a child on: what the scan for the next step keeps. From 0 on are all children, from j + 1 on those behind
 -- child j. Assumes nothing.
-use Rattle.std.specs.Prelude.{Bool, true, false, ◌&&◌, cond, ◌≡◌, List, [], ◌∷◌, ◌++◌, map, ℕ, ◌+◌, ◌-◌, ◌<◌, eqb, ltb}
+use Rattle.std.specs.Prelude.{Bool, true, false, ◌&&◌, cond, ◌≡◌, List, [], ◌∷◌, ◌++◌, map, ℕ, ◌+◌, ◌-◌, ◌<◌, eqb, ltb, Option, Some, None}
 use Rattle.as5506.specs.Lists.{span, each}
 use Rattle.as5506.specs.Tables.{Tables, name_of, c_count, x_count, x_owner, x_sub, Side}
 use Rattle.as5506.specs.Tracing.{Step as TheStep, step_to, leads, chains, stop}
-use Rattle.lent.specs.Lent.{components_in, connections_in}
 use Rattle.children.specs.Found.{found_from}
-use Rattle.trace.specs.declared.Step.{Step}
-use Rattle.trace.specs.declared.Step.TheVariants.{At, Done}
+use Rattle.trace.specs.declared.steps.Step.{Step}
 
 -- connection i is one of component p and leads from its feature f towards side s
 unfoldable pub is_step : Tables → Side → ℕ → ℕ → ℕ → Bool
@@ -31,21 +29,21 @@ unfoldable pub steps_from : Tables → Side → ℕ → ℕ → ℕ → ℕ → 
 steps_from m s p f i j =
     cond (ltb i (x_count m)) (steps_at m s p f i j ++ each (λ k. steps_at m s p f k 0) (span (i + 1) (x_count m - (i + 1)))) []
 
--- the step over connection x to child i and its feature f
-abbrev pub step : ℕ → ℕ → ℕ → TheStep
-step x i f = record { conn = x; child = i; feat = f }
+-- the step that a value of the code stands for
+abbrev pub step_of : Step → TheStep
+step_of st = record { conn = st.row; child = st.child; feat = st.feature }
 
 -- the steps that an answer stands for: none, or its own and those behind it
-abbrev pub after_step : Tables → Side → ℕ → ℕ → Step → List TheStep
-after_step m s p f Done = []
-after_step m s p f (At i j g) = step i j g ∷ steps_from m s p f i (j + 1)
+abbrev pub after_step : Tables → Side → ℕ → ℕ → Option Step → List TheStep
+after_step m s p f None = []
+after_step m s p f (Some st) = step_of st ∷ steps_from m s p f st.row (st.child + 1)
 
 -- an answer's connection and child are rows
-abbrev pub Within : List ℕ → List ℕ → Step → Type 0
-Within c x Done = Unit {0}
-Within c x (At i j g) = (i < x_count (connections_in [] [] x)) × (j < c_count (components_in [] [] c))
+abbrev pub Within : Tables → Option Step → Type 0
+Within m None = Unit {0}
+Within m (Some st) = (st.row < x_count m) × (st.child < c_count m)
 
 -- how the chains of at most k steps from (p, f) begin: there is no step to make, or a first one
-unfoldable pub Begins : Tables → Side → ℕ → ℕ → ℕ → Step → Type 0
-Begins m s k p f Done = chains m s k p f ≡ stop p f ∷ []
-Begins m s k p f (At i j g) = (k ≡ 0 → ⊥) × (steps_from m s p f 0 0 ≡ step i j g ∷ steps_from m s p f i (j + 1))
+abbrev pub Begins : Tables → Side → ℕ → ℕ → ℕ → Option Step → Type 0
+Begins m s k p f None = chains m s k p f ≡ stop p f ∷ []
+Begins m s k p f (Some st) = (0 < k) × (steps_from m s p f 0 0 ≡ after_step m s p f (Some st))

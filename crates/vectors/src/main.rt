@@ -8,43 +8,22 @@ use std::io::Read;
 // The most cases of a file.
 const CASES: usize = 100000;
 
-#[derive(Clone, Copy)]
-enum Outcome {
-    Agrees,
-    Differs,
-    NoCase,
-}
-
 fn print(rt: &impl Print, text: &[u8]) {
     let _ = rt.write_all(text);
-}
-
-// Whether all bytes from a place on are zero.
-fn zero_from(text: &[u8], from: usize) -> bool {
-    let mut i = from;
-    while i < text.len() {
-        if text[i] != 0 {
-            return false;
-        }
-        i += 1;
-    }
-    true
 }
 
 // Whether the list of a sheet is the expected text, with zeros behind it.
 fn agrees(sheet: &[u8], expected: &[u8]) -> bool {
     let mut text = [7u8; 8192];
     let used = sheet_list::list_sheet(sheet, &mut text);
-    if !name::same_bytes(lent::part(&text, 0, used), expected) {
-        return false;
-    }
-    zero_from(&text, used)
+    let behind = lent::part(&text, used, text.len());
+    lent::part(&text, 0, used) == expected && behind.iter().all(|b| *b == 0)
 }
 
-// Reads and replays the next case.
-fn next_case(rt: &impl Print, input: &mut impl Read) -> Outcome {
+// Reads and replays the next case: whether it agrees; none where there is none.
+fn next_case(rt: &impl Print, input: &mut impl Read) -> Option<bool> {
     if !cases::begins(input) {
-        return Outcome::NoCase;
+        return None;
     }
     let sheet_length = cases::number(input);
     let text_length = cases::number(input);
@@ -54,36 +33,27 @@ fn next_case(rt: &impl Print, input: &mut impl Read) -> Outcome {
     let mut expected = [0u8; 8192];
     let sheet_end = cases::bytes(input, &mut sheet, sheet_length);
     let text_end = cases::bytes(input, &mut expected, text_length);
-    if agrees(
+    let same = agrees(
         lent::part(&sheet, 0, sheet_end),
         lent::part(&expected, 0, text_end),
-    ) {
-        return Outcome::Agrees;
+    );
+    if !same {
+        print(rt, b"differs:");
+        print(rt, lent::part(&label, 0, label_end));
+        print(rt, b"\n");
     }
-    print(rt, b"differs:");
-    print(rt, lent::part(&label, 0, label_end));
-    print(rt, b"\n");
-    Outcome::Differs
+    Some(same)
 }
 
 fn main(rt: HostRuntime) {
     let mut input = rt.stdin();
-    let mut agreeing: u64 = 0;
-    let mut differing: u64 = 0;
-    let mut left = CASES;
-    let mut more = true;
-    while more && 0 < left {
-        left -= 1;
+    let mut agreeing = 0u64;
+    let mut differing = 0u64;
+    for _case in 0..CASES {
         match next_case(&rt, &mut input) {
-            Outcome::Agrees => {
-                agreeing += 1;
-            }
-            Outcome::Differs => {
-                differing += 1;
-            }
-            Outcome::NoCase => {
-                more = false;
-            }
+            Some(true) => agreeing += 1,
+            Some(false) => differing += 1,
+            None => break,
         }
     }
     let _ = println!(rt; "{agreeing} agree, {differing} differ");

@@ -1,19 +1,15 @@
 -- `fields::put_fields`: the numbers that are left, written from here on, give the table with all of them. Assumes nothing.
-use mathlib.Core.Path.{◌≡◌}
-use Prim.Native.Nat.{◌+◌, ◌≤◌}
-use lib.ListN.{length, drop}
-use lib.Seq.{sets}
+use Rattle.std.proofs.Common.{◌≡◌, ◌+◌, ◌≤◌, length, drop}
+use Rattle.std.proofs.lemmas.List.Edits.{sets}
 use Rattle.as5506.specs.Columns.{line_bytes, row_cells}
 use Rattle.as5506.specs.Fields.{field_numbers}
-use Rattle.fields.specs.Fields.{columns_by}
+use Rattle.fields.specs.Fields.{columns_of}
 use Rattle.fields.proofs.put_fields.Given as goal
 
-abbrev pub invariant-loop-left : goal.invariant-loop-left
-invariant-loop-left l =
-    (l.from + line_bytes (columns_by l.left l.rest) ≡ length l.line)
-    × (l.i + row_cells (columns_by l.left l.rest) ≤ length l.initial.table)
-    × (length l.table ≡ length l.initial.table)
-    × (sets l.table l.i (field_numbers (columns_by l.left l.rest) (drop l.from l.line)) ≡ sets l.initial.table l.at (field_numbers (columns_by l.count l.marks) (drop 1 l.line)))
-
-abbrev pub decreases-loop-left : goal.decreases-loop-left
-decreases-loop-left l = l.left
+abbrev pub invariant-loop-mark : goal.invariant-loop-mark
+invariant-loop-mark l =
+    record {
+      bytes : length l.rest ≡ line_bytes (columns_of (drop l.mark-index l.marks));
+      room : l.place + row_cells (columns_of (drop l.mark-index l.marks)) ≤ length l.table;
+      written : sets l.table l.place (field_numbers (columns_of (drop l.mark-index l.marks)) l.rest) ≡ sets l.initial.table l.at (field_numbers (columns_of l.marks) l.fields);
+    }

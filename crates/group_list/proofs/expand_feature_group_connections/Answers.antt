@@ -1,37 +1,27 @@
 -- `group_list::expand_feature_group_connections` meets its contract. Each way out is a law of proofs/Answers.antt. Assumes nothing.
-use Rattle.as5506.specs.Tables.{tables_of}
+use mathlib.Core.Path.{sym, ◌∙◌}
 use Rattle.tables.proofs.Answers.{accepted-is}
 use Rattle.group_list.proofs.Answers.{tables-refused, given-call, refused-call}
 use Rattle.group_list.proofs.expand_feature_group_connections.Goals as goal
 
-pub returns-in-Refused : goal.returns-in-Refused
-returns-in-Refused c =
-    let a = c.args in
-    let m = tables_of a.bytes.now a.n.now a.c.now a.f.now a.x.now a.p.now a.i.now a.t.now a.q.now a.u.now a.e.now a.r.now a.m.now in
-    tables-refused m a.rows.now a.names.now a.diagnostics.now _ _ _ c.clear.ensures.rows_after c.clear.ensures.names_after c.clear.ensures.diagnostics_after _ _ c.check_tables.ensures c.in-Refused.is
+pub returns-in_err-check_tables : goal.returns-in_err-check_tables
+returns-in_err-check_tables c =
+    let z = c.clear.ensures in
+    tables-refused _ _ _ _ _ _ _ z.rows_after z.names_after z.diagnostics_after _ c.check_tables.ensures _ c.in_err-check_tables.was _ c.from_residual.ensures.1
 
 pub list_accepted-answer-requires : goal.list_accepted-answer-requires
-list_accepted-answer-requires c =
-    let a = c.args in
-    let m = tables_of a.bytes.now a.n.now a.c.now a.f.now a.x.now a.p.now a.i.now a.t.now a.q.now a.u.now a.e.now a.r.now a.m.now in
-    record { ok = accepted-is m _ c.check_tables.ensures c.in_default.is }
+list_accepted-answer-requires c = accepted-is _ _ c.check_tables.ensures c.in_ok-check_tables.was
 
-pub returns-in-Rows : goal.returns-in-Rows
-returns-in-Rows c =
-    let a = c.args in
-    let m = tables_of a.bytes.now a.n.now a.c.now a.f.now a.x.now a.p.now a.i.now a.t.now a.q.now a.u.now a.e.now a.r.now a.m.now in
-    let z = c.clear in
-    let w = c.list_accepted-answer in
-    let l = w.new in
-    given-call m a.rows.now a.names.now a.diagnostics.now z.new.rows z.new.names z.new.diagnostics z.ensures.rows_after z.ensures.names_after z.ensures.diagnostics_after (accepted-is m _ c.check_tables.ensures c.in_default.is) w.result w.ensures.value l.rows l.names l.diagnostics _ _ c.in-Rows.is w.ensures.answer_in w.ensures.answer_in_2 w.ensures.answer_in_3
+pub returns-else-is_err : goal.returns-else-is_err
+returns-else-is_err c =
+    let z = c.clear.ensures in
+    given-call _ _ _ _ _ _ _ z.rows_after z.names_after z.diagnostics_after _ c.check_tables.ensures c.in_ok-check_tables.was _ _ _ _ c.list_accepted-answer.ensures
+    (sym c.is_err.ensures.value ∙ c.if-is_err.false)
 
-pub returns-in-Refused-answer : goal.returns-in-Refused-answer
-returns-in-Refused-answer c =
-    let a = c.args in
-    let m = tables_of a.bytes.now a.n.now a.c.now a.f.now a.x.now a.p.now a.i.now a.t.now a.q.now a.u.now a.e.now a.r.now a.m.now in
-    let z = c.clear in
+pub returns-then-is_err : goal.returns-then-is_err
+returns-then-is_err c =
+    let z = c.clear.ensures in
     let w = c.list_accepted-answer in
-    let l = w.new in
-    let s = w.auto in
-    let y = c.clear-in-Refused-answer in
-    refused-call m a.rows.now a.names.now a.diagnostics.now z.new.rows z.new.names z.new.diagnostics z.ensures.rows_after z.ensures.names_after z.ensures.diagnostics_after (accepted-is m _ c.check_tables.ensures c.in_default.is) w.result w.ensures.value l.rows l.names l.diagnostics _ c.in-Refused-answer.is s.rows s.names s.diagnostics y.new.rows y.new.names y.new.diagnostics y.ensures.rows_after y.ensures.names_after y.ensures.diagnostics_after
+    let y = c.clear-then-is_err.ensures in
+    refused-call _ _ _ _ _ _ _ z.rows_after z.names_after z.diagnostics_after _ c.check_tables.ensures c.in_ok-check_tables.was _ _ _ _ w.ensures
+    (sym c.is_err.ensures.value ∙ c.if-is_err.true) w.auto.rows w.auto.names w.auto.diagnostics _ _ _ y.rows_after y.names_after y.diagnostics_after

@@ -1,66 +1,31 @@
 -- `group_list::list_accepted` meets its contract. Each way out is a law of proofs/Answers.antt. Assumes nothing.
+use Rattle.lent.specs.Model.{model}
 use Rattle.group_list.proofs.Answers.{lists-13, lists-11, composing-room, lists-14, lists-12, lists-all}
 use Rattle.group_list.proofs.Short.{pairs-short, names-short}
-use Rattle.as5506.specs.Tables.{tables_of}
 use Rattle.group_list.proofs.list_accepted.Goals as goal
 
-pub match_all-matched-requires : goal.match_all-matched-requires
-match_all-matched-requires c = c.requires.ok
+pub returns-in_default : goal.returns-in_default
+returns-in_default c = lists-13 _ _ _ _ _ _ _ c.match_all.ensures c.in_default.is _ c.from.ensures _ _
 
 pub returns-then-rows-tally : goal.returns-then-rows-tally
 returns-then-rows-tally c =
-    let a = c.args in
-    let m = tables_of a.bytes.now a.n.now a.c.now a.f.now a.x.now a.p.now a.i.now a.t.now a.q.now a.u.now a.e.now a.r.now a.m.now in
-    let short = pairs-short m c.requires.ok in
-    let w = c.match_all-matched in
-    let l = w.new in
-    let all = lists-11 m a.rows.now a.names.now a.diagnostics.now l.rows l.notes w.result w.ensures _ c.in-Done.is short c.if-rows-tally.true _ c.unplaced-then-rows-tally.ensures _ _ in
-    record { value = all.0; answer_in = all.1.0; answer_in_2 = all.1.1.0; answer_in_3 = all.1.1.1.0; names_stay = all.1.1.1.1 }
+    lists-11 _ _ _ _ _ _ _ c.match_all.ensures _ c.in-Some.is (pairs-short _ c.requires) c.if-rows-tally.true _ c.from-then-rows-tally.ensures _ _
 
 pub compose_names-used-requires : goal.compose_names-used-requires
 compose_names-used-requires c =
-    let a = c.args in
-    let m = tables_of a.bytes.now a.n.now a.c.now a.f.now a.x.now a.p.now a.i.now a.t.now a.q.now a.u.now a.e.now a.r.now a.m.now in
-    let short = pairs-short m c.requires.ok in
-    let w = c.match_all-matched in
-    let l = w.new in
-    (names-short m c.requires.ok, composing-room m a.rows.now a.names.now a.diagnostics.now l.rows l.notes w.result w.ensures _ c.in-Done.is short c.if-rows-tally.false)
+    (names-short _ c.requires, composing-room (model c.args.m.now) c.args.rows.now c.args.names.now c.args.diagnostics.now _ _ _ c.match_all.ensures _ c.in-Some.is (pairs-short _ c.requires) c.if-rows-tally.false)
 
 pub returns-then-names-used : goal.returns-then-names-used
 returns-then-names-used c =
-    let a = c.args in
-    let m = tables_of a.bytes.now a.n.now a.c.now a.f.now a.x.now a.p.now a.i.now a.t.now a.q.now a.u.now a.e.now a.r.now a.m.now in
-    let short = pairs-short m c.requires.ok in
-    let w = c.match_all-matched in
-    let l = w.new in
-    let all = lists-14 m a.rows.now a.names.now a.diagnostics.now l.rows l.notes w.result w.ensures _ c.in-Done.is short c.if-rows-tally.false _ _ _ c.compose_names-used.ensures c.if-names-used.true _ c.unplaced-then-names-used.ensures _ _ _ in
-    record { value = all.0; answer_in = all.1.0; answer_in_2 = all.1.1.0; answer_in_3 = all.1.1.1.0; names_stay = all.1.1.1.1 }
+    lists-14 _ _ _ _ _ _ _ c.match_all.ensures _ c.in-Some.is (pairs-short _ c.requires) c.if-rows-tally.false _ _ _ c.compose_names-used.ensures
+    c.if-names-used.true _ c.from-then-names-used.ensures _ _ _
 
-pub returns-then-diagnostics-noted : goal.returns-then-diagnostics-noted
-returns-then-diagnostics-noted c =
-    let a = c.args in
-    let m = tables_of a.bytes.now a.n.now a.c.now a.f.now a.x.now a.p.now a.i.now a.t.now a.q.now a.u.now a.e.now a.r.now a.m.now in
-    let short = pairs-short m c.requires.ok in
-    let w = c.match_all-matched in
-    let l = w.new in
-    let all = lists-12 m a.rows.now a.names.now a.diagnostics.now l.rows l.notes w.result w.ensures _ c.in-Done.is short c.if-rows-tally.false _ _ _ c.compose_names-used.ensures c.if-names-used.false c.if-diagnostics-noted.true _ c.unplaced-then-diagnostics-noted.ensures _ _ _ in
-    record { value = all.0; answer_in = all.1.0; answer_in_2 = all.1.1.0; answer_in_3 = all.1.1.1.0; names_stay = all.1.1.1.1 }
+pub returns-then-diagnostics-tally : goal.returns-then-diagnostics-tally
+returns-then-diagnostics-tally c =
+    lists-12 _ _ _ _ _ _ _ c.match_all.ensures _ c.in-Some.is (pairs-short _ c.requires) c.if-rows-tally.false _ _ _ c.compose_names-used.ensures
+    c.if-names-used.false c.if-diagnostics-tally.true _ c.from-then-diagnostics-tally.ensures _ _ _
 
-pub returns-in-Over : goal.returns-in-Over
-returns-in-Over c =
-    let a = c.args in
-    let m = tables_of a.bytes.now a.n.now a.c.now a.f.now a.x.now a.p.now a.i.now a.t.now a.q.now a.u.now a.e.now a.r.now a.m.now in
-    let w = c.match_all-matched in
-    let l = w.new in
-    let all = lists-13 m a.rows.now a.names.now a.diagnostics.now l.rows l.notes w.result w.ensures c.in-Over.is _ c.unplaced.ensures _ _ in
-    record { value = all.0; answer_in = all.1.0; answer_in_2 = all.1.1.0; answer_in_3 = all.1.1.1.0; names_stay = all.1.1.1.1 }
-
-pub returns-else-diagnostics-noted : goal.returns-else-diagnostics-noted
-returns-else-diagnostics-noted c =
-    let a = c.args in
-    let m = tables_of a.bytes.now a.n.now a.c.now a.f.now a.x.now a.p.now a.i.now a.t.now a.q.now a.u.now a.e.now a.r.now a.m.now in
-    let short = pairs-short m c.requires.ok in
-    let w = c.match_all-matched in
-    let l = w.new in
-    let all = lists-all m a.rows.now a.names.now a.diagnostics.now l.rows l.notes w.result w.ensures _ c.in-Done.is short c.if-rows-tally.false _ _ _ c.compose_names-used.ensures c.if-names-used.false c.if-diagnostics-noted.false in
-    record { value = all.0; answer_in = all.1.0; answer_in_2 = all.1.1.0; answer_in_3 = all.1.1.1.0; names_stay = all.1.1.1.1 }
+pub returns : goal.returns
+returns c =
+    lists-all _ _ _ _ _ _ _ c.match_all.ensures _ c.in-Some.is (pairs-short _ c.requires) c.if-rows-tally.false _ _ _ c.compose_names-used.ensures
+    c.if-names-used.false c.if-diagnostics-tally.false

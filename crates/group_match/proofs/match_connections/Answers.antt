@@ -1,44 +1,39 @@
--- `group_match::match_connections` meets its contract. The invariant: the connections that are left, from the outputs that are there, give what all give. The measure: the X rows that are left. Assumes nothing.
+-- `group_match::match_connections` meets its contract. The invariant: the connections that are left, from what is carried, give what all give. Assumes nothing.
 use mathlib.Core.Path.{refl, ◌∙◌}
 use native.Mathlib.Omega.{arith}
 use lib.ListN.{length}
-use Rattle.group_match.specs.Matching.{lists_of}
-use Rattle.group_match.proofs.Loop.{goes-start, goes_end, goes_over, goes-turn, row-ready}
+use Rattle.std.proofs.Common.{rules}
+use Rattle.lent.specs.Model.{model}
+use Rattle.sink.proofs.Buffers.{buffers-then}
+use Rattle.group_match.proofs.Loop.{goes_start, goes_end, goes_past, goes_over, goes_on, into_over, into_end, room_ready}
 use Rattle.group_match.proofs.match_connections.Goals as goal
-use Rattle.group_match.proofs.match_connections.Goals.{Start}
 
 pub loop-row-init : goal.loop-row-init
-loop-row-init c = (refl, refl, refl, goes-start _ _ _)
+loop-row-init c = record { kept = refl; same = record { memo = refl; out = refl; notes = refl }; goes = goes_start _ _ (omega arith, omega arith) }
 
-pub match_connection-requires : goal.match_connection-requires
-match_connection-requires c =
-    let s = (goal.at.match_connection-requires c).Start in
-    let g = c.loop-row in
-    row-ready _ _ _ _ s.args.memo.now s.args.kept.now g.memo g.kept _ _ _ _ _ _ s.requires g.invariant.1 g.invariant.0 c.loop-row-test.true g.invariant.3
+pub match_groups-requires : goal.match_groups-requires
+match_groups-requires c =
+    let i = c.loop-row.invariant in (room_ready (model c.args.m.now) c.args.links c.args.memo.now c.args.kept.now _ _ c.requires i.goes.names i.kept, i.goes.bounded)
 
-pub returns-in-Over : goal.returns-in-Over
-unfolding lists_of
-returns-in-Over c =
-    let r = c.match_connection in
-    goes_over _ _ _ _ _ _ _ c.loop-row.invariant.3 c.loop-row-test.true r.result r.new.rows r.new.notes r.ensures c.in-Over.is
+pub returns-in_err-match_groups : goal.returns-in_err-match_groups
+returns-in_err-match_groups c =
+    into_over _ _ _ _ c.from_residual.ensures
+    (goes_over (model c.args.m.now) _ _ c.loop-row.row c.loop-row.invariant.goes c.loop-row-test.true _ (c.in-Some.ensures c.args.links c.requires.linked) _ _ c.in_err-match_groups.ensures.matched refl)
 
-pub overflow_add-row : goal.overflow_add-row
-overflow_add-row c = omega (arith, c.loop-row-test.true, c.well_formed)
-
-pub loop-row-smaller : goal.loop-row-smaller
-loop-row-smaller c = omega (arith, c.loop-row-test.true)
+pub loop-row-preserved-in_default : goal.loop-row-preserved-in_default
+loop-row-preserved-in_default c =
+    let i = c.loop-row.invariant in
+    record { kept = i.kept; same = i.same; goes = goes_past (model c.args.m.now) _ _ c.loop-row.row i.goes c.loop-row-test.true (c.in_default.ensures c.args.links c.requires.linked) }
 
 pub loop-row-preserved : goal.loop-row-preserved
 loop-row-preserved c =
-    let g = c.loop-row in
-    let r = c.match_connection in
-    let t = c.in-Done in (
-      ◌∙◌ {b = length g.kept} r.auto.kept g.invariant.0,
-      ◌∙◌ {b = length g.memo} r.auto.memo g.invariant.1,
-      ◌∙◌ {b = length g.calm} r.auto.calm g.invariant.2,
-      goes-turn _ _ _ _ _ _ _ g.invariant.3 c.loop-row-test.true r.result r.new.rows r.new.notes r.ensures t.then t.is r.auto.rows r.auto.notes,
-    )
+    let i = c.loop-row.invariant in
+    let e = c.in_ok-match_groups.ensures in
+    record {
+      kept = ◌∙◌ {b = length c.loop-row.kept} c.match_groups.auto.kept i.kept;
+      same = buffers-then _ _ _ i.same e.same;
+      goes = goes_on (model c.args.m.now) _ _ c.loop-row.row i.goes c.loop-row-test.true _ (c.in-Some.ensures c.args.links c.requires.linked) _ _ e.matched _ refl e.fits;
+    }
 
 pub returns : goal.returns
-unfolding lists_of
-returns c = goes_end _ _ _ _ _ _ _ c.loop-row.invariant.3 c.loop-row-test.false
+returns c = into_end c.loop-row.sink _ _ _ (goes_end (model c.args.m.now) _ _ c.loop-row.row c.loop-row.invariant.goes c.loop-row-test.false) (search rules) (search rules)

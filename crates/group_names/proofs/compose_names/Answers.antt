@@ -1,38 +1,25 @@
--- `group_names::compose_names` meets its contract: the loop's invariant is `Left`. Assumes nothing.
-use mathlib.Core.Path.{refl}
+-- `group_names::compose_names` meets its contract: composing what is left leaves what composing all leaves. Assumes nothing.
+use mathlib.Core.Path.{◌∙◌}
 use native.Mathlib.Omega.{arith}
-use borrow.Author.Rules.{rules}
-use Rattle.group_names.proofs.Composing.{left-start, left-turn, left-full, left_end}
+use Rattle.std.proofs.Common.{rules}
+use Rattle.group_names.proofs.Composing.{left-turn, left-full, left_end, left-size}
 use Rattle.group_names.proofs.compose_names.Goals as goal
-use Rattle.group_names.proofs.compose_names.Goals.{At-loop-i, In-loop-i, Start}
 
-pub loop-i-init : goal.loop-i-init
-loop-i-init c = (omega arith, refl, refl, omega arith, left-start _ _ _ _)
-
-pub compose_row-used-requires : goal.compose_row-used-requires
-compose_row-used-requires c =
-    let t = (goal.at.compose_row-used-requires c).At-loop-i in
-    let s = (goal.at.At-loop-i t).Start in
-    (s.requires.0, omega (arith, s.requires.1, t.loop-i.invariant.1, c.loop-i-test.true), t.loop-i.invariant.3)
-
-pub returns-then-names-used : goal.returns-then-names-used
-returns-then-names-used c =
-    let t = (goal.at.returns-then-names-used c).In-loop-i in
-    let l = t.loop-i in
-    let z = c.compose_row-used in
-    left-full _ _ _ _ _ _ _ _ l.invariant.4 t.loop-i-test.true _ _ _ l.invariant.3 z.ensures.result_after (search rules) (z.ensures.rows_unchanged (search rules))
+pub returns-then-composed : goal.returns-then-composed
+returns-then-composed c =
+    let l = c.loop-i.invariant.1 in
+    let z = c.put_match.ensures in
+    left-full _ _ _ _ _ _ _ l c.loop-i-test.true _ _ z.put (omega (arith, c.if-composed.true, left-size _ _ _ _ _ _ _ l c.loop-i-test.true c.put_match.new.rows _ z.put))
+    (z.rows_unchanged (omega (arith, c.if-composed.true, left-size _ _ _ _ _ _ _ l c.loop-i-test.true c.put_match.new.rows _ z.put))) _ (search rules)
 
 pub loop-i-preserved : goal.loop-i-preserved
 loop-i-preserved c =
-    let t = (goal.at.loop-i-preserved c).In-loop-i in
-    let l = t.loop-i in
-    let z = c.compose_row-used in (
-      omega (arith, t.loop-i-test.true),
-      search rules,
-      search rules,
-      search rules,
-      left-turn _ _ _ _ _ _ _ _ l.invariant.4 t.loop-i-test.true _ _ _ l.invariant.3 z.ensures.result_after (search rules) (z.ensures.rows_after (search rules)),
+    let l = c.loop-i.invariant.1 in
+    let z = c.put_match.ensures in (
+      z.same ∙ c.loop-i.invariant.0,
+      left-turn _ _ _ _ _ _ _ l c.loop-i-test.true _ _ z.put (omega (arith, c.if-composed.false, left-size _ _ _ _ _ _ _ l c.loop-i-test.true c.put_match.new.rows _ z.put))
+          (z.rows_after (omega (arith, c.if-composed.false, left-size _ _ _ _ _ _ _ l c.loop-i-test.true c.put_match.new.rows _ z.put))),
     )
 
 pub returns : goal.returns
-returns c = left_end _ _ _ _ _ _ _ _ c.loop-i.invariant.4 c.loop-i-test.false
+returns c = left_end _ _ _ _ _ _ _ c.loop-i.invariant.1 c.loop-i-test.false _ (search rules)

@@ -1,57 +1,50 @@
 -- `list_text::list_tables` meets its contract: what the listings leave in their outputs is printed as the definition's list. Assumes nothing.
-use mathlib.Core.Path.{refl}
 use native.Mathlib.Omega.{arith}
-use lib.ListN.{length}
-use Rattle.as5506.specs.Tables.{Tables, tables_of}
-use Rattle.shown.proofs.Fits.{shown-as}
-use Rattle.listing.specs.Answer.{Outputs, outputs}
+use Rattle.as5506.specs.Layout.{row_numbers, diag_numbers}
+use Rattle.as5506.specs.Program.{conlist_text}
+use Rattle.as5506.specs.Text.{list_text}
+use Rattle.lent.specs.Model.{model}
+use Rattle.listing.specs.Answer.{listed}
 use Rattle.listing.proofs.Given.{counts-within, no_outputs}
-use Rattle.list_text.proofs.Listed.{text-refused, text-listed}
+use Rattle.shown.proofs.Fits.{refusal-shown, text-shown}
+use Rattle.list_text.proofs.Listed.{blocks-within, blocks-are, answer, answered, list-same}
 use Rattle.list_text.proofs.list_tables.Goals as goal
-use Rattle.list_text.proofs.list_tables.Goals.{After-list_connections}
 
--- the tables, and what the listings leave in their outputs
-abbrev tables : After-list_connections → Tables
-tables c =
-    let a = c.args in
-    tables_of a.bytes.now a.n.now a.c.now a.f.now a.x.now a.p.now a.i.now a.t.now a.q.now a.u.now a.e.now a.r.now a.m.now
+pub slice_bounds-list-end : goal.slice_bounds-list-end
+slice_bounds-list-end c =
+    let w = counts-within _ no_outputs _ _ c.list_connections.ensures _ c.in-Ok.is in
+    blocks-within row_numbers _ c.list_connections.new.rows _ c.as_chunks.ensures.front_len (omega arith) (omega (arith, w.rows, c.list_connections.auto.rows))
 
-abbrev left : After-list_connections → Outputs
-left c = let l = c.list_connections.new in outputs l.rows l.diagnostics l.group_rows l.names l.group_diagnostics
+pub slice_bounds-list-end-in-Ok : goal.slice_bounds-list-end-in-Ok
+slice_bounds-list-end-in-Ok c =
+    let w = counts-within _ no_outputs _ _ c.list_connections.ensures _ c.in-Ok.is in
+    blocks-within row_numbers _ c.list_connections.new.group_rows _ c.as_chunks-in-Ok.ensures.front_len (omega arith) (omega (arith, w.group-rows, c.list_connections.auto.group_rows))
 
-pub list_connections-requires : goal.list_connections-requires
-list_connections-requires c = tt
+pub slice_bounds-list-end-in-Ok-3 : goal.slice_bounds-list-end-in-Ok-3
+slice_bounds-list-end-in-Ok-3 c =
+    let w = counts-within _ no_outputs _ _ c.list_connections.ensures _ c.in-Ok.is in
+    blocks-within diag_numbers _ c.list_connections.new.diagnostics _ c.as_chunks-in-Ok-2.ensures.front_len (omega arith) (omega (arith, w.diags, c.list_connections.auto.diagnostics))
 
-pub print_both-requires : goal.print_both-requires
-print_both-requires c =
-    let p = (goal.at.print_both-requires c).After-list_connections in
-    let z = p.list_connections in
-    let b = counts-within (tables p) no_outputs z.result (left p) z.ensures _ _ _ _ c.in-Rows.is in
-    record {
-      traced = omega (arith, b.rows, z.auto.rows);
-      group = omega (arith, b.group-rows, z.auto.group_rows);
-      diagnostics = omega (arith, b.diags, z.auto.diagnostics);
-      group-diagnostics = omega (arith, b.group-diags, z.auto.group_diagnostics);
-    }
+pub slice_bounds-list-end-in-Ok-4 : goal.slice_bounds-list-end-in-Ok-4
+slice_bounds-list-end-in-Ok-4 c =
+    let w = counts-within _ no_outputs _ _ c.list_connections.ensures _ c.in-Ok.is in
+    blocks-within diag_numbers _ c.list_connections.new.group_diagnostics _ c.as_chunks-in-Ok-3.ensures.front_len (omega arith) (omega (arith, w.group-diags, c.list_connections.auto.group_diagnostics))
 
-pub shape_of-text-in-Refused : goal.shape_of-text-in-Refused
-shape_of-text-in-Refused c = c.tell.auto.text
+pub returns-in-Err : goal.returns-in-Err
+unfolding conlist_text
+returns-in-Err c =
+    refusal-shown listed (list_text (model c.args.m.now)) (answer (model c.args.m.now)) _ (answered _ _ _ c.list_connections.ensures) _ c.in-Err.is c.tell.ensures
 
-pub returns-in-Refused : goal.returns-in-Refused
-returns-in-Refused c =
-    let p = (goal.at.returns-in-Refused c).After-list_connections in
-    let t = c.tell in
-    let a = p.args in
-    shown-as _ _ a.text.now a.text.now t.result t.new.text
-    (text-refused (tables p) p.list_connections.result (left p) p.list_connections.ensures (length a.text.now) _ c.in-Refused.is) refl t.ensures
-
-pub shape_of-text-in-Rows : goal.shape_of-text-in-Rows
-shape_of-text-in-Rows c = c.print_both.auto.text
-
-pub returns-in-Rows : goal.returns-in-Rows
-returns-in-Rows c =
-    let p = (goal.at.returns-in-Rows c).After-list_connections in
-    let t = c.print_both in
-    let a = p.args in
-    shown-as _ _ a.text.now a.text.now t.result t.new.text
-    (text-listed (tables p) p.list_connections.result (left p) p.list_connections.ensures (length a.text.now) _ _ _ _ c.in-Rows.is) refl t.ensures
+pub returns-in-Ok : goal.returns-in-Ok
+unfolding conlist_text
+returns-in-Ok c =
+    let m = model c.args.m.now in
+    let l = c.list_connections in
+    let w = counts-within m no_outputs _ _ l.ensures _ c.in-Ok.is in
+    text-shown listed (list_text m) (answer m) _ (answered _ _ _ l.ensures) _ c.in-Ok.is _
+    (λ x g e. list-same m _ _ l.ensures _ x g e _ _ _ _
+    (blocks-are row_numbers _ l.new.rows _ c.as_chunks.ensures.front_len (omega arith) (omega (arith, w.rows, l.auto.rows)) c.as_chunks.ensures.front)
+    (blocks-are row_numbers _ l.new.group_rows _ c.as_chunks-in-Ok.ensures.front_len (omega arith) (omega (arith, w.group-rows, l.auto.group_rows)) c.as_chunks-in-Ok.ensures.front)
+    (blocks-are diag_numbers _ l.new.diagnostics _ c.as_chunks-in-Ok-2.ensures.front_len (omega arith) (omega (arith, w.diags, l.auto.diagnostics)) c.as_chunks-in-Ok-2.ensures.front)
+    (blocks-are diag_numbers _ l.new.group_diagnostics _ c.as_chunks-in-Ok-3.ensures.front_len (omega arith) (omega (arith, w.group-diags, l.auto.group_diagnostics)) c.as_chunks-in-Ok-3.ensures.front))
+    c.print_listings.ensures

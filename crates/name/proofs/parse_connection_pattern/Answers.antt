@@ -1,19 +1,15 @@
--- `name::parse_connection_pattern` meets its contract: ten kept bytes are in the array; any other number is no pattern of ten bytes. Assumes nothing.
-use mathlib.Core.Path.{sym, ◌∙◌}
+-- `name::parse_connection_pattern` meets its contract: by the number of bytes that count, then by the bytes. Assumes nothing.
+use Rattle.std.proofs.Common.{sym, ◌∙◌}
 use Rattle.name.proofs.Pattern.{pattern-short, pattern-ten}
 use Rattle.name.proofs.parse_connection_pattern.Goals as goal
-
-pub returns-then-count-ne10 : goal.returns-then-count-ne10
-returns-then-count-ne10 c = pattern-short _ _ c.strip-count.ensures.count c.if-count-ne10.true
+use Rattle.name.proofs.parse_connection_pattern.Goals.{else-strip-eq10-via-then-strip-eq10+else-same_folded, else-strip-eq10-via-else-strip-eq10}
 
 pub returns-then-same_folded : goal.returns-then-same_folded
-returns-then-same_folded c =
-    sym c.if-same_folded.true ∙ c.same_folded.ensures
-    ∙ pattern-ten _ _ c.strip-count.ensures.count _
-    c.if-count-ne10.false c.strip-count.ensures.bytes
+returns-then-same_folded c = sym c.if-same_folded.true ∙ c.same_folded.ensures ∙ pattern-ten c.args.text.now _ c.strip.ensures.count _ c.if-strip-eq10.true c.strip.ensures.bytes
 
 pub returns : goal.returns
 returns c =
-    sym c.if-same_folded.false ∙ c.same_folded.ensures
-    ∙ pattern-ten _ _ c.strip-count.ensures.count _
-    c.if-count-ne10.false c.strip-count.ensures.bytes
+    elim c.else-strip-eq10.branch [
+      | else-strip-eq10-via-then-strip-eq10+else-same_folded w ↦ sym w.if-same_folded.false ∙ w.same_folded.ensures ∙ pattern-ten c.args.text.now _ c.strip.ensures.count _ w.if-strip-eq10.true c.strip.ensures.bytes
+      | else-strip-eq10-via-else-strip-eq10 w ↦ pattern-short c.args.text.now _ c.strip.ensures.count w.if-strip-eq10.false
+    ]

@@ -1,11 +1,6 @@
--- `name::strip` meets its contract: the loop's invariant is `Stripping`: what is kept of the rest is still to be written. Assumes nothing.
-use Prim.Native.Nat.{◌-◌}
-use lib.ListN.{length}
+-- `name::strip`: what the text keeps from place i on is still to be written at place `count`. Assumes nothing.
 use Rattle.name.proofs.Pattern.{Stripping}
 use Rattle.name.proofs.strip.Given as goal
 
-abbrev pub invariant-loop-i : goal.invariant-loop-i
-invariant-loop-i l = Stripping l.text l.initial.out l.out l.count l.i
-
-abbrev pub decreases-loop-i : goal.decreases-loop-i
-decreases-loop-i l = length l.text - l.i
+abbrev pub invariant-loop-b : goal.invariant-loop-b
+invariant-loop-b l = Stripping l.text l.fn.out l.out l.count l.b-index

@@ -1,24 +1,12 @@
 -- `operation_modes::check_and_select` meets its contract. Assumes nothing.
-use Rattle.as5506.specs.Tables.{Tables, tables_of}
-use Rattle.tables.proofs.Answers.{accepted-is}
-use Rattle.operation_modes.proofs.Calls.{few-rows, select-refused, select-accepted}
+use Rattle.operation_modes.proofs.Calls.{passed, few_rows, select_refused, select_accepted}
 use Rattle.operation_modes.proofs.check_and_select.Goals as goal
-use Rattle.operation_modes.proofs.check_and_select.Goals.{Start}
 
--- the tables that the call is lent
-abbrev model : Start → Tables
-model s = tables_of s.args.bytes.now s.args.n.now s.args.c.now s.args.f.now s.args.x.now s.args.p.now s.args.i.now s.args.t.now s.args.q.now s.args.u.now s.args.e.now s.args.r.now s.args.m.now
-
-pub returns-in-Refused : goal.returns-in-Refused
-returns-in-Refused c =
-    let s = (goal.at.returns-in-Refused c).Start in
-    select-refused (model s) s.args.number s.args.rows.now s.args.name.now _ c.check_tables.ensures _ c.in-Refused.is _ _
+pub returns-in_err-check_tables : goal.returns-in_err-check_tables
+returns-in_err-check_tables c = select_refused _ _ c.check_tables.ensures _ _ _ _ c.in_err-check_tables.was _ (passed _ _ c.from_residual.ensures.1) _ _
 
 pub select-requires : goal.select-requires
-select-requires c =
-    few-rows (model (goal.at.select-requires c).Start) (accepted-is (model (goal.at.select-requires c).Start) _ c.check_tables.ensures c.in_default.is)
+select-requires c = few_rows _ _ c.check_tables.ensures c.in_ok-check_tables.was
 
 pub returns : goal.returns
-returns c =
-    let s = (goal.at.returns c).Start in
-    select-accepted (model s) s.args.number s.args.rows.now s.args.name.now (accepted-is (model s) _ c.check_tables.ensures c.in_default.is) _ _ _ c.select.ensures
+returns c = select_accepted _ _ c.check_tables.ensures _ _ _ c.in_ok-check_tables.was _ _ _ c.select.ensures

@@ -1,24 +1,15 @@
 -- `operation_modes::select_modes` meets its contract: what it gives stands in outputs that were zeros, and after a refusal they are cleared. Assumes nothing.
-use Rattle.as5506.specs.Tables.{Tables, tables_of}
-use Rattle.operation_modes.proofs.Calls.{given-call, refused-call}
+use mathlib.Core.Path.{sym, ◌∙◌}
+use Rattle.std.proofs.Common.{rules}
+use Rattle.operation_modes.proofs.Calls.{given_call, refused_call}
 use Rattle.operation_modes.proofs.select_modes.Goals as goal
-use Rattle.operation_modes.proofs.select_modes.Goals.{Start}
 
--- the tables that the call is lent
-abbrev model : Start → Tables
-model s = tables_of s.args.bytes.now s.args.n.now s.args.c.now s.args.f.now s.args.x.now s.args.p.now s.args.i.now s.args.t.now s.args.q.now s.args.u.now s.args.e.now s.args.r.now s.args.m.now
+pub returns-else-is_err : goal.returns-else-is_err
+returns-else-is_err c =
+    given_call _ _ _ _ _ _ (c.fill.ensures.after (search rules)) (c.fill-2.ensures.after (search rules)) _ _ _ c.check_and_select-answer.ensures (sym c.is_err.ensures.value ∙ c.if-is_err.false)
 
-pub returns-in-Rows : goal.returns-in-Rows
-returns-in-Rows c =
-    let s = (goal.at.returns-in-Rows c).Start in
-    let a = s.args in
+pub returns-then-is_err : goal.returns-then-is_err
+returns-then-is_err c =
     let w = c.check_and_select-answer in
-    given-call (model s) a.number a.rows.now a.name.now _ _ c.clear_numbers.ensures c.clear_bytes.ensures _ w.new.rows w.new.name w.ensures _ _ c.in-Rows.is
-
-pub returns-in-Refused : goal.returns-in-Refused
-returns-in-Refused c =
-    let s = (goal.at.returns-in-Refused c).Start in
-    let a = s.args in
-    let w = c.check_and_select-answer in
-    refused-call (model s) a.number a.rows.now a.name.now _ _ c.clear_numbers.ensures c.clear_bytes.ensures _ w.new.rows w.new.name w.ensures
-    _ c.in-Refused.is w.auto.rows w.auto.name _ _ c.clear_numbers-in-Refused.ensures c.clear_bytes-in-Refused.ensures
+    refused_call _ _ _ _ _ _ (c.fill.ensures.after (search rules)) (c.fill-2.ensures.after (search rules)) _ _ _ w.ensures (sym c.is_err.ensures.value ∙ c.if-is_err.true) w.auto.rows w.auto.name _ _
+    (c.fill-then-is_err.ensures.after (search rules)) (c.fill-then-is_err-2.ensures.after (search rules))

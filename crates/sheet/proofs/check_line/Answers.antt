@@ -1,55 +1,59 @@
 -- `sheet::check_line`: each return is the first fault of its case. Assumes nothing.
-use mathlib.Core.Bool.{false}
-use mathlib.Core.List.{List}
-use mathlib.Core.Option.{some}
-use mathlib.Core.Path.{◌≡◌, sym, ◌∙◌}
-use Prim.Native.Nat.{ℕ}
-use native.Mathlib.Omega.{arith}
-use borrow.Author.Tests.{lt-ltb, le-ltb, not-true, not-false}
+use Rattle.std.proofs.Common.{◌≡◌, true, false, ℕ, ◌<◌, ◌≤◌, List, sym, ◌∙◌, arith}
+use borrow.Author.Tests.{lt-ltb, le-ltb}
 use Rattle.as5506.specs.Columns.{rank}
 use Rattle.as5506.specs.Sheet.{letter_of, is_earlier}
-use Rattle.sheet.proofs.Check.{no-0, no-2, no-3, no-4, no-5}
-use Rattle.sheet.proofs.Letters.{rank-at, letter-is}
-use Rattle.sheet.specs.Steps.{letter_at, Counted}
-use mathlib.Core.Path.{ap}
-use mathlib.Core.Bool.{not}
+use Rattle.std.specs.Prelude.{Some}
+use Rattle.sheet.proofs.Check.{first_told, place_is, no_0, no_2, no_3, no_4, no_5}
+use Rattle.sheet.proofs.Letters.{rank-at, letter-is, letter-below}
+use Rattle.sheet.specs.Steps.{letter_at, place_of, Counted}
+use Rattle.sheet.specs.declared.Seen.{Seen}
 use Rattle.sheet.proofs.check_line.Goals as goal
-use Rattle.sheet.proofs.check_line.Goals.{Else-k-ge-LETTER_COUNT, Else-k-seen}
 
--- the line's letter
-known : (c : Else-k-ge-LETTER_COUNT) → letter_of c.args.line.now ≡ some (letter_at c.letter-k.result)
-known c = letter-is _ c.letter-k.result c.if-k-ge-LETTER_COUNT.false c.letter-k.ensures
+-- a line's place in the order tells whether its letter is earlier than the line before's
+module _ (s : List ℕ) (k : ℕ) (at : Some k ≡ place_of (letter_of s)) (seen : Seen) (before : List (List ℕ)) (counted : Counted seen before) where
+  earlier : k < seen.last → is_earlier before (letter_at k) ≡ true
+  earlier h = counted.last (letter_at k) ∙ lt-ltb (rank (letter_at k)) seen.last (omega (arith, rank-at k (letter-below s k at), h))
 
--- it is not earlier than the line before's
-in_order : (c : Else-k-seen) (before : List (List ℕ)) → Counted c.args.seen before → is_earlier before (letter_at c.letter-k.result) ≡ false
-in_order c before counted =
-    let k = c.letter-k.result in
-    counted.last (letter_at k) ∙ le-ltb (rank (letter_at k)) c.args.seen.last (omega (arith, rank-at k c.if-k-ge-LETTER_COUNT.false, c.if-k-seen.false))
+  in_place : seen.last ≤ k → is_earlier before (letter_at k) ≡ false
+  in_place h = counted.last (letter_at k) ∙ le-ltb (rank (letter_at k)) seen.last (omega (arith, rank-at k (letter-below s k at), h))
 
-pub returns-then-k-ge-LETTER_COUNT : goal.returns-then-k-ge-LETTER_COUNT
-returns-then-k-ge-LETTER_COUNT c = λ before counted. no-2 _ before _ (rw c.letter-k.ensures at c.if-k-ge-LETTER_COUNT.true)
+pub returns-in_default : goal.returns-in_default
+returns-in_default c = λ before counted. first_told _ _ _ _ (no_2 _ before _ (sym c.letter.ensures ∙ c.in_default.is)) c.at_line.ensures
 
 pub returns-then-k-seen : goal.returns-then-k-seen
 returns-then-k-seen c =
     let a = c.args in
-    let k = c.letter-k.result in
-    λ before counted.
-    no-3 _ before _ (letter_at k) (known (goal.at.returns-then-k-seen c).Else-k-ge-LETTER_COUNT)
-    (counted.last (letter_at k) ∙ lt-ltb (rank (letter_at k)) a.seen.last (omega (arith, rank-at k c.if-k-ge-LETTER_COUNT.false, c.if-k-seen.true)))
+    let at = sym (sym c.letter.ensures ∙ c.in-Some.is) in
+    λ before counted. first_told _ _ _ _ (no_3 _ before _ _ (letter-is a.line.now _ at) (earlier a.line.now _ at a.seen.now before counted c.if-k-seen.true)) c.at_line-then-k-seen.ensures
 
-pub returns-then-not-rules : goal.returns-then-not-rules
-returns-then-not-rules c =
+pub returns-then-not-line_ok : goal.returns-then-not-line_ok
+returns-then-not-line_ok c =
+    let a = c.args in
+    let at = sym (sym c.letter.ensures ∙ c.in-Some.is) in
     λ before counted.
-    no-4 _ before _ _ (known (goal.at.returns-then-not-rules c).Else-k-ge-LETTER_COUNT) (in_order (goal.at.returns-then-not-rules c).Else-k-seen before counted) (sym c.line_ok-rules.ensures ∙ not-true _ (ap not c.if-not-rules.true))
+    first_told _ _ _ _ (no_4 _ before _ _ (letter-is a.line.now _ at) (in_place a.line.now _ at a.seen.now before counted c.if-k-seen.false) (sym c.line_ok.ensures ∙ c.if-not-line_ok.true))
+    c.at_line-then-not-line_ok.ensures
 
-pub returns-then-not-place : goal.returns-then-not-place
-returns-then-not-place c =
+pub returns-then-not-has_room : goal.returns-then-not-has_room
+returns-then-not-has_room c =
+    let a = c.args in
+    let at = sym (sym c.letter.ensures ∙ c.in-Some.is) in
+    let known = letter-is a.line.now _ at in
     λ before counted.
-    no-5 _ before _ _ (known (goal.at.returns-then-not-place c).Else-k-ge-LETTER_COUNT) (in_order (goal.at.returns-then-not-place c).Else-k-seen before counted) (sym c.line_ok-rules.ensures ∙ not-false _ (ap not c.if-not-rules.false))
-    (sym (c.has_place-place.ensures before counted) ∙ not-true _ (ap not c.if-not-place.true))
+    first_told _ _ _ _
+    (no_5 _ before _ _ known (in_place a.line.now _ at a.seen.now before counted c.if-k-seen.false) (sym c.line_ok.ensures ∙ c.if-not-line_ok.false)
+    (place_is _ before a.line.now a.room.now _ _ (rank-at c.in-Some.k (letter-below a.line.now _ at)) known (c.count_line.ensures before counted) ∙ sym c.has_room.ensures ∙ c.if-not-has_room.true))
+    c.at_line-then-not-has_room.ensures
 
 pub returns : goal.returns
 returns c =
+    let a = c.args in
+    let at = sym (sym c.letter.ensures ∙ c.in-Some.is) in
+    let known = letter-is a.line.now _ at in
     λ before counted.
-    no-0 _ before _ _ (known (goal.at.returns c).Else-k-ge-LETTER_COUNT) (in_order (goal.at.returns c).Else-k-seen before counted) (sym c.line_ok-rules.ensures ∙ not-false _ (ap not c.if-not-rules.false))
-    (sym (c.has_place-place.ensures before counted) ∙ not-false _ (ap not c.if-not-place.false))
+    let more = c.count_line.ensures before counted in (
+      no_0 _ before _ _ known (in_place a.line.now _ at a.seen.now before counted c.if-k-seen.false) (sym c.line_ok.ensures ∙ c.if-not-line_ok.false)
+          (place_is _ before a.line.now a.room.now _ _ (rank-at c.in-Some.k (letter-below a.line.now _ at)) known more ∙ sym c.has_room.ensures ∙ c.if-not-has_room.false),
+      more,
+    )

@@ -1,116 +1,91 @@
 -- `sheet::check_lines`: the answer of the lines that are left is the sheet's. Assumes nothing.
-use mathlib.Core.List.{List, [], ◌∷◌}
-use mathlib.Core.Path.{◌≡◌, refl, sym, ap, ◌∙◌}
-use Prim.Native.Nat.{ℕ, ◌-◌}
-use native.Mathlib.Nat.{zero-mul}
-use native.Mathlib.Numerals.{add-one}
-use native.Mathlib.Omega.{arith}
-use borrow.Author.Rules.{rules}
-use lib.ListN.{length, take, drop}
-use Rattle.as5506.specs.Columns.{rank}
+use Rattle.std.proofs.Common.{◌≡◌, ℕ, ◌+◌, ◌<◌, List, [], ◌∷◌, length, take, drop, refl, sym, ap, ◌∙◌, arith, add-one, zero-mul, length-drop}
+use borrow.Author.Tests.{eqb-true, eqb-false}
+use lib.Seq.{length-take-le}
+use Rattle.std.specs.Prelude.{Ok, Err}
+use Rattle.std.proofs.lemmas.Result.{err_from_is_err_and}
+use Rattle.as5506.specs.Sheet.{ended, lines_of}
 use Rattle.as5506.specs.Tables.{width}
-use Rattle.sheet.proofs.Check.{Good, good, numbers-small, counted_none, answer-end, answer-unended, answer-bad, answer-good}
 use Rattle.as5506.proofs.Letters.{each-letter}
-use Rattle.sheet.proofs.Letters.{rank_below}
-use Rattle.sheet.proofs.Lines.{no_lines, line-length, last_line, next-line}
-use Rattle.sheet.proofs.Put.{bytes_small}
-use Rattle.sheet.proofs.Rows.{none-with, names-none, names-split}
-use Rattle.sheet.specs.Steps.{rank_of, lent_by, answer_from}
-use Rattle.sheet.specs.declared.SheetRead.TheVariants.{Read}
+use Rattle.sheet.proofs.Check.{good, numbers-small, names-few, counted_none, seen_small, answer-end, answer-unended, answer-bad, answer-good}
+use Rattle.sheet.proofs.Lines.{stop_of, no_lines, last_line, next-line}
+use Rattle.sheet.proofs.Rows.{none-with, names-none}
+use Rattle.sheet.specs.Steps.{lent_by, answer_from}
 use Rattle.sheet.proofs.check_lines.Goals as goal
-use Rattle.sheet.proofs.check_lines.Goals.{Else-number-ne0}
+use Rattle.sheet.proofs.check_lines.Goals.{In-Some}
 
-pub loop-from-init : goal.loop-from-init
-loop-from-init c =
+pub loop-rest-init : goal.loop-rest-init
+loop-rest-init c =
     record {
       before = [];
       counted = counted_none _ refl refl (each-letter _ refl refl refl refl refl refl refl refl refl refl refl refl);
-      within = search rules;
-      small = omega (arith, names-none);
+      names = omega (arith, names-none);
       few = λ l. rw (none-with l) (omega (arith, zero-mul (width l)));
-      placed = search rules;
-      rest = refl;
+      placed = omega arith;
+      answer = refl;
     }
 
--- the line of this turn has no fault
-faultless : (c : Else-number-ne0) →
-    let l = c.loop-from in
-    let a = c.args in
-    Good (lent_by a.room) l.invariant.before (take (c.index_from-end.result - l.from) (drop l.from a.sheet.now))
-faultless c =
-    let l = c.loop-from in
-    good _ _ _ (sym (c.check_line-number.ensures l.invariant.before l.invariant.counted) ∙ c.if-number-ne0.false)
+pub returns-in_default : goal.returns-in_default
+returns-in_default c =
+    let l = c.loop-rest in
+    ap Err c.at_line.ensures
+    ∙ sym (ap (answer_from _ l.invariant.before l.place) (last_line l.rest.now (omega (arith, eqb-false (length l.rest.now) 0 (sym c.loop-rest-test.ensures))) c.in_default.ensures) ∙ answer-unended _ l.invariant.before l.place _ [])
+    ∙ l.invariant.answer
 
-pub refused-requires : goal.refused-requires
-refused-requires c = tt
+-- the first line of what is left
+first : (c : In-Some) →
+    let s = c.loop-rest.rest.now in
+    (stop_of s < length s) × (c.in-Some.line.now ≡ take (stop_of s) s) × (c.in-Some.behind.now ≡ drop (stop_of s + 1) s)
+first c = c.in-Some.ensures
 
-pub returns-then-end-sheet : goal.returns-then-end-sheet
-returns-then-end-sheet c =
-    let l = c.loop-from in
-    let i = c.index_from-end in
-    c.refused.ensures
-    ∙ sym (ap (answer_from _ l.invariant.before l.place) (last_line c.args.sheet.now l.from i.result i.ensures.0 c.loop-from-test.true c.if-end-sheet.true) ∙ answer-unended _ l.invariant.before l.place _ [])
-    ∙ l.invariant.rest
+-- the answer from there on, by that line
+by_first : (c : In-Some) →
+    let l = c.loop-rest in
+    answer_from (lent_by c.args.room.now) l.invariant.before l.place (ended c.in-Some.line.now ∷ lines_of (drop (stop_of l.rest.now + 1) l.rest.now))
+    ≡ answer_from (lent_by c.args.room.now) [] 1 (lines_of c.args.sheet.now)
+by_first c =
+    let l = c.loop-rest in
+    let h = first c in
+    ap (λ (t : List ℕ). answer_from (lent_by c.args.room.now) l.invariant.before l.place (ended t ∷ lines_of (drop (stop_of l.rest.now + 1) l.rest.now))) h.1
+    ∙ sym (ap (answer_from (lent_by c.args.room.now) l.invariant.before l.place) (next-line l.rest.now h.0)) ∙ l.invariant.answer
 
-pub check_line-number-requires : goal.check_line-number-requires
-check_line-number-requires c = tt
+pub returns-in_err-check_line : goal.returns-in_err-check_line
+returns-in_err-check_line c =
+    let y = err_from_is_err_and c.from_residual.result c.from_residual.ensures.1 in
+    let l = c.loop-rest in
+    y.1 ∙ ap Err y.2 ∙ sym (answer-bad _ l.invariant.before l.place _ _ _ (c.in_err-check_line.ensures l.invariant.before l.invariant.counted)) ∙ by_first (goal.at.returns-in_err-check_line c).In-Some
 
-pub refused-requires-then-number-ne0 : goal.refused-requires-then-number-ne0
-refused-requires-then-number-ne0 c = tt
-
-pub returns-then-number-ne0 : goal.returns-then-number-ne0
-returns-then-number-ne0 c =
-    let l = c.loop-from in
-    let i = c.index_from-end in
-    c.refused-then-number-ne0.ensures
-    ∙ sym (ap (answer_from _ l.invariant.before l.place) (next-line c.args.sheet.now l.from i.result i.ensures.0 (omega (arith, i.ensures.1, c.if-end-sheet.false)))
-    ∙ answer-bad _ l.invariant.before l.place _ _ _ (c.check_line-number.ensures l.invariant.before l.invariant.counted) c.if-number-ne0.true)
-    ∙ l.invariant.rest
-
-pub letter-requires : goal.letter-requires
-letter-requires c = tt
-
-pub count_line-seen-requires : goal.count_line-seen-requires
-count_line-seen-requires c =
-    let l = c.loop-from in
-    let i = c.index_from-end in
-    let s = c.args.sheet.now in
-    let g = faultless (goal.at.count_line-seen-requires c).Else-number-ne0 in
-    let k : c.letter.result ≡ rank g.letter = c.letter.ensures ∙ ap rank_of g.known in (
-      rw k (rank_below g.letter),
-      c.letter.ensures,
-      omega (arith, line-length s l.from i.result (omega arith) i.ensures.1, c.requires),
-      omega (arith, l.invariant.counted.bytes, l.invariant.small, l.invariant.within, c.requires),
-      rw k (omega (arith, l.invariant.counted.numbers g.letter, l.invariant.few g.letter, l.invariant.within, c.requires)),
+pub check_line-requires : goal.check_line-requires
+check_line-requires c =
+    let l = c.loop-rest in
+    let s = l.rest.now in
+    let h = first (goal.at.check_line-requires c).In-Some in (
+      omega (arith, ap length h.1, length-take-le (stop_of s) s (omega (arith, h.0)), h.0, l.invariant.names, c.requires),
+      seen_small l.seen l.invariant.before (length c.args.sheet.now) c.requires l.invariant.counted (omega (arith, l.invariant.names)) (λ l'. omega (arith, l.invariant.few l')),
     )
 
-pub loop-from-preserved : goal.loop-from-preserved
-loop-from-preserved c =
-    let l = c.loop-from in
-    let i = c.index_from-end in
-    let s = c.args.sheet.now in
-    let g = faultless (goal.at.loop-from-preserved c).Else-number-ne0 in
-    let t : List ℕ = take (i.result - l.from) (drop l.from s) in
-    let n : length t ≡ i.result - l.from = line-length s l.from i.result (omega arith) i.ensures.1 in
+pub loop-rest-preserved : goal.loop-rest-preserved
+loop-rest-preserved c =
+    let l = c.loop-rest in
+    let s = l.rest.now in
+    let h = first (goal.at.loop-rest-preserved c).In-Some in
+    let line = c.in-Some.line.now in
+    let good-line = c.in_ok-check_line.ensures l.invariant.before l.invariant.counted in
+    let g = good _ l.invariant.before line good-line.0 in
+    let n : length line ≡ stop_of s = ap length h.1 ∙ length-take-le (stop_of s) s (omega (arith, h.0)) in
+    let m : length c.in-Some.behind.now + stop_of s + 1 ≡ length s = omega (arith, ap length h.2, length-drop (stop_of s + 1) s, h.0) in
     record {
-      before = t ∷ l.invariant.before;
-      counted = c.count_line-seen.ensures l.invariant.before l.invariant.counted;
-      within = search rules;
-      small = omega (arith, l.invariant.small, names-split t l.invariant.before, bytes_small t, n);
-      few = λ m. omega (arith, numbers-small _ l.invariant.before t g m, l.invariant.few m, n);
-      placed = omega (arith, l.invariant.placed);
-      rest = rw (add-one l.place)
-          (sym (ap (answer_from _ l.invariant.before l.place) (next-line s l.from i.result i.ensures.0 (omega (arith, i.ensures.1, c.if-end-sheet.false)))
-          ∙ answer-good _ l.invariant.before l.place t _ g.faultless)
-          ∙ l.invariant.rest);
+      before = line ∷ l.invariant.before;
+      counted = good-line.1;
+      names = omega (arith, l.invariant.names, names-few line l.invariant.before g.letter g.known, n, m);
+      few = λ k. omega (arith, numbers-small _ l.invariant.before line g k, l.invariant.few k, n, m);
+      placed = omega (arith, l.invariant.placed, m);
+      answer = rw (add-one l.place, h.2) (sym (answer-good _ l.invariant.before l.place line _ good-line.0) ∙ by_first (goal.at.loop-rest-preserved c).In-Some);
     }
-
-pub counted-requires : goal.counted-requires
-counted-requires c = tt
 
 pub returns : goal.returns
 returns c =
-    let l = c.loop-from in
-    ap Read (c.counted.ensures l.invariant.before l.invariant.counted)
-    ∙ sym (ap (answer_from _ l.invariant.before l.place) (no_lines c.args.sheet.now l.from c.loop-from-test.false) ∙ answer-end _ l.invariant.before l.place)
-    ∙ l.invariant.rest
+    let l = c.loop-rest in
+    ap Ok (c.counted.ensures l.invariant.before l.invariant.counted)
+    ∙ sym (ap (answer_from _ l.invariant.before l.place) (no_lines l.rest.now (eqb-true (length l.rest.now) 0 (sym c.loop-rest-test.ensures))) ∙ answer-end _ l.invariant.before l.place)
+    ∙ l.invariant.answer

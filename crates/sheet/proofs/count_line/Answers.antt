@@ -1,29 +1,26 @@
 -- `sheet::count_line`: what has been seen, with one more line. Assumes nothing.
-use mathlib.Core.Path.{refl, sym, ap}
-use Prim.Native.Nat.{ℕ, ◌+◌}
-use native.Mathlib.Omega.{arith}
-use borrow.Author.Rules.{rules}
-use lib.ListN.{get_or, set}
-use Rattle.sheet.proofs.Check.{counted-more}
-use Rattle.sheet.proofs.Letters.{width-at, rank-at, width_small, letter-is}
-use Rattle.sheet.proofs.Put.{bytes_small}
+use Rattle.std.proofs.Common.{◌+◌, ℕ, set, get_or, refl, sym, ap, ◌∙◌, rules}
+use mathlib.Core.Option.{some}
+use Rattle.as5506.specs.Sheet.{name_bytes}
+use Rattle.sheet.proofs.Check.{counted-more, names-own, names-other}
+use Rattle.sheet.proofs.Letters.{width-at, rank-at, letter-is}
 use Rattle.sheet.specs.Steps.{letter_at}
 use Rattle.sheet.proofs.count_line.Goals as goal
 
-pub name_length-more-requires : goal.name_length-more-requires
-name_length-more-requires c = tt
-
-pub overflow_add-numbers : goal.overflow_add-numbers
-overflow_add-numbers c = let a = c.args in rw (width-at a.k c.requires.0) (omega (arith, c.requires.4, width_small (letter_at a.k)))
-
-pub overflow_add-result : goal.overflow_add-result
-overflow_add-result c = omega (arith, c.requires.2, c.requires.3, c.name_length-more.ensures, bytes_small c.args.line.now)
-
-pub returns : goal.returns
-returns c =
+pub returns-then-k-eq0 : goal.returns-then-k-eq0
+returns-then-k-eq0 c =
     let a = c.args in
-    let p = c.requires in
+    let k = letter-is a.line.now a.k c.requires.1 in
     λ before counted.
-    counted-more a.seen before counted a.line.now (letter_at a.k) (letter-is a.line.now a.k p.0 p.1) _ a.k
-    (sym (rank-at a.k p.0)) (search rules) refl (ap (λ (n : ℕ). a.seen.bytes + n) c.name_length-more.ensures)
-    (ap (λ (w : ℕ). set a.seen.numbers a.k (get_or a.seen.numbers a.k 0 + w)) (width-at a.k p.0))
+    counted-more a.seen.now before counted a.line.now (letter_at a.k) k _ a.k (sym (rank-at a.k c.requires.0)) (search rules) refl
+    (ap (λ (n : ℕ). n + c.saturating_sub.result) counted.bytes ∙ ap (λ (n : ℕ). name_bytes before + n) c.saturating_sub.ensures ∙ sym (names-own a.line.now before (k ∙ ap (λ (j : ℕ). some (letter_at j)) c.if-k-eq0.true)))
+    (ap (λ (w : ℕ). set a.seen.now.used.numbers a.k (get_or a.seen.now.used.numbers a.k 0 + w)) (width-at a.k c.requires.0))
+
+pub returns-else-k-eq0 : goal.returns-else-k-eq0
+returns-else-k-eq0 c =
+    let a = c.args in
+    let k = letter-is a.line.now a.k c.requires.1 in
+    λ before counted.
+    counted-more a.seen.now before counted a.line.now (letter_at a.k) k _ a.k (sym (rank-at a.k c.requires.0)) (search rules) refl
+    (counted.bytes ∙ sym (names-other a.line.now before (letter_at a.k) k (λ z. c.if-k-eq0.false (sym (rank-at a.k c.requires.0) ∙ z))))
+    (ap (λ (w : ℕ). set a.seen.now.used.numbers a.k (get_or a.seen.now.used.numbers a.k 0 + w)) (width-at a.k c.requires.0))

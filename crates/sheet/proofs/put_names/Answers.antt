@@ -1,73 +1,49 @@
--- `sheet::put_names`: the names that are left, written from here on, give the table with all of them. Assumes nothing.
-use mathlib.Core.Path.{refl, sym, ap, ◌∙◌}
-use Prim.Native.Nat.{ℕ, ◌+◌, ◌-◌, ◌≤◌}
-use native.Mathlib.Omega.{arith}
-use borrow.Author.Rules.{rules}
-use lib.ListN.{length, drop, length-drop}
-use lib.Seq.{sets, take_all}
-use Rattle.as5506.specs.Lists.{each}
-use Rattle.as5506.specs.Sheet.{lines_with, line_name}
+-- `sheet::put_names`: the names that are left and their rows, written from here on, give the tables with all of them. Assumes nothing.
+use Rattle.std.proofs.Common.{◌≡◌, ◌+◌, ◌<◌, get_or, length, take, drop, sym, ◌∙◌, arith, rules}
 use Rattle.as5506.specs.Tables.{letter_n}
-use Rattle.sheet.proofs.Order.{line_from, Turn, turn}
-use Rattle.sheet.proofs.Put.{left-all, writing_start, name-room, names-room, names-turn, writing-end}
-use Rattle.sheet.specs.Steps.{texts}
+use Rattle.sheet.proofs.Lines.{stop_of}
+use Rattle.sheet.proofs.Order.{Turn, turn}
+use Rattle.sheet.proofs.Put.{going-end, none-left, writing-end, none-placed, line-long, names-going, names-turn, placed-turn, names-fewer, is-found}
 use Rattle.sheet.proofs.put_names.Goals as goal
-use Rattle.sheet.proofs.put_names.Goals.{After-index_from-end}
-
-pub loop-end-init : goal.loop-end-init
-loop-end-init c = let p = c.requires in writing_start letter_n _ 0 _ _ _ (left-all _ p.0) refl p.1
-
-pub byte_at-requires : goal.byte_at-requires
-byte_at-requires c = tt
-
-pub index_from-end-requires : goal.index_from-end-requires
-index_from-end-requires c = c.loop-end.invariant.within
+use Rattle.sheet.proofs.put_names.Goals.{After-first_line, After-unwrap}
 
 -- the line of this turn
-here : (c : After-index_from-end) → Turn letter_n c.args.sheet.now c.loop-end.from c.index_from-end.result
-here c =
-    turn letter_n _ c.loop-end.from _ (sym c.byte_at.ensures ∙ c.loop-end-test.true) c.index_from-end.ensures.0 c.index_from-end.ensures.1 c.loop-end.invariant.order
+here : (c : After-first_line) → Turn letter_n c.loop-rest.rest.now (stop_of c.loop-rest.rest.now)
+here c = turn letter_n _ (sym c.get_or.ensures ∙ c.loop-rest-test.true) c.loop-rest.invariant.going.order
 
--- it has a letter, a space and a name
-long : (c : After-index_from-end) → 2 ≤ length (line_from c.args.sheet.now c.loop-end.from c.index_from-end.result)
-long c = omega (arith, (here c).size, (name-room c.args.sheet.now c.loop-end.from c.index_from-end.result (here c)).0)
+found : (c : After-unwrap) →
+    let s = c.loop-rest.rest.now in
+    (stop_of s < length s) × (c.unwrap.result.0.now ≡ take (stop_of s) s) × (c.unwrap.result.1.now ≡ drop (stop_of s + 1) s)
+found c = rw c.unwrap.ensures at c.first_line.ensures
 
-pub slice_bounds-put_bytes-count : goal.slice_bounds-put_bytes-count
-slice_bounds-put_bytes-count c = long (goal.at.slice_bounds-put_bytes-count c).After-index_from-end
+pub unwrap-requires : goal.unwrap-requires
+unwrap-requires c = is-found _ _ _ _ c.first_line.ensures (here c).inside
 
-pub put_bytes-requires : goal.put_bytes-requires
-put_bytes-requires c = tt
+pub slice_bounds-name-count : goal.slice_bounds-name-count
+slice_bounds-name-count c = let u = (goal.at.slice_bounds-name-count c).After-unwrap in let h = found u in omega (arith, (line-long _ _ _ _ (here (goal.at.After-unwrap u).After-first_line) h.1 h.2).0)
 
-pub overflow_sub-used : goal.overflow_sub-used
-overflow_sub-used c = long (goal.at.overflow_sub-used c).After-index_from-end
+pub slice_bounds-name-start : goal.slice_bounds-name-start
+slice_bounds-name-start c = let u = (goal.at.slice_bounds-name-start c).After-unwrap in let h = found u in let n = (line-long _ _ _ _ (here (goal.at.After-unwrap u).After-first_line) h.1 h.2).0 in search rules
 
-pub overflow_add-used : goal.overflow_add-used
-overflow_add-used c =
-    let l = c.loop-end in
-    let s = c.args.sheet.now in
-    let stop = c.index_from-end.result in
-    omega (arith, (here (goal.at.overflow_add-used c).After-index_from-end).size, names-room s l.from stop (here (goal.at.overflow_add-used c).After-index_from-end) c.args.bytes.now l.bytes (each line_name (lines_with letter_n (texts s))) l.used l.invariant, l.invariant.size)
-
-pub overflow_add-from : goal.overflow_add-from
-overflow_add-from c = omega (arith, (here (goal.at.overflow_add-from c).After-index_from-end).inside)
-
-pub loop-end-smaller : goal.loop-end-smaller
-loop-end-smaller c = omega (arith, (here (goal.at.loop-end-smaller c).After-index_from-end).inside, c.index_from-end.ensures.0)
-
-pub loop-end-preserved : goal.loop-end-preserved
-loop-end-preserved c =
-    let l = c.loop-end in
-    let s = c.args.sheet.now in
-    let stop = c.index_from-end.result in
-    let line = line_from s l.from stop in
-    names-turn s l.from stop (here (goal.at.loop-end-preserved c).After-index_from-end) _ l.bytes _ l.used l.invariant _ _
-    (c.put_bytes.ensures ∙ ap (sets l.bytes l.used) (take_all (length line - 2) (drop 2 line) (omega (arith, length-drop 2 line))))
-    (ap (λ (n : ℕ). l.used + (n - 2)) (here (goal.at.loop-end-preserved c).After-index_from-end).size)
+pub loop-rest-preserved : goal.loop-rest-preserved
+loop-rest-preserved c =
+    let l = c.loop-rest in
+    let u = (goal.at.loop-rest-preserved c).After-unwrap in
+    let t = here (goal.at.After-unwrap u).After-first_line in
+    let h = found u in
+    record {
+      going = names-going _ _ _ _ t h.1 h.2 _ l.invariant.going;
+      names = names-turn _ _ _ _ t h.1 h.2 _ _ _ _ _ l.invariant.names c.put_all.ensures;
+      rows = placed-turn _ _ _ _ t h.1 h.2 _ _ _ _ _ _ l.invariant.rows c.put_all-in-loop-rest.ensures;
+      few = names-fewer _ _ _ _ t h.1 h.2 _ _ l.invariant.few;
+    }
 
 pub returns : goal.returns
 returns c =
-    let l = c.loop-end in
-    writing-end letter_n _ l.from _ _ _ _ l.used l.invariant (λ e. c.loop-end-test.false (c.byte_at.ensures ∙ e)) (each line_name) refl refl
-
-pub slice_bounds-put_bytes-start : goal.slice_bounds-put_bytes-start
-slice_bounds-put_bytes-start c = let h = long (goal.at.slice_bounds-put_bytes-start c).After-index_from-end in search rules
+    let l = c.loop-rest in
+    let end : get_or l.rest.now 0 0 ≡ 78 → ⊥ = λ e. c.loop-rest-test.false (c.get_or.ensures ∙ e) in
+    let none = none-left letter_n _ _ l.invariant.going end in (
+      going-end letter_n _ _ l.invariant.going end,
+      writing-end _ _ _ _ _ l.invariant.names (rw none),
+      writing-end _ _ _ _ _ l.invariant.rows (rw none (none-placed l.used)),
+    )

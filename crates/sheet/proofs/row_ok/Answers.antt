@@ -1,32 +1,34 @@
 -- `sheet::row_ok`: the length, then the fields of the letter's columns. Assumes nothing.
-use mathlib.Core.Path.{sym, ap, ◌∙◌}
-use Prim.Native.Nat.{ℕ, ◌+◌}
-use native.Mathlib.Omega.{arith}
-use lib.ListN.{drop}
+use Rattle.std.proofs.Common.{◌-◌, length, drop, length-drop, ap, ◌∙◌, arith}
+use lib.Seq.{take_all}
+use borrow.Author.Tests.{ne_eqb}
+use Rattle.as5506.specs.Columns.{columns, line_bytes}
+use Rattle.as5506.specs.Fields.{fields_fit}
+use Rattle.fields.specs.Fields.{columns_of}
+use Rattle.fields.proofs.Laws.{plain-bytes}
 use Rattle.sheet.proofs.Check.{row-fields, row-length}
-use Rattle.sheet.proofs.Letters.{bytes-at, fit_at, line_at, rank-at, bytes-few}
+use Rattle.sheet.proofs.Letters.{rank-at, bytes-few}
 use Rattle.sheet.specs.Steps.{letter_at}
 use Rattle.sheet.proofs.row_ok.Goals as goal
-use Rattle.sheet.proofs.row_ok.Goals.{Start}
 
-pub overflow_add-k : goal.overflow_add-k
-overflow_add-k c = let a = c.args in omega (arith, bytes-at a.k c.requires.1, bytes-few (letter_at a.k))
+pub overflow_add-form : goal.overflow_add-form
+overflow_add-form c = omega (arith, c.form_of-form.ensures.bytes, bytes-few (letter_at c.args.k))
 
 pub fields_fit-requires : goal.fields_fit-requires
-fields_fit-requires c = let s = (goal.at.fields_fit-requires c).Start in c.if-line-k.true ∙ ap (λ (n : ℕ). 1 + n) (sym (line_at s.args.k s.requires.1))
+fields_fit-requires c =
+    let l = letter_at c.args.k in
+    omega (arith, c.if-line-form.true, ap line_bytes c.form_of-form.ensures.marks, plain-bytes (columns l), c.form_of-form.ensures.bytes)
 
-pub returns-then-line-k : goal.returns-then-line-k
-returns-then-line-k c =
-    let a = c.args in
-    let p = c.requires in
-    let n = rank-at a.k p.1 in
+pub returns-then-line-form : goal.returns-then-line-form
+returns-then-line-form c =
+    let k = c.args.k in
+    let s = c.args.line.now in
     c.fields_fit.ensures
-    ∙ fit_at a.k p.1 (drop 1 a.line.now)
-    ∙ row-fields a.line.now (letter_at a.k) (λ z. omega arith) (c.if-line-k.true ∙ ap (λ (n : ℕ). 1 + n) (bytes-at a.k p.1))
+    ∙ ap (fields_fit (columns_of c.form_of-form.result.marks.now)) (take_all (length s - 1) (drop 1 s) (omega (arith, length-drop 1 s)))
+    ∙ row-fields s (letter_at k) (λ z. omega (arith, z, rank-at k c.requires.1, c.requires.0)) _ c.form_of-form.ensures.marks (omega (arith, c.if-line-form.true, c.form_of-form.ensures.bytes))
 
-pub returns-else-line-k : goal.returns-else-line-k
-returns-else-line-k c =
-    let a = c.args in
-    let p = c.requires in
-    let n = rank-at a.k p.1 in
-    row-length a.line.now (letter_at a.k) (λ z. omega arith) (λ e. c.if-line-k.false (e ∙ ap (λ (n : ℕ). 1 + n) (sym (bytes-at a.k p.1))))
+pub returns-else-line-form : goal.returns-else-line-form
+returns-else-line-form c =
+    let k = c.args.k in
+    ne_eqb _ _ c.if-line-form.false
+    ∙ row-length c.args.line.now (letter_at k) (λ z. omega (arith, z, rank-at k c.requires.1, c.requires.0)) (λ e. c.if-line-form.false (omega (arith, e, c.form_of-form.ensures.bytes)))

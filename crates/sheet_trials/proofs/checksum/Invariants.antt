@@ -1,9 +1,6 @@
 -- `sheet_trials::checksum`: the sum stays below the prime.
-use Rattle.std.proofs.Common.{length, ◌-◌, ◌<◌}
+use Rattle.std.proofs.Common.{◌<◌}
 use Rattle.sheet_trials.proofs.checksum.Given as goal
 
-abbrev pub invariant-loop-i : goal.invariant-loop-i
-invariant-loop-i l = l.sum < 4294967291
-
-abbrev pub decreases-loop-i : goal.decreases-loop-i
-decreases-loop-i l = length l.t - l.i
+abbrev pub invariant-loop-v : goal.invariant-loop-v
+invariant-loop-v g l = l.sum < 4294967291

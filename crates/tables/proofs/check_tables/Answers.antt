@@ -1,34 +1,48 @@
--- `tables::check_tables` meets its contract: each call goes one rule further, and the whole order gives the first fault. Assumes nothing.
-use mathlib.Core.List.{[], ◌∷◌}
-use mathlib.Core.Path.{◌∙◌}
-use Rattle.as5506.specs.Tables.{Tables, tables_of}
-use Rattle.tables.specs.Order.{check_rule, check_all}
-use Rattle.tables.specs.declared.Rule.TheVariants.{Whole, Few, Names, Fields, Root, Parents, Places, Ends, Keys}
-use Rattle.tables.specs.declared.Checked.TheVariants.{Accepted}
-use Rattle.tables.proofs.Bridge.{check-all}
-use Rattle.tables.proofs.Scans.{over-next, over_done}
+-- `tables::check_tables` meets its contract: one check after the other. Assumes nothing.
+use Rattle.std.proofs.Common.{◌≡◌, rules, List, [], ◌∷◌}
+use Rattle.lent.specs.Model.{model}
+use Rattle.as5506.specs.Lists.{each}
+use Rattle.as5506.specs.Answers.{Refusal}
+use Rattle.as5506.specs.Tables.{Tables, letter_n}
+use Rattle.as5506.specs.Columns.{order}
+use Rattle.as5506.specs.Refusals.{row_faults, broken_rows, too_many_rows, bad_name, faults6, faults7, faults8, faults9, faults10, faults16, faults}
+use Rattle.tables.specs.Answer.{checked}
+use Rattle.tables.proofs.Order.{joined, refused, stops, goes-on}
 use Rattle.tables.proofs.check_tables.Goals as goal
-use Rattle.tables.proofs.check_tables.Goals.{Start}
 
--- the tables that are lent
-abbrev lent : Start → Tables
-lent s =
-    tables_of s.args.bytes.now s.args.n.now s.args.c.now s.args.f.now s.args.x.now s.args.p.now
-    s.args.i.now s.args.t.now s.args.q.now s.args.u.now s.args.e.now s.args.r.now s.args.m.now
+abbrev in_order : Tables → List Refusal
+in_order m =
+    joined (each (broken_rows m) order)
+    (each (too_many_rows m) order ∷ row_faults 10 m letter_n (bad_name m) ∷ faults6 m ∷ faults7 m ∷ faults16 m ∷ faults8 m ∷ faults9 m ∷ [])
+
+pub returns-in_err-check_whole : goal.returns-in_err-check_whole
+unfolding faults faults10
+returns-in_err-check_whole c = refused (in_order (model c.args.m.now)) c.from_residual.ensures.1 (search (rules, stops, goes-on))
+
+pub returns-in_err-check_few : goal.returns-in_err-check_few
+unfolding faults faults10
+returns-in_err-check_few c = refused (in_order (model c.args.m.now)) c.from_residual-in_err-check_few.ensures.1 (search (rules, stops, goes-on))
+
+pub returns-in_err-check_names : goal.returns-in_err-check_names
+unfolding faults faults10
+returns-in_err-check_names c = refused (in_order (model c.args.m.now)) c.from_residual-in_err-check_names.ensures.1 (search (rules, stops, goes-on))
+
+pub returns-in_err-check_fields : goal.returns-in_err-check_fields
+unfolding faults faults10
+returns-in_err-check_fields c = refused (in_order (model c.args.m.now)) c.from_residual-in_err-check_fields.ensures.1 (search (rules, stops, goes-on))
+
+pub returns-in_err-check_parents : goal.returns-in_err-check_parents
+unfolding faults faults10
+returns-in_err-check_parents c = refused (in_order (model c.args.m.now)) c.from_residual-in_err-check_parents.ensures.1 (search (rules, stops, goes-on))
+
+pub returns-in_err-check_places : goal.returns-in_err-check_places
+unfolding faults faults10
+returns-in_err-check_places c = refused (in_order (model c.args.m.now)) c.from_residual-in_err-check_places.ensures.1 (search (rules, stops, goes-on))
+
+pub returns-in_err-check_ends : goal.returns-in_err-check_ends
+unfolding faults faults10
+returns-in_err-check_ends c = refused (in_order (model c.args.m.now)) c.from_residual-in_err-check_ends.ensures.1 (search (rules, stops, goes-on))
 
 pub returns : goal.returns
-unfolding check_all
-returns c =
-    let m = lent (goal.at.returns c).Start in
-    let f = check_rule m in
-    over_done f c.check_rule.result
-    ∙ over-next f Keys ([]) c.check_rule-so-8.result _ c.check_rule.ensures
-    ∙ over-next f Ends (Keys ∷ []) c.check_rule-so-7.result _ c.check_rule-so-8.ensures
-    ∙ over-next f Places (Ends ∷ Keys ∷ []) c.check_rule-so-6.result _ c.check_rule-so-7.ensures
-    ∙ over-next f Parents (Places ∷ Ends ∷ Keys ∷ []) c.check_rule-so-5.result _ c.check_rule-so-6.ensures
-    ∙ over-next f Root (Parents ∷ Places ∷ Ends ∷ Keys ∷ []) c.check_rule-so-4.result _ c.check_rule-so-5.ensures
-    ∙ over-next f Fields (Root ∷ Parents ∷ Places ∷ Ends ∷ Keys ∷ []) c.check_rule-so-3.result _ c.check_rule-so-4.ensures
-    ∙ over-next f Names (Fields ∷ Root ∷ Parents ∷ Places ∷ Ends ∷ Keys ∷ []) c.check_rule-so-2.result _ c.check_rule-so-3.ensures
-    ∙ over-next f Few (Names ∷ Fields ∷ Root ∷ Parents ∷ Places ∷ Ends ∷ Keys ∷ []) c.check_rule-so.result _ c.check_rule-so-2.ensures
-    ∙ over-next f Whole (Few ∷ Names ∷ Fields ∷ Root ∷ Parents ∷ Places ∷ Ends ∷ Keys ∷ []) (Accepted) _ c.check_rule-so.ensures
-    ∙ check-all m
+unfolding faults faults10
+returns c = let h : c.check_keys.result ≡ checked (in_order (model c.args.m.now)) = search (rules, stops, goes-on) in h

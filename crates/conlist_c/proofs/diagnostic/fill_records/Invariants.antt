@@ -1,10 +1,7 @@
--- `conlist_c::diagnostic::fill_records`: the loop has stored the records of the numbers at each index below i.
-use Rattle.std.proofs.Common.{◌≡◌, ◌-◌, ◌≤◌, length}
-use Rattle.conlist_c.proofs.Filled.{fill_to}
+-- `conlist_c::diagnostic::fill_records`: the records of the numbers stand at each index below i.
+use Rattle.std.proofs.Common.{◌≡◌, ◌<◌, ℕ, get_or}
+use Rattle.conlist_c.specs.Records.{record_at}
 use Rattle.conlist_c.proofs.diagnostic.fill_records.Given as goal
 
 abbrev pub invariant-loop-i : goal.invariant-loop-i
-invariant-loop-i l = (l.i ≤ length l.out) × (l.out ≡ fill_to l.numbers l.i l.initial.out)
-
-abbrev pub decreases-loop-i : goal.decreases-loop-i
-decreases-loop-i l = length l.initial.out - l.i
+invariant-loop-i l = (k : ℕ) → k < l.i → get_or l.out k (record_at l.numbers 0) ≡ record_at l.numbers k

@@ -1,25 +1,29 @@
 -- `operation_modes::choose::choose_modes` meets its contract. Assumes nothing.
-use mathlib.Core.Path.{refl}
+use mathlib.Core.Path.{sym, ◌∙◌}
 use native.Mathlib.Omega.{arith}
-use Rattle.operation_modes.proofs.Choosing.{choosing-start, choosing-turn, choosing-end}
+use Rattle.operation_modes.proofs.Linking.{linked_length}
+use Rattle.operation_modes.proofs.Choosing.{choosing_none, choosing_end, weight_some, digit_less, choosing_turn}
 use Rattle.operation_modes.proofs.choose.choose_modes.Goals as goal
 
-pub loop-i-init : goal.loop-i-init
-loop-i-init c = choosing-start _ _ _ _ _ c.requires.1 refl refl c.requires.2
+pub loop-i-preserved-then-size-eq0 : goal.loop-i-preserved-then-size-eq0
+loop-i-preserved-then-size-eq0 c =
+    choosing_none _ _ _ _ _ _ _ _ c.loop-i-test.true c.loop-i.invariant _ (c.size-size.ensures ∙ sym (linked_length _ _)) c.if-size-eq0.true
 
-pub choose_mode-so-requires : goal.choose_mode-so-requires
-choose_mode-so-requires c =
-    let s = c.loop-i.invariant in
-    (s.place, omega (arith, c.loop-i-test.true, c.requires.0), s.left_less, (c.args.end, (c.loop-i-test.true, s.weight_is)))
+pub nonzero_div-left : goal.nonzero_div-left
+nonzero_div-left c =
+    omega (arith, weight_some _ _ _ _ _ _ _ _ c.loop-i-test.true c.loop-i.invariant _ (c.size-size.ensures ∙ sym (linked_length _ _)) c.if-size-eq0.false)
+
+pub mode-requires : goal.mode-requires
+mode-requires c =
+    omega (arith, c.size-size.ensures, digit_less _ _ _ _ _ _ _ _ c.loop-i-test.true c.loop-i.invariant _ (c.size-size.ensures ∙ sym (linked_length _ _)) c.if-size-eq0.false)
+
+pub nonzero_rem-left : goal.nonzero_rem-left
+nonzero_rem-left c =
+    omega (arith, weight_some _ _ _ _ _ _ _ _ c.loop-i-test.true c.loop-i.invariant _ (c.size-size.ensures ∙ sym (linked_length _ _)) c.if-size-eq0.false)
 
 pub loop-i-preserved : goal.loop-i-preserved
 loop-i-preserved c =
-    let s = c.loop-i.invariant in
-    let h = c.loop-i-test.true in
-    choosing-turn _ _ _ _ _ _ _ _ _ h s (c.choose_mode-so.ensures _ (h, s.weight_is))
-
-pub shape_of-rows : goal.shape_of-rows
-shape_of-rows c = c.loop-i.invariant.size
+    choosing_turn _ _ _ _ _ _ _ _ c.loop-i-test.true c.loop-i.invariant _ (c.size-size.ensures ∙ sym (linked_length _ _)) c.if-size-eq0.false _ _ c.mode.ensures c.put.ensures
 
 pub returns : goal.returns
-returns c = choosing-end _ _ _ _ _ _ _ c.loop-i-test.false c.loop-i.invariant
+returns c = choosing_end _ _ _ _ _ _ _ _ c.loop-i-test.false c.loop-i.invariant

@@ -1,49 +1,23 @@
--- `semantic::pairs::trace_connections` meets its contract. The invariant: the rows of the X rows from i on remain to be written. The measure: the rows of X that are left. Assumes nothing.
-use Rattle.semantic.proofs.PairLaws.{rows_end, rows-turn, rows-full}
-use Rattle.trace.proofs.Writing.{remains-start}
-use Rattle.as5506.specs.Tables.{Tables}
-use Rattle.lent.specs.Lent.{wiring_in}
+-- `semantic::pairs::trace_connections` meets its contract. Assumes nothing.
 use native.Mathlib.Omega.{arith}
-use mathlib.Core.Path.{◌∙◌}
+use native.Mathlib.Nat.{sub-zero}
+use Rattle.as5506.specs.Tables.{x_count}
+use Rattle.lent.specs.Model.{model}
+use Rattle.as5506.specs.Tracing.{traced}
+use Rattle.as5506.proofs.Scans.{span-next, span-done}
+use Rattle.trace.proofs.Writing.{remains-start}
+use Rattle.semantic.proofs.Parts.{each-end, each-turn, each-full}
 use Rattle.semantic.proofs.pairs.trace_connections.Goals as goal
-use Rattle.semantic.proofs.pairs.trace_connections.Goals.{Start}
 
--- the tables that the call is lent
-abbrev wiring : Start → Tables
-wiring s = wiring_in s.args.bytes.now s.args.n.now s.args.c.now s.args.x.now
+pub loop-row-init : goal.loop-row-init
+unfolding traced
+loop-row-init c = rw sub-zero (remains-start _ _ _ _ _ (omega arith))
 
-pub loop-i-init : goal.loop-i-init
-loop-i-init c = (omega arith, remains-start _ _ _ _ _ (omega arith))
+pub returns-in_err-done : goal.returns-in_err-done
+returns-in_err-done c = each-full _ _ _ _ _ _ _ _ _ c.loop-row.invariant _ _ (span-next c.loop-row.row (x_count (model c.args.m.now)) (omega arith)) _ _ c.trace.ensures c.in_err-done.was _ c.from_residual.ensures
 
-pub trace_connection-requires : goal.trace_connection-requires
-trace_connection-requires c =
-    let s = (goal.at.trace_connection-requires c).Start in
-    let g = c.loop-i in
-    record { tables = s.requires; room = rw g.invariant.1.size g.invariant.1.room; row = omega arith }
-
-pub shape_of-out-in-Full : goal.shape_of-out-in-Full
-shape_of-out-in-Full c = c.trace_connection.auto.out ∙ c.loop-i.invariant.1.size
-
-pub returns-in-Full : goal.returns-in-Full
-returns-in-Full c =
-    let m = wiring (goal.at.returns-in-Full c).Start in
-    rows-full m _ _ _ _ c.loop-i.invariant.1 (omega arith) c.trace_connection.result _ c.trace_connection.ensures c.in-Full.is
-
-pub overflow_add-i : goal.overflow_add-i
-overflow_add-i c = omega arith
-
-pub loop-i-smaller : goal.loop-i-smaller
-loop-i-smaller c = omega arith
-
-pub loop-i-preserved : goal.loop-i-preserved
-loop-i-preserved c =
-    let m = wiring (goal.at.loop-i-preserved c).Start in
-    (omega arith, rows-turn m _ _ _ _ c.loop-i.invariant.1 (omega arith) c.trace_connection.result _ c.trace_connection.ensures _ c.in-Count.is)
-
-pub shape_of-out : goal.shape_of-out
-shape_of-out c = c.loop-i.invariant.1.size
+pub loop-row-preserved : goal.loop-row-preserved
+loop-row-preserved c = each-turn _ _ _ _ _ _ _ _ _ c.loop-row.invariant _ _ (span-next c.loop-row.row (x_count (model c.args.m.now)) (omega arith)) _ _ c.trace.ensures _ c.in_ok-done.was
 
 pub returns : goal.returns
-returns c =
-    let m = wiring (goal.at.returns c).Start in
-    rows_end m _ _ _ _ c.loop-i.invariant.1 (omega arith)
+returns c = each-end _ _ _ _ _ _ _ _ _ c.loop-row.invariant (span-done c.loop-row.row (x_count (model c.args.m.now)) (omega arith))

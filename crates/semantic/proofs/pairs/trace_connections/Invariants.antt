@@ -1,14 +1,14 @@
--- `semantic::pairs::trace_connections` meets its contract. The invariant: the rows of the X rows from i on remain to be written. The measure: the rows of X that are left. Assumes nothing.
-use Rattle.semantic.specs.Rows.{rows_from}
+-- `semantic::pairs::trace_connections` meets its contract. The invariant: the rows of the X rows from `row` on remain to be written. Assumes nothing.
+use Rattle.as5506.specs.Lists.{span, each}
+use Rattle.as5506.specs.Tables.{x_count}
+use Rattle.as5506.specs.Tracing.{rows_at, traced, step_limit}
+use Prim.Native.Nat.{◌-◌}
 use Rattle.trace.proofs.Writing.{Remains}
 use Rattle.as5506.specs.Layout.{traced_block, row_numbers}
-use Rattle.lent.specs.Lent.{wiring_in}
-use Prim.Native.Nat.{◌-◌, ◌≤◌}
+use Rattle.lent.specs.Model.{model}
 use Rattle.semantic.proofs.pairs.trace_connections.Given as goal
 
-abbrev pub invariant-loop-i : goal.invariant-loop-i
-invariant-loop-i l =
-    (l.i ≤ l.rows) × Remains row_numbers (traced_block (wiring_in l.bytes l.n l.c l.x)) (rows_from (wiring_in l.bytes l.n l.c l.x) 0) l.initial.out 0 l.out l.done (rows_from (wiring_in l.bytes l.n l.c l.x) l.i)
-
-abbrev pub decreases-loop-i : goal.decreases-loop-i
-decreases-loop-i l = l.rows - l.i
+abbrev pub invariant-loop-row : goal.invariant-loop-row
+invariant-loop-row l =
+    let m = model l.m in
+    Remains row_numbers (traced_block m) (traced step_limit m) l.initial.out 0 l.out l.done (each (rows_at m step_limit) (span l.row (x_count m - l.row)))

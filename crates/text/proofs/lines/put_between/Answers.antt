@@ -1,8 +1,6 @@
 -- `text::lines::put_between` meets its contract: three pieces, one behind the other. Assumes nothing.
-use Rattle.lent.proofs.Added.{added-piece, added_then}
+use Rattle.output.proofs.Put.{◌▷◌}
 use Rattle.text.proofs.lines.put_between.Goals as goal
 
 pub returns : goal.returns
-returns c =
-    added_then (added_then (added-piece c.append_bytes-first.ensures) (added-piece c.append_bytes-second.ensures))
-    (added-piece c.append_bytes.ensures)
+returns c = c.put.ensures ▷ c.put-2.ensures ▷ c.put-3.ensures

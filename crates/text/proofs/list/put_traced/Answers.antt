@@ -1,43 +1,11 @@
--- `text::list::put_traced` meets its contract: the loop's invariant is `Printing`: the rows from row i on are still to be printed. Assumes nothing.
+-- `text::list::put_traced` meets its contract: a turn prints one row more. Assumes nothing.
 use mathlib.Core.List.{[]}
-use mathlib.Core.Path.{sym, ap}
-use Prim.Native.Nat.{ℕ, ◌*◌}
-use native.Mathlib.Nat.{sub-zero}
-use native.Mathlib.Omega.{arith}
-use Rattle.as5506.specs.Layout.{row_numbers, rows_back}
-use Rattle.as5506.specs.Lists.{each}
-use Rattle.as5506.specs.Text.{row_text}
-use Rattle.lent.specs.Lent.{wiring_in}
-use Rattle.lent.proofs.Added.{printing-start, printing-turn, printing-end}
-use Rattle.text.proofs.Blocks.{part_length, traced-text-next, traced-text-done}
+use Rattle.output.proofs.Put.{printing_next, printing_end}
+use Rattle.text.proofs.Blocks.{each-done}
 use Rattle.text.proofs.list.put_traced.Goals as goal
-use Rattle.text.proofs.list.put_traced.Goals.{At-loop-i, In-loop-i, Start}
 
-pub loop-i-init : goal.loop-i-init
-loop-i-init c =
-    let s = (goal.at.loop-i-init c).Start in
-    printing-start (ap (λ (k : ℕ). each row_text (rows_back (wiring_in s.args.bytes.now s.args.n.now [] []) k s.args.rows.now)) (sym (sub-zero s.args.count)))
-
-pub put_traced_row-z-requires : goal.put_traced_row-z-requires
-put_traced_row-z-requires c =
-    let l = (goal.at.put_traced_row-z-requires c).At-loop-i in
-    let s = (goal.at.At-loop-i l).Start in
-    part_length s.args.rows.now (l.loop-i.i * row_numbers) row_numbers (omega (arith, s.requires, c.loop-i-test.true))
-
-pub loop-i-preserved : goal.loop-i-preserved
-loop-i-preserved c =
-    let inside = (goal.at.loop-i-preserved c).In-loop-i in
-    let l = (goal.at.In-loop-i inside).At-loop-i in
-    let s = (goal.at.At-loop-i l).Start in
-    printing-turn l.loop-i.invariant
-    (traced-text-next s.args.bytes.now s.args.n.now s.args.rows.now s.args.count l.loop-i.i inside.loop-i-test.true)
-    c.put_traced_row-z.ensures
-
-pub shape_of-text : goal.shape_of-text
-shape_of-text c = c.loop-i.invariant.size
+pub loop-block-preserved : goal.loop-block-preserved
+loop-block-preserved c = printing_next _ _ _ [] c.loop-block.invariant c.loop-block-test.true c.put_traced_row.ensures
 
 pub returns : goal.returns
-returns c =
-    let l = (goal.at.returns c).At-loop-i in
-    let s = (goal.at.At-loop-i l).Start in
-    printing-end l.loop-i.invariant (traced-text-done s.args.bytes.now s.args.n.now s.args.rows.now s.args.count l.loop-i.i c.loop-i-test.false)
+returns c = printing_end c.loop-block.invariant (each-done _ _ _ c.loop-block-test.false)

@@ -1,5 +1,0 @@
--- `decimal_trials::main`: the cases left fall.
-use Rattle.decimal_trials.proofs.main.Given as goal
-
-abbrev pub decreases-loop-left : goal.decreases-loop-left
-decreases-loop-left l = l.left

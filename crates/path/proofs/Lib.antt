@@ -1,0 +1,2 @@
+-- Laws of a path's places.
+mod Places

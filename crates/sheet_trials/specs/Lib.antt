@@ -1,4 +1,0 @@
--- What a case lends.
---
---     Ends   parts of the slices
-pub mod Ends
