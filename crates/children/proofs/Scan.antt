@@ -2,9 +2,8 @@
 use mathlib.Core.Bool.{Bool, true, false, not, ◌&&◌, cond}
 use mathlib.Core.Path.{◌≡◌, refl, sym, ap, ◌∙◌, subst}
 use mathlib.Core.List.{List, [], ◌∷◌}
-use Prim.Native.Nat.{ℕ, zero, suc, ◌+◌, ◌-◌, ◌≤◌, ◌<◌}
+use Prim.Native.Nat.{ℕ, ◌+◌, ◌-◌, ◌≤◌, ◌<◌}
 use native.Mathlib.Nat.{sub-zero}
-use native.Mathlib.Numerals.{add-one}
 use native.Mathlib.Omega.{arith}
 use lib.Dec.{T}
 use lib.ListN.{length}
@@ -20,7 +19,7 @@ use Rattle.as5506.proofs.Sorted.{sorted-length, before-then, is-before, before-i
 use Rattle.as5506.proofs.Children.{children-kept}
 use Rattle.children.specs.declared.Rule.{Rule}
 use Rattle.children.specs.declared.Rule.TheVariants.{Exact, Base}
-use Rattle.children.specs.Found.{fits, is_found, stands_from, is_from, is_better, is_next, children_from, rule_by, rule_for, found_from, after_child, Inside}
+use Rattle.children.specs.Found.{fits, is_found, stands_behind, is_left, is_better, is_next, children_behind, rule_by, rule_for, found_behind, after_child, Inside}
 use Rattle.children.proofs.Next.{Least, least-turn, least-none, least-found}
 
 module _ (m : Tables) (rule : Rule) (p : ℕ) (w : List ℕ) where
@@ -40,11 +39,11 @@ module _ (m : Tables) (rule : Rule) (p : ℕ) (w : List ℕ) where
   rows_miss i h e = keep-miss (is_found m rule p w) i (c_count m) h e
 
   -- all of them
-  start : children_from m rule p w 0 ≡ sort_by (c_place m) (keep (is_found m rule p w) (up_to (c_count m)))
-  unfolding children_from is_from stands_from
+  start : children_behind m rule p w None ≡ sort_by (c_place m) (keep (is_found m rule p w) (up_to (c_count m)))
+  unfolding children_behind is_left stands_behind
   start = ap (sort_by (c_place m)) (keep_same (λ j. is_found m rule p w j && true) (is_found m rule p w) (λ j. and-true (is_found m rule p w j)) (up_to (c_count m)))
 
-  pub as_many : length (rows_from 0) ≡ length (children_from m rule p w 0)
+  pub as_many : length (rows_from 0) ≡ length (children_behind m rule p w None)
   as_many = rw (sub-zero (c_count m)) (sym (ap length start ∙ sorted-length (c_place m) (keep (is_found m rule p w) (up_to (c_count m)))))
 
   none-as-none : (a b : List ℕ) → length a ≡ length b → is_nil a ≡ is_nil b
@@ -54,32 +53,32 @@ module _ (m : Tables) (rule : Rule) (p : ℕ) (w : List ℕ) where
   none-as-none (x ∷ xs) (y ∷ ys) e = refl
 
   -- none of them where there are no children
-  none-too : (l : List ℕ) → rows_from 0 ≡ l → is_nil (children_from m rule p w 0) ≡ is_nil l
-  none-too l e = none-as-none (children_from m rule p w 0) l (sym as_many ∙ ap length e)
+  none-too : (l : List ℕ) → rows_from 0 ≡ l → is_nil (children_behind m rule p w None) ≡ is_nil l
+  none-too l e = none-as-none (children_behind m rule p w None) l (sym as_many ∙ ap length e)
 
-  pub some_found : (i : ℕ) → rows_from 0 ≡ rows_from i → i < c_count m → is_found m rule p w i ≡ true → true ≡ not (is_nil (children_from m rule p w 0))
+  pub some_found : (i : ℕ) → rows_from 0 ≡ rows_from i → i < c_count m → is_found m rule p w i ≡ true → true ≡ not (is_nil (children_behind m rule p w None))
   some_found i e h f = ap not (sym (none-too (i ∷ rows_from (i + 1)) (e ∙ rows_hit i h f)))
 
-  pub none_found : (i : ℕ) → rows_from 0 ≡ rows_from i → c_count m ≤ i → false ≡ not (is_nil (children_from m rule p w 0))
+  pub none_found : (i : ℕ) → rows_from 0 ≡ rows_from i → c_count m ≤ i → false ≡ not (is_nil (children_behind m rule p w None))
   none_found i e h = ap not (sym (none-too [] (e ∙ rows_end i h)))
 
   -- ---- by place: the next child
 
-  module _ (from : ℕ) where
+  module _ (last : Option ℕ) where
     -- of the rows below i, the next child, if there is any
     abbrev pub Best : ℕ → Option ℕ → Type 0
-    Best i best = Least (c_place m) (is_from m rule p w from) i best
+    Best i best = Least (c_place m) (is_left m rule p w last) i best
 
-    turn : (i : ℕ) (best : Option ℕ) (b : Bool) → Best i best → is_next m rule p w from best i ≡ b → Best (i + 1) (cond b (Some i) best)
+    turn : (i : ℕ) (best : Option ℕ) (b : Bool) → Best i best → is_next m rule p w last best i ≡ b → Best (i + 1) (cond b (Some i) best)
     unfolding is_next is_better
-    turn i None b l e = rw (← e) (least-turn (c_place m) (is_from m rule p w from) i None l)
-    turn i (Some k) b l e = rw (← e) (least-turn (c_place m) (is_from m rule p w from) i (Some k) l)
+    turn i None b l e = rw (← e) (least-turn (c_place m) (is_left m rule p w last) i None l)
+    turn i (Some k) b l e = rw (← e) (least-turn (c_place m) (is_left m rule p w last) i (Some k) l)
 
     -- one row more: it is the next, or it is not
-    pub best_taken : (i : ℕ) (best : Option ℕ) → Best i best → is_next m rule p w from best i ≡ true → Best (i + 1) (Some i)
+    pub best_taken : (i : ℕ) (best : Option ℕ) → Best i best → is_next m rule p w last best i ≡ true → Best (i + 1) (Some i)
     best_taken i best l e = turn i best true l e
 
-    pub best_left : (i : ℕ) (best : Option ℕ) → Best i best → is_next m rule p w from best i ≡ false → Best (i + 1) best
+    pub best_left : (i : ℕ) (best : Option ℕ) → Best i best → is_next m rule p w last best i ≡ false → Best (i + 1) best
     best_left i best l e = turn i best false l e
 
     drop-middle : (a b d : Bool) → (T d → T b) → (a && b) && d ≡ a && d
@@ -88,26 +87,25 @@ module _ (m : Tables) (rule : Rule) (p : ℕ) (w : List ℕ) where
     drop-middle true false false h = refl
     drop-middle false b d h = refl
 
-    behind-too : (from b j : ℕ) → T (stands_from m from b) → T (is_before (c_place m) b j) → T (stands_from m from j)
-    unfolding stands_from
-    behind-too zero b j t u = tt
-    behind-too (suc k) b j t u = before-is (c_place m) k j (before-then (c_place m) k b j (is-before (c_place m) k b t) (is-before (c_place m) b j u))
+    behind-too : (last : Option ℕ) (b j : ℕ) → T (stands_behind m last b) → T (is_before (c_place m) b j) → T (stands_behind m last j)
+    unfolding stands_behind
+    behind-too None b j t u = tt
+    behind-too (Some k) b j t u = before-is (c_place m) k j (before-then (c_place m) k b j (is-before (c_place m) k b t) (is-before (c_place m) b j u))
 
-    passed : (n b : ℕ) → Best n (Some b) → T (stands_from m from b)
-    unfolding is_from
-    passed n b l = and_right (is_found m rule p w b) (stands_from m from b) (subst T (sym l.first.1) tt)
+    passed : (n b : ℕ) → Best n (Some b) → T (stands_behind m last b)
+    unfolding is_left
+    passed n b l = and_right (is_found m rule p w b) (stands_behind m last b) (subst T (sym l.first.1) tt)
 
     -- the best of all rows is the next child, and from behind it on the others follow
-    next-is : (q : Option ℕ) → Best (c_count m) q → children_from m rule p w from ≡ after_child (children_from m rule p w) q
-    unfolding children_from is_from stands_from
-    next-is None l = least-none (c_place m) (is_from m rule p w from) (c_count m) l
+    next-is : (q : Option ℕ) → Best (c_count m) q → children_behind m rule p w last ≡ after_child (children_behind m rule p w) q
+    unfolding children_behind is_left stands_behind
+    next-is None l = least-none (c_place m) (is_left m rule p w last) (c_count m) l
     next-is (Some b) l =
-        least-found (c_place m) (is_from m rule p w from) (c_count m) b l
+        least-found (c_place m) (is_left m rule p w last) (c_count m) b l
         ∙ ap (λ (r : List ℕ). b ∷ r)
         (ap (sort_by (c_place m))
-        (keep_same (pass_behind (c_place m) (is_from m rule p w from) b) (is_from m rule p w (suc b))
-        (λ j. drop-middle (is_found m rule p w j) (stands_from m from j) (is_before (c_place m) b j) (λ u. behind-too from b j (passed (c_count m) b l) u)) (up_to (c_count m)))
-        ∙ ap (children_from m rule p w) (sym (add-one b)))
+        (keep_same (pass_behind (c_place m) (is_left m rule p w last) b) (is_left m rule p w (Some b))
+        (λ j. drop-middle (is_found m rule p w j) (stands_behind m last j) (is_before (c_place m) b j) (λ u. behind-too last b j (passed (c_count m) b l) u)) (up_to (c_count m))))
 
     inside-is : (q : Option ℕ) → Best (c_count m) q → Inside m q
     inside-is None l = tt
@@ -118,7 +116,7 @@ module _ (m : Tables) (rule : Rule) (p : ℕ) (w : List ℕ) where
       whole : Best (c_count m) q
       whole = subst (λ (n : ℕ). Best n q) (let e : i ≡ c_count m = omega arith in e) l
 
-      pub best_next : children_from m rule p w from ≡ after_child (children_from m rule p w) q
+      pub best_next : children_behind m rule p w last ≡ after_child (children_behind m rule p w) q
       best_next = next-is q whole
 
       pub best_inside : Inside m q
@@ -127,23 +125,23 @@ module _ (m : Tables) (rule : Rule) (p : ℕ) (w : List ℕ) where
 -- ---- THE CHILDREN FROM THE START ON ARE THE DEFINITION'S
 
 module _ (m : Tables) (p : ℕ) (w : List ℕ) where
-  exact-all : children_from m Exact p w 0 ≡ keep (is_named m w) (children_of m p)
+  exact-all : children_behind m Exact p w None ≡ keep (is_named m w) (children_of m p)
   unfolding is_found fits
   exact-all = start m Exact p w ∙ sym (children-kept m p (is_named m w))
 
-  base-all : children_from m Base p w 0 ≡ keep (is_element m w) (children_of m p)
+  base-all : children_behind m Base p w None ≡ keep (is_element m w) (children_of m p)
   unfolding is_found fits
   base-all = start m Base p w ∙ sym (children-kept m p (is_element m w))
 
-  by-list : (b : Bool) (l : List ℕ) → children_from m Exact p w 0 ≡ l → children_from m (rule_by (is_nil l) b) p w 0 ≡ or_elements b m p w l
+  by-list : (b : Bool) (l : List ℕ) → children_behind m Exact p w None ≡ l → children_behind m (rule_by (is_nil l) b) p w None ≡ or_elements b m p w l
   unfolding or_elements
   by-list b (i ∷ l) e = e
   by-list true [] e = e
   by-list false [] e = base-all
 
-  pub found-from-start : found_from m p w 0 ≡ found_children m p w
-  unfolding found_from rule_for found_children
-  found-from-start = by-list (has bracket w) (children_from m Exact p w 0) refl ∙ ap (or_elements (has bracket w) m p w) exact-all
+  pub found_all : found_behind m p w None ≡ found_children m p w
+  unfolding found_behind rule_for found_children
+  found_all = by-list (has bracket w) (children_behind m Exact p w None) refl ∙ ap (or_elements (has bracket w) m p w) exact-all
 
 -- ---- how many
 
@@ -153,8 +151,8 @@ module _ (m : Tables) (rule : Rule) (p : ℕ) (w : List ℕ) where
   how_many i = length (rows_from m rule p w i)
 
   pub how_many_start : rule ≡ rule_for m p w → how_many 0 ≡ length (found_children m p w)
-  unfolding how_many found_from
-  how_many_start r = as_many m rule p w ∙ ap (λ (r : Rule). length (children_from m r p w 0)) r ∙ ap length (found-from-start m p w)
+  unfolding how_many found_behind
+  how_many_start r = as_many m rule p w ∙ ap (λ (r : Rule). length (children_behind m r p w None)) r ∙ ap length (found_all m p w)
 
   pub how_many_hit : (i : ℕ) → i < c_count m → is_found m rule p w i ≡ true → how_many i ≡ 1 + how_many (i + 1)
   unfolding how_many
@@ -167,11 +165,3 @@ module _ (m : Tables) (rule : Rule) (p : ℕ) (w : List ℕ) where
   pub how_many_end : (i : ℕ) → c_count m ≤ i → how_many i ≡ 0
   unfolding how_many
   how_many_end i h = ap length (rows_end m rule p w i h)
-
--- ---- an answer
-
-pub after-at : (g : ℕ → List ℕ) (l : List ℕ) (q : Option ℕ) (i : ℕ) → l ≡ after_child g q → q ≡ Some i → l ≡ i ∷ g (i + 1)
-after-at g l q i e f = e ∙ ap (after_child g) f
-
-pub after_nothing : (g : ℕ → List ℕ) (l : List ℕ) (q : Option ℕ) → l ≡ after_child g q → q ≡ None → l ≡ []
-after_nothing g l q e f = e ∙ ap (after_child g) f

@@ -1,10 +1,14 @@
 -- The children that a name finds, in the order of the drawing: what the scans of this crate look for. Assumes nothing.
-use Rattle.std.specs.Prelude.{Bool, true, false, ◌&&◌, List, [], ◌∷◌, ℕ, zero, suc, ◌+◌, ◌<◌, eqb, ltb, Option, Some, None}
+use Rattle.std.specs.Prelude.{Bool, true, false, ◌&&◌, List, [], ◌∷◌, ℕ, ◌<◌, ◌≡◌, eqb, ltb, Option, Some, None}
 use Rattle.as5506.specs.Lists.{up_to, keep, is_nil, has, sort_by}
 use Rattle.as5506.specs.Tables.{Tables, c_count, c_parent, c_place}
 use Rattle.as5506.specs.Names.{bracket}
 use Rattle.as5506.specs.Tracing.{is_named, is_element}
 use Rattle.as5506.specs.Drawing.{is_before}
+use Rattle.as5506.specs.Tables.{name_of}
+use Rattle.lent.specs.Model.{model}
+use Rattle.std.specs.Iterator.{YieldsFirst}
+use Rattle.children.specs.declared.Children.{Children}
 use Rattle.children.specs.declared.Rule.{Rule}
 use Rattle.children.specs.declared.Rule.TheVariants.{Exact, Base}
 
@@ -17,17 +21,17 @@ fits m Base w i = is_element m w i
 unfoldable pub is_found : Tables → Rule → ℕ → List ℕ → ℕ → Bool
 is_found m rule p w i = eqb (c_parent m i) p && fits m rule w i
 
--- component j stands from `from` on in the order of the drawing: from 0 on all of them, from k + 1 on those behind component k
-unfoldable pub stands_from : Tables → ℕ → ℕ → Bool
-stands_from m zero j = true
-stands_from m (suc k) j = is_before (c_place m) k j
+-- component j stands behind `last` in the order of the drawing: all do where there is none
+unfoldable pub stands_behind : Tables → Option ℕ → ℕ → Bool
+stands_behind m None j = true
+stands_behind m (Some k) j = is_before (c_place m) k j
 
-unfoldable pub is_from : Tables → Rule → ℕ → List ℕ → ℕ → ℕ → Bool
-is_from m rule p w from j = is_found m rule p w j && stands_from m from j
+unfoldable pub is_left : Tables → Rule → ℕ → List ℕ → Option ℕ → ℕ → Bool
+is_left m rule p w last j = is_found m rule p w j && stands_behind m last j
 
--- the children of component p that a rule finds by the name w, from `from` on
-unfoldable pub children_from : Tables → Rule → ℕ → List ℕ → ℕ → List ℕ
-children_from m rule p w from = sort_by (c_place m) (keep (is_from m rule p w from) (up_to (c_count m)))
+-- the children of component p that a rule finds by the name w, behind `last`
+unfoldable pub children_behind : Tables → Rule → ℕ → List ℕ → Option ℕ → List ℕ
+children_behind m rule p w last = sort_by (c_place m) (keep (is_left m rule p w last) (up_to (c_count m)))
 
 -- component i comes before `best`, a component of a smaller row, or there is none yet
 unfoldable pub is_better : Tables → Option ℕ → ℕ → Bool
@@ -35,8 +39,8 @@ is_better m None i = true
 is_better m (Some best) i = ltb (c_place m i) (c_place m best)
 
 -- of the rows below i, `best` is the next child, or there is none: whether i takes its place
-unfoldable pub is_next : Tables → Rule → ℕ → List ℕ → ℕ → Option ℕ → ℕ → Bool
-is_next m rule p w from best i = is_from m rule p w from i && is_better m best i
+unfoldable pub is_next : Tables → Rule → ℕ → List ℕ → Option ℕ → Option ℕ → ℕ → Bool
+is_next m rule p w last best i = is_left m rule p w last i && is_better m best i
 
 -- "if none and the wanted name has no `[`"
 abbrev pub rule_by : Bool → Bool → Rule
@@ -46,18 +50,30 @@ rule_by false b = Exact
 
 -- the rule by which the name w finds children of component p
 unfoldable pub rule_for : Tables → ℕ → List ℕ → Rule
-rule_for m p w = rule_by (is_nil (children_from m Exact p w 0)) (has bracket w)
+rule_for m p w = rule_by (is_nil (children_behind m Exact p w None)) (has bracket w)
 
--- the children that the name w finds, from `from` on: all of them from 0 on (proofs: found-from-start)
-unfoldable pub found_from : Tables → ℕ → List ℕ → ℕ → List ℕ
-found_from m p w from = children_from m (rule_for m p w) p w from
+-- the children that the name w finds, behind `last`: all of them where there is none (proofs: found_all)
+unfoldable pub found_behind : Tables → ℕ → List ℕ → Option ℕ → List ℕ
+found_behind m p w last = children_behind m (rule_for m p w) p w last
 
--- the children that an answer stands for, where g gives those from `from` on: none, or its own and those behind it
-abbrev pub after_child : (ℕ → List ℕ) → Option ℕ → List ℕ
+-- the children that an answer stands for, where g gives those behind one: none, or its own and those behind it
+abbrev pub after_child : (Option ℕ → List ℕ) → Option ℕ → List ℕ
 after_child g None = []
-after_child g (Some i) = i ∷ g (i + 1)
+after_child g (Some i) = i ∷ g (Some i)
 
 -- an answer's child is a row of C
 abbrev pub Inside : Tables → Option ℕ → Type 0
 Inside m None = Unit {0}
 Inside m (Some i) = i < c_count m
+
+-- the model of the tables that an iterator goes through
+abbrev pub tables_of : Children → Tables
+tables_of c = model c.m.now
+
+-- the children that are left to it
+unfoldable pub children_left : Children → List ℕ
+children_left c = children_behind (tables_of c) c.rule c.owner (name_of (tables_of c) c.wanted) c.last
+
+-- a call of next gives the first of what is left, a row of C, and leaves the others; or nothing is left, and stays so
+abbrev pub GivesChild : Children → Option ℕ → Children → Type 0
+GivesChild c r d = YieldsFirst children_left c r d × Inside (tables_of c) r × (tables_of d ≡ tables_of c)

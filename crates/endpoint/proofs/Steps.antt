@@ -6,7 +6,7 @@ use mathlib.Core.Option.{none, some}
 use mathlib.Core.Option.{Option as Maybe}
 use Prim.Native.Nat.{ℕ, ◌≤◌, ◌<◌}
 use lib.Dec.{eqb}
-use Rattle.std.specs.Prelude.{Option, Some, None}
+use Rattle.std.specs.Prelude.{Option, Some, None, MatchOption}
 use Rattle.as5506.specs.Lists.{up_to, put_if, keep, first_of, any_of, same_bytes}
 use Rattle.as5506.specs.Tables.{Tables, missing, letter_f, letter_e, count, Side, Ref, ref, name_of, rows_naming, x_owner, x_sub, c_package, c_type, f_name, f_owner, f_kind, features_of, e_name, e_kind, e_holder, e_holder_kind, e_classifier, present}
 use Rattle.as5506.specs.Names.{key}
@@ -16,8 +16,6 @@ use Rattle.as5506.specs.Tracing.{found_children, named}
 use Rattle.as5506.specs.GroupList.{is_group_feature, type_of, declared_group, classifier_by, declared_by, typed_by, endpoint_by, endpoint, end_component_by, end_component}
 use Rattle.as5506.proofs.Laws.{missing-is, present-is}
 use Rattle.as5506.proofs.Scans.{keep-both}
-use Rattle.children.specs.Found.{found_from, after_child}
-use Rattle.children.proofs.Scan.{found-from-start}
 use Rattle.resolver.specs.declared.Classifier.{Classifier}
 use Rattle.resolver.specs.declared.Classifier.TheVariants.{ComponentType, ComponentImpl, GroupType}
 use Rattle.resolver.specs.Found.{row_of, found}
@@ -33,17 +31,15 @@ module _ (m : Tables) where
     unfolding end_component end_component_by
     end_owner h = rw (missing-is sub (x_sub m s i) f h) (ap some e)
 
-    -- an answer's child is the first
-    first-child : (g : ℕ → List ℕ) (q : Option ℕ) → row_of q ≡ first_of (after_child g q)
-    first-child g (Some j) = refl
-    first-child g None = refl
-
-    pub end_child : (q : Option ℕ) → (sub ≡ missing → ⊥) → found_from m p (name_of m sub) 0 ≡ after_child (found_from m p (name_of m sub)) q → row_of q ≡ end_component m s i
+    -- l is what the name finds, l' is left behind the first
+    pub end_child : (q : Option ℕ) (l l' : List ℕ) → (sub ≡ missing → ⊥) → l ≡ found_children m p (name_of m sub) → MatchOption q ((l ≡ []) × (l' ≡ [])) (λ j. l ≡ j ∷ l') → row_of q ≡ end_component m s i
     unfolding end_component end_component_by named
-    end_child q h a =
-        rw (present-is sub (x_sub m s i) f h)
-        (first-child (found_from m p (name_of m sub)) q
-        ∙ ap first_of (sym a ∙ found-from-start m p (name_of m sub) ∙ ap₂ (λ (p sub : ℕ). found_children m p (name_of m sub)) e f))
+    end_child q l l' h a g =
+        rw (present-is sub (x_sub m s i) f h) (first q g ∙ ap first_of (a ∙ ap₂ (λ (p sub : ℕ). found_children m p (name_of m sub)) e f))
+      where
+        first : (q : Option ℕ) → MatchOption q ((l ≡ []) × (l' ≡ [])) (λ j. l ≡ j ∷ l') → row_of q ≡ first_of l
+        first None g = rw (g.0) refl
+        first (Some j) g = rw g refl
 
   -- ---- the group features of a component
 

@@ -48,7 +48,7 @@ pub fn end_component(m: &Tables, side: Side, i: usize) -> Option<usize>
     if sub == MISSING {
         return Some(owner as usize);
     }
-    children::find_child_by_name(m, owner, sub, 0)
+    children::named(m, owner, sub).next()
 }
 
 // Whether F row i is a feature of the component, is a group, and has the wanted name, case ignored.

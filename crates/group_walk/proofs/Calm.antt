@@ -130,9 +130,9 @@ module _ (does : Take) (dull : Dullness) (law : Passing does dull) where
   all_quiet [] h b x y = tt
   all_quiet (f ∷ fs) h b x y =
       let one : Grown h (does f h) = law.grows f h b in
-      let rest : Grown (does f h) (take_all does fs (does f h)) = all-grow does law.grows fs (does f h) one.2 in (
-        all_stay fs f.name (does f h) (law.quiet f h (omega (arith, one.0.more, rest.0.more, x)) (omega (arith, one.1.more, rest.1.more, y))),
-        all_quiet fs (does f h) one.2 (omega (arith, one.0.more, rest.0.more, x)) (omega (arith, one.1.more, rest.1.more, y)),
+      let rest : Grown (does f h) (take_all does fs (does f h)) = all-grow does law.grows fs (does f h) one.bounded in (
+        all_stay fs f.name (does f h) (law.quiet f h (omega (arith, one.added-out.more, rest.added-out.more, x)) (omega (arith, one.added-notes.more, rest.added-notes.more, y))),
+        all_quiet fs (does f h) one.bounded (omega (arith, one.added-out.more, rest.added-out.more, x)) (omega (arith, one.added-notes.more, rest.added-notes.more, y)),
       )
 
   -- ---- the table
@@ -146,7 +146,7 @@ module _ (does : Take) (dull : Dullness) (law : Passing does dull) where
     -- a feature keeps what is known
     pub passable-stays : (f : Feature) (h : Held) (calm : List ℕ) → Passable g dull h calm → Passable g dull (does f h) calm
     unfolding Passable Calm
-    passable-stays f h calm c = ((law.grows f h c.0).2, λ u b l. at-stays f h u b (get_or calm (u * levels + b) 0) (c.1 u b l))
+    passable-stays f h calm c = ((law.grows f h c.0).bounded, λ u b l. at-stays f h u b (get_or calm (u * levels + b) 0) (c.1 u b l))
 
     -- ---- a visit that is known
 

@@ -125,7 +125,7 @@ module _ (does : Take) where
     pub all-grow : (fs : List Feature) (h : Held) → Bounded h → Grown h (take_all does fs h)
     unfolding take_all
     all-grow [] h b = grown-nothing h b
-    all-grow (f ∷ fs) h b = grown-then h (does f h) (take_all does fs (does f h)) (grows f h b) (all-grow fs (does f h) (grows f h b).2)
+    all-grow (f ∷ fs) h b = grown-then h (does f h) (take_all does fs (does f h)) (grows f h b) (all-grow fs (does f h) (grows f h b).bounded)
 
     pub done-grown : (r : Option ℕ) (t h : Held) (k : ℕ) (x : Expansion) (v : ℕ) → state_of r t ≡ run does (going h k) x → r ≡ Some v → Bounded h → Grown h t
     done-grown r t h k x v e q b =
@@ -153,12 +153,18 @@ module _ (does : Take) where
 -- ---- what stood in the outputs
 
 pub behind-nothing : (h : Held) → Behind h h
-behind-nothing h = record { in-out = refl; in-notes = refl }
+behind-nothing h = record { in-out = refl; in-notes = refl; length-memo = refl; length-out = refl; length-notes = refl }
 
 -- what is written behind what was added is behind what stood there
 pub behind-then : (h t u : Held) → Grown h t → Behind t u → Behind h u
 behind-then h t u a b =
-    record { in-out = front-then h.out t.out u.out.holds a.0 b.in-out; in-notes = front-then h.notes t.notes u.notes.holds a.1 b.in-notes }
+    record {
+      in-out = front-then h.out t.out u.out.holds a.added-out b.in-out;
+      in-notes = front-then h.notes t.notes u.notes.holds a.added-notes b.in-notes;
+      length-memo = b.length-memo ∙ a.length-memo;
+      length-out = b.length-out ∙ a.length-out;
+      length-notes = b.length-notes ∙ a.length-notes;
+    }
 
 -- ---- what a link leads to
 

@@ -213,7 +213,7 @@ module _ {w : Walk} {row : ℕ} {inverse : Bool} {names : List ℕ} {left : ℕ}
             few = o.few;
             same = row_listed (does w) (groups w) deeper inverse names row i l t seen b is q to k m o.few u (d ∙ ap (λ (f : Feature). does w f t) at) ∙ o.same;
             passable = subst (λ (h : Held). Passable (groups w) (dulls w) h calm) (sym d) (passable-stays (does w) (dulls w) (law w) (groups w) f t calm o.passable);
-            grown = subst (λ (u : Held). Grown h u) (sym d) (grown-then h t (does w f t) o.grown (growing f t o.grown.2));
+            grown = subst (λ (u : Held). Grown h u) (sym d) (grown-then h t (does w f t) o.grown (growing f t o.grown.bounded));
           }
 
       -- a nested group type
@@ -231,5 +231,5 @@ module _ {w : Walk} {row : ℕ} {inverse : Bool} {names : List ℕ} {left : ℕ}
               few = good.1;
               same = row_done (does w) (groups w) deeper inverse names row i l t seen b is q to k m longer more r u a v z ∙ o.same;
               passable = after-done (groups w) (dulls w) r u calm₂ v z c;
-              grown = grown-then h t u o.grown (part-grown w r u t seen (deeper to inverse longer) v a z o.grown.2);
+              grown = grown-then h t u o.grown (part-grown w r u t seen (deeper to inverse longer) v a z o.grown.bounded);
             }

@@ -1,5 +1,5 @@
 -- What an expansion does to what a walk carries, feature by feature, unless it has too many visits. Assumes nothing.
-use Rattle.std.specs.Prelude.{Bool, true, false, ◌≡◌, List, [], ◌∷◌, ℕ, ◌+◌, leb, take, Option, Some, None}
+use Rattle.std.specs.Prelude.{Bool, true, false, ◌≡◌, List, [], ◌∷◌, ℕ, ◌+◌, leb, length, take, Option, Some, None}
 use Rattle.as5506.specs.Groups.{Feature, Expansion}
 use Rattle.sink.specs.Take.{Held}
 
@@ -35,7 +35,11 @@ unfoldable pub state_of : Option ℕ → Held → State
 state_of None h = over
 state_of (Some visits) h = going h visits
 
--- whatever the answer, what stood in the outputs before a walk stays there: it writes behind what is used
+-- whatever the answer, what stood in the outputs before a walk stays there: it writes behind what is used; and the memory and the outputs stay as
+-- long as they were
 pub record Behind (h t : Held) : Type 0 where
   pub in-out : take h.out.used t.out.holds ≡ take h.out.used h.out.holds
   pub in-notes : take h.notes.used t.notes.holds ≡ take h.notes.used h.notes.holds
+  pub length-memo : length t.memo ≡ length h.memo
+  pub length-out : length t.out.holds ≡ length h.out.holds
+  pub length-notes : length t.notes.holds ≡ length h.notes.holds

@@ -5,7 +5,7 @@
 ghost use Rattle.std.specs.Prelude.{◌≡◌, ◌&&◌, length, map};
 ghost use Rattle.std.proofs.lemmas.List.Edits.{sets};
 ghost use Rattle.as5506.specs.Lists.{keep, same_bytes, has};
-ghost use Rattle.as5506.specs.Tables.{name_of, present};
+ghost use Rattle.as5506.specs.Tables.{name_in, name_of, present};
 ghost use Rattle.as5506.specs.Names.{name_byte, good_name, fold_byte, same_folded, bracket, base_name, pattern_byte, is_one_to_one};
 ghost use Rattle.lent.specs.Model.{model};
 ghost use Rattle.name.specs.Pattern.{says_one_to_one};
@@ -127,15 +127,22 @@ pub fn parse_connection_pattern(text: &[u8]) -> ConnectionPattern
     ConnectionPattern::AllToAll
 }
 
-// Name k of the byte table and the table of N rows, a part of the caller's own bytes. Past the table, or past the bytes, there is nothing of it.
+// Name k of the bytes and the N rows of a byte table, a part of the caller's own bytes. Past the table, or past the bytes, there is nothing of it.
 #[tactic(auto, unfolding(as5506::specs::Tables::name_in))]
+pub fn name_in<'a>(bytes: &'a [u8], n: &[u32], k: u32) -> &'a [u8]
+    ensures { result.now ≡ name_in bytes.now n.now k }
+{
+    let row = (k as usize) * as5506::N_NUMBERS;
+    let from = lent::get_or(n, row, 0) as usize;
+    let len = lent::get_or(n, row + 1, 0) as usize;
+    lent::part(bytes, from, len)
+}
+
+// Name k of the tables.
 pub fn name_of<'a>(m: &Tables<'a>, k: u32) -> &'a [u8]
     ensures { result.now ≡ name_of (model m.now) k }
 {
-    let row = (k as usize) * as5506::N_NUMBERS;
-    let from = lent::get_or(m.n, row, 0) as usize;
-    let len = lent::get_or(m.n, row + 1, 0) as usize;
-    lent::part(m.bytes, from, len)
+    name_in(m.bytes, m.n, k)
 }
 
 // Whether names j and k are equal, byte for byte. A name is compared with itself at once.

@@ -19,6 +19,15 @@ impl<'a> Output<'a> {
         Output { bytes, used: 0 }
     }
 
+    // The output that these bytes are, `used` of it used: one more than there are where it is full.
+    pub fn behind(bytes: &'a mut [u8], used: usize) -> Output<'a>
+        ensures same { result.bytes.ghost_name ≡ bytes.entry.ghost_name }
+        ensures now { result.bytes.now ≡ bytes.entry.now }
+        ensures used { result.used ≡ used }
+    {
+        Output { bytes, used }
+    }
+
     // Prints a piece behind what is used, if there is room for the whole of it.
     pub fn put(&mut self, piece: &[u8])
         ensures { Put piece.now self.old self.new }

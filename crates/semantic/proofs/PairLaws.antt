@@ -1,13 +1,14 @@
 -- The rows of pairs add up to the definition's rows. Assumes nothing.
 use mathlib.Core.Bool.{true, false}
-use mathlib.Core.Path.{◌≡◌, refl, ap₂, ◌∙◌}
+use mathlib.Core.Logic.{◌⊎◌, inl, inr}
+use mathlib.Core.Path.{◌≡◌, refl, ap, ap₂, ◌∙◌}
 use mathlib.Core.List.{List, [], ◌∷◌, map}
-use Prim.Native.Nat.{ℕ, ◌+◌, ◌<◌}
+use Prim.Native.Nat.{ℕ}
 use native.Mathlib.Omega.{arith}
 use lib.ListN.{length}
 use Rattle.std.specs.Prelude.{Option, Some, None}
 use Rattle.as5506.specs.Lists.{each}
-use Rattle.as5506.specs.Tables.{Tables, present, source, destination, name_of, c_parent, x_owner, x_sub, x_feat}
+use Rattle.as5506.specs.Tables.{Tables, present, source, destination, c_parent, x_owner, x_feat}
 use Rattle.as5506.specs.Tables.{Side as TheSide}
 use Rattle.as5506.specs.Tracing.{Chain, Pair, Traced, across, chains_by, chains, reach, row_of, pair_rows, rows_at, pairs, shape, step_limit, named, one_to_one, all_as, zip_as, pair_across, pair_up, pair_down, pairs_by}
 use Rattle.as5506.proofs.Laws.{all-of, each_same, each-each, each_map}
@@ -15,14 +16,12 @@ use Rattle.as5506.specs.Layout.{traced_block, row_numbers}
 use Rattle.trace.specs.Writing.{Written}
 use Rattle.trace.proofs.Writing.{Remains}
 use Rattle.trace.specs.Ends.{the_end, row_along, rows_at_end, rows_behind}
-use Rattle.children.specs.Found.{after_child}
-use Rattle.children.proofs.Scan.{found-from-start, after-at, after_nothing}
 use Rattle.semantic.proofs.Parts.{each-end, each-turn, each-full}
 use Rattle.semantic.specs.declared.Shape.{Shape}
 use Rattle.semantic.specs.declared.Shape.TheVariants.{Faulty, Neither}
 use Rattle.semantic.specs.declared.Start.{Start}
 use Rattle.semantic.specs.declared.Start.TheVariants.{Child, Owner}
-use Rattle.semantic.specs.Rows.{shape_of, edge_of, start_on, component_of, limit_of, pair_on, named_from, rows_beside, rows_all, rows_zip}
+use Rattle.semantic.specs.Rows.{shape_of, edge_of, start_on, component_of, limit_of, pair_on, rows_beside, rows_all, rows_zip}
 
 -- ---- one pair
 
@@ -45,27 +44,11 @@ module _ (m : Tables) (x : ℕ) where
       → Written row_numbers (traced_block m) (pair_rows m step_limit x (pair_on m x source a b)) out count q out'
   pair_written a b ca fa la cb fb lb p p' out count q out' w e₁ e₂ e₃ e₄ e₅ e₆ e₇ e₈ = rw (pair-rows a b, ← e₁, ← e₂, ← e₃, ← e₄, ← e₅, ← e₆, ← e₇, ← e₈) w
 
-  -- ---- the children that are left
-
-  named-from-start : (s : TheSide) → named_from m s x 0 ≡ named m s x
-  unfolding named_from named
-  named-from-start s = found-from-start m (x_owner m x) (name_of m (x_sub m s x))
-
-  module _ (s : TheSide) (j : ℕ) (p : Option ℕ) (e : named_from m s x j ≡ after_child (named_from m s x) p) where
-    pub child-next : (i : ℕ) → p ≡ Some i → named_from m s x j ≡ i ∷ named_from m s x (i + 1)
-    child-next i h = after-at (named_from m s x) _ p i e h
-
-    pub child-done : p ≡ None → named_from m s x j ≡ []
-    child-done h = after_nothing (named_from m s x) _ p e h
-
-    pub child-fewer : (i : ℕ) → p ≡ Some i → length (named_from m s x (i + 1)) < length (named_from m s x j)
-    child-fewer i h = let k = child-next i h in rw k (omega arith)
-
   -- ---- the pairs of an X row
 
-  pub pairs_one : one_to_one m (x_owner m x) ≡ true → each (pair_rows m step_limit x) (pairs_by m x across) ≡ rows_zip m x (named_from m source x 0) (named_from m destination x 0)
+  pub pairs_one : one_to_one m (x_owner m x) ≡ true → each (pair_rows m step_limit x) (pairs_by m x across) ≡ rows_zip m x (named m source x) (named m destination x)
   unfolding pairs_by
-  pairs_one e = rw (e, named-from-start source, named-from-start destination)
+  pairs_one e = rw e refl
 
   all-pairs : (l r : List ℕ) → each (pair_rows m step_limit x) (all_as (pair_across m x) l r) ≡ each (λ a. rows_beside m x destination (Child a) r) l
   unfolding pair_on
@@ -74,19 +57,19 @@ module _ (m : Tables) (x : ℕ) where
       ∙ each_same (λ a. each (pair_rows m step_limit x) (map (pair_across m x a) r)) (λ a. each (λ b. pair_rows m step_limit x (pair_across m x a b)) r) l
       (all-of _ (λ a. each_map (pair_rows m step_limit x) (pair_across m x a) r) l)
 
-  pub pairs_all : one_to_one m (x_owner m x) ≡ false → each (pair_rows m step_limit x) (pairs_by m x across) ≡ rows_all m x (named_from m source x 0)
+  pub pairs_all : one_to_one m (x_owner m x) ≡ false → each (pair_rows m step_limit x) (pairs_by m x across) ≡ rows_all m x (named m source x)
   unfolding pairs_by
-  pairs_all e = rw (e, named-from-start source, named-from-start destination) (all-pairs (named m source x) (named m destination x))
+  pairs_all e = rw e (all-pairs (named m source x) (named m destination x))
 
   pub pairs_below : (s : TheSide) → present (c_parent m (x_owner m x)) ≡ true → each (pair_rows m step_limit x) (pairs_by m x (edge_of s)) ≡ []
   unfolding pairs_by
   pairs_below source e = rw e
   pairs_below destination e = rw e
 
-  pub pairs_root : (s : TheSide) → present (c_parent m (x_owner m x)) ≡ false → each (pair_rows m step_limit x) (pairs_by m x (edge_of s)) ≡ rows_beside m x s (Owner (x_owner m x)) (named_from m s x 0)
+  pub pairs_root : (s : TheSide) → present (c_parent m (x_owner m x)) ≡ false → each (pair_rows m step_limit x) (pairs_by m x (edge_of s)) ≡ rows_beside m x s (Owner (x_owner m x)) (named m s x)
   unfolding pairs_by pair_on
-  pairs_root source e = rw (e, named-from-start source) (each_map (pair_rows m step_limit x) (pair_up m x) (named m source x))
-  pairs_root destination e = rw (e, named-from-start destination) (each_map (pair_rows m step_limit x) (pair_down m x) (named m destination x))
+  pairs_root source e = rw e (each_map (pair_rows m step_limit x) (pair_up m x) (named m source x))
+  pairs_root destination e = rw e (each_map (pair_rows m step_limit x) (pair_down m x) (named m destination x))
 
   pub rows-faulty : (r : Shape) → shape_of r ≡ shape m x → r ≡ Faulty → rows_at m step_limit x ≡ []
   unfolding rows_at pairs pairs_by
@@ -97,41 +80,38 @@ module _ (m : Tables) (x : ℕ) where
   rows-neither r e f = rw (← e, f)
 
   -- no destination child: no row
-  pub all-barren : (l : List ℕ) → named_from m destination x 0 ≡ [] → rows_all m x l ≡ []
+  pub all-barren : (l : List ℕ) → named m destination x ≡ [] → rows_all m x l ≡ []
   all-barren [] e = refl
   all-barren (i ∷ l) e = rw (e, all-barren l e)
 
-  -- ---- the loop over two lists of children, pair by pair: p is the next source child
+  -- ---- the loop over two lists of children, pair by pair: l and k are what is left of them
 
   abbrev pub zipped : List Traced
-  zipped = rows_zip m x (named_from m source x 0) (named_from m destination x 0)
+  zipped = rows_zip m x (named m source x) (named m destination x)
 
-  module _ (out₀ : List ℕ) (count : ℕ) (out : List ℕ) (done s d : ℕ)
-      (r : Remains row_numbers (traced_block m) zipped out₀ count out done (rows_zip m x (named_from m source x s) (named_from m destination x d)))
-      (p : Option ℕ) (e : named_from m source x s ≡ after_child (named_from m source x) p) where
+  module _ (out₀ : List ℕ) (count : ℕ) (out : List ℕ) (done : ℕ) (l k : List ℕ) (r : Remains row_numbers (traced_block m) zipped out₀ count out done (rows_zip m x l k)) where
     abbrev pairs_left : List Pair
-    pairs_left = zip_as (pair_across m x) (named_from m source x s) (named_from m destination x d)
+    pairs_left = zip_as (pair_across m x) l k
 
-    pub zip-end : p ≡ None → Written row_numbers (traced_block m) zipped out₀ count (Some done) out
-    zip-end h = let l = child-done source s p e h in each-end row_numbers (traced_block m) (pair_rows m step_limit x) zipped out₀ count out done pairs_left r (rw l)
+    -- a list is at its end
+    none-left : (l k : List ℕ) → (l ≡ []) ⊎ (k ≡ []) → zip_as (pair_across m x) l k ≡ []
+    none-left [] k h = refl
+    none-left (a ∷ l) [] h = refl
+    none-left (a ∷ l) (b ∷ k) (inl e) = absurd (omega (arith, ap length e))
+    none-left (a ∷ l) (b ∷ k) (inr e) = absurd (omega (arith, ap length e))
 
-    -- and p' the next destination child
-    module _ (a : ℕ) (h : p ≡ Some a) (p' : Option ℕ) (e' : named_from m destination x d ≡ after_child (named_from m destination x) p') where
-      pub zip-short : p' ≡ None → Written row_numbers (traced_block m) zipped out₀ count (Some done) out
-      zip-short h' =
-          let l = child-next source s p e a h in
-          let k = child-done destination d p' e' h' in
-          each-end row_numbers (traced_block m) (pair_rows m step_limit x) zipped out₀ count out done pairs_left r (rw (l, k))
+    pub zip-end : (l ≡ []) ⊎ (k ≡ []) → Written row_numbers (traced_block m) zipped out₀ count (Some done) out
+    zip-end h = each-end row_numbers (traced_block m) (pair_rows m step_limit x) zipped out₀ count out done pairs_left r (none-left l k h)
 
-      module _ (b : ℕ) (h' : p' ≡ Some b) (q : Option ℕ) (out' : List ℕ)
-          (v : Written row_numbers (traced_block m) (pair_rows m step_limit x (pair_on m x source (Child a) (Child b))) out done q out') where
-        next : pairs_left ≡ pair_across m x a b ∷ zip_as (pair_across m x) (named_from m source x (a + 1)) (named_from m destination x (b + 1))
-        next = let l = child-next source s p e a h in let k = child-next destination d p' e' b h' in rw (l, k)
+    module _ (a : ℕ) (l' : List ℕ) (e : l ≡ a ∷ l') (b : ℕ) (k' : List ℕ) (e' : k ≡ b ∷ k') (q : Option ℕ) (out' : List ℕ)
+        (v : Written row_numbers (traced_block m) (pair_rows m step_limit x (pair_on m x source (Child a) (Child b))) out done q out') where
+      next : pairs_left ≡ pair_across m x a b ∷ zip_as (pair_across m x) l' k'
+      next = rw (e, e')
 
-        pub zip-turn : (n : ℕ) → q ≡ Some n → Remains row_numbers (traced_block m) zipped out₀ count out' n (rows_zip m x (named_from m source x (a + 1)) (named_from m destination x (b + 1)))
-        unfolding pair_on
-        zip-turn = each-turn row_numbers (traced_block m) (pair_rows m step_limit x) zipped out₀ count out done pairs_left r _ _ next q out' v
+      pub zip-turn : (n : ℕ) → q ≡ Some n → Remains row_numbers (traced_block m) zipped out₀ count out' n (rows_zip m x l' k')
+      unfolding pair_on
+      zip-turn = each-turn row_numbers (traced_block m) (pair_rows m step_limit x) zipped out₀ count out done pairs_left r _ _ next q out' v
 
-        pub zip-full : q ≡ None → (z : Option ℕ) → z ≡ None → Written row_numbers (traced_block m) zipped out₀ count z out'
-        unfolding pair_on
-        zip-full = each-full row_numbers (traced_block m) (pair_rows m step_limit x) zipped out₀ count out done pairs_left r _ _ next q out' v
+      pub zip-full : q ≡ None → (z : Option ℕ) → z ≡ None → Written row_numbers (traced_block m) zipped out₀ count z out'
+      unfolding pair_on
+      zip-full = each-full row_numbers (traced_block m) (pair_rows m step_limit x) zipped out₀ count out done pairs_left r _ _ next q out' v

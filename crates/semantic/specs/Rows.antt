@@ -1,11 +1,10 @@
 -- What the code's values stand for, and the rows of some of the pairs of an X row. Assumes nothing.
 use Rattle.std.specs.Prelude.{List, ℕ}
 use Rattle.as5506.specs.Lists.{each}
-use Rattle.as5506.specs.Tables.{Tables, source, destination, name_of, x_owner, x_sub, x_feat}
+use Rattle.as5506.specs.Tables.{Tables, source, destination, x_feat}
 use Rattle.as5506.specs.Tables.{Side as TheSide}
-use Rattle.as5506.specs.Tracing.{Start as TheStart, child, owner, Pair, Traced, pair_rows, pair_across, zip_as, step_limit, faulty, across, upward, downward, neither}
+use Rattle.as5506.specs.Tracing.{Start as TheStart, child, owner, named, Pair, Traced, pair_rows, pair_across, zip_as, step_limit, faulty, across, upward, downward, neither}
 use Rattle.as5506.specs.Tracing.{Shape as TheShape}
-use Rattle.children.specs.Found.{found_from}
 use Rattle.semantic.specs.declared.Start.{Start}
 use Rattle.semantic.specs.declared.Start.TheVariants.{Child, Owner}
 use Rattle.semantic.specs.declared.Shape.{Shape}
@@ -44,17 +43,13 @@ unfoldable pub pair_on : Tables → ℕ → TheSide → Start → Start → Pair
 pair_on m x source a b = record { from = start_on m source x a; to = start_on m destination x b }
 pair_on m x destination a b = record { from = start_on m source x b; to = start_on m destination x a }
 
--- the children that X row x names on side s, from j on: all of them from 0 on (proofs: named-from-start)
-unfoldable pub named_from : Tables → TheSide → ℕ → ℕ → List ℕ
-named_from m s x j = found_from m (x_owner m x) (name_of m (x_sub m s x)) j
-
 -- the rows of the children l on side s, each with the end b on the other
 abbrev pub rows_beside : Tables → ℕ → TheSide → Start → List ℕ → List Traced
 rows_beside m x s b l = each (λ i. pair_rows m step_limit x (pair_on m x s (Child i) b)) l
 
 -- the rows of the children l on the source's side, each with all children of the destination
 abbrev pub rows_all : Tables → ℕ → List ℕ → List Traced
-rows_all m x l = each (λ a. rows_beside m x destination (Child a) (named_from m destination x 0)) l
+rows_all m x l = each (λ a. rows_beside m x destination (Child a) (named m destination x)) l
 
 -- the rows of two lists of children, pair by pair
 abbrev pub rows_zip : Tables → ℕ → List ℕ → List ℕ → List Traced

@@ -5,15 +5,16 @@ ghost use Rattle.as5506.specs.Tracing.{shape, named, one_to_one, step_limit};
 ghost use Rattle.lent.specs.Model.{model};
 ghost use Rattle.columns.specs.Side.{side_of};
 ghost use Rattle.name.specs.Pattern.{says_one_to_one};
-ghost use Rattle.children.specs.Found.{after_child, Inside};
-ghost use Rattle.semantic.specs.Rows.{shape_of, named_from, component_of, limit_of};
+ghost use Rattle.children.specs.Found.{tables_of, children_left};
+ghost use Rattle.semantic.specs.Rows.{shape_of, component_of, limit_of};
 
 use super::{Connection, Shape, Start};
 use as5506::{MISSING, STEPS};
+use children::Children;
 use columns::{Side, component, connection};
 use name::ConnectionPattern;
 
-impl Connection<'_, '_> {
+impl<'a, 'b> Connection<'a, 'b> {
     // What it is.
     #[tactic(auto, unfolding(as5506::specs::Tracing::shape, as5506::specs::Tables::has_ends))]
     pub fn shape(&self) -> Shape
@@ -56,15 +57,14 @@ impl Connection<'_, '_> {
         name::pattern_of(self.m, component::pattern_of(self.m, self.owner() as usize))
     }
 
-    // The first child from `from` on (0 is the start, i + 1 is behind child i) that it names on a side.
-    #[tactic(auto, unfolding(crate::specs::Rows::named_from))]
-    pub fn next_named(&self, side: Side, from: usize) -> Option<usize>
-        ensures from_value { named_from (model self.now.m.now) (side_of side) self.now.row from
-            ≡ after_child (named_from (model self.now.m.now) (side_of side) self.now.row) result }
-        ensures inside { Inside (model self.now.m.now) result }
+    // The children that it names on a side.
+    #[tactic(auto, unfolding(as5506::specs::Tracing::named))]
+    pub fn named(&self, side: Side) -> Children<'a, 'b>
+        ensures left { children_left result ≡ named (model self.now.m.now) (side_of side) self.now.row }
+        ensures tables { tables_of result ≡ model self.now.m.now }
     {
         let wanted = connection::subcomponent_of(self.m, side, self.row);
-        children::find_child_by_name(self.m, self.owner(), wanted, from)
+        children::named(self.m, self.owner(), wanted)
     }
 
     // How many children it names on a side.

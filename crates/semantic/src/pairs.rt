@@ -1,14 +1,14 @@
 // The rows of each connection: every pair of its ends, traced on both sides.
 ghost use Rattle.std.specs.Prelude.{◌≤◌, ◌/◌, length};
 ghost use Rattle.as5506.specs.Tables.{source, destination};
-ghost use Rattle.as5506.specs.Tracing.{pair_rows, rows_at, traced, step_limit, pairs_by, across};
+ghost use Rattle.as5506.specs.Tracing.{named, pair_rows, rows_at, traced, step_limit, pairs_by, across};
 ghost use Rattle.as5506.specs.Lists.{each};
 ghost use Rattle.as5506.specs.Layout.{traced_block, row_numbers};
 ghost use Rattle.lent.specs.Model.{model};
 ghost use Rattle.columns.specs.Side.{side_of};
 ghost use Rattle.trace.specs.Writing.{Written};
 ghost use Rattle.trace.specs.Ready.{Traceable};
-ghost use Rattle.semantic.specs.Rows.{pair_on, named_from, rows_beside, rows_all, rows_zip, edge_of};
+ghost use Rattle.semantic.specs.Rows.{pair_on, rows_beside, rows_all, rows_zip, edge_of};
 
 use super::{Connection, Shape, Start};
 use as5506::X_NUMBERS;
@@ -66,14 +66,12 @@ impl Connection<'_, '_> {
     fn trace_beside(&self, out: &mut [u32], side: Side, far: Start, count: usize) -> Option<usize>
         requires { count ≤ length out.old / row_numbers }
         ensures { Written row_numbers (traced_block (model self.now.m.now))
-            (rows_beside (model self.now.m.now) self.now.row (side_of side) far (named_from (model self.now.m.now) (side_of side) self.now.row 0))
+            (rows_beside (model self.now.m.now) self.now.row (side_of side) far (named (model self.now.m.now) (side_of side) self.now.row))
             out.old count result out.new }
     {
         let mut done = count;
-        let mut from = 0;
-        while let Some(i) = self.next_named(side, from) {
+        for i in self.named(side) {
             done = self.trace_on(out, side, Start::Child(i as u32), far, done)?;
-            from = i + 1;
         }
         Some(done)
     }
@@ -82,17 +80,15 @@ impl Connection<'_, '_> {
     fn trace_all_to_all(&self, out: &mut [u32], count: usize) -> Option<usize>
         requires { count ≤ length out.old / row_numbers }
         ensures { Written row_numbers (traced_block (model self.now.m.now))
-            (rows_all (model self.now.m.now) self.now.row (named_from (model self.now.m.now) source self.now.row 0))
+            (rows_all (model self.now.m.now) self.now.row (named (model self.now.m.now) source self.now.row))
             out.old count result out.new }
     {
-        if self.next_named(Side::Destination, 0).is_none() {
+        if self.named(Side::Destination).next().is_none() {
             return Some(count);
         }
         let mut done = count;
-        let mut from = 0;
-        while let Some(i) = self.next_named(Side::Source, from) {
+        for i in self.named(Side::Source) {
             done = self.trace_beside(out, Side::Destination, Start::Child(i as u32), done)?;
-            from = i + 1;
         }
         Some(done)
     }
@@ -102,20 +98,13 @@ impl Connection<'_, '_> {
         requires { count ≤ length out.old / row_numbers }
         ensures { Written row_numbers (traced_block (model self.now.m.now))
             (rows_zip (model self.now.m.now) self.now.row
-            (named_from (model self.now.m.now) source self.now.row 0)
-            (named_from (model self.now.m.now) destination self.now.row 0))
+            (named (model self.now.m.now) source self.now.row)
+            (named (model self.now.m.now) destination self.now.row))
             out.old count result out.new }
     {
         let mut done = count;
-        let mut from = 0;
-        let mut to = 0;
-        while let Some(a) = self.next_named(Side::Source, from) {
-            let Some(b) = self.next_named(Side::Destination, to) else {
-                return Some(done);
-            };
+        for (a, b) in self.named(Side::Source).zip(self.named(Side::Destination)) {
             done = self.trace_pair(out, Start::Child(a as u32), Start::Child(b as u32), done)?;
-            from = a + 1;
-            to = b + 1;
         }
         Some(done)
     }

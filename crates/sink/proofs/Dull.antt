@@ -28,15 +28,36 @@ use Rattle.sink.specs.Dull.{Full, Bounded, DullMatch, Dull}
 abbrev Within : Filled → Type 0
 Within o = o.used ≤ length o.holds + 1
 
--- the outputs are only added to, and no output's use is past its length by more than one
-abbrev pub Grown : Held → Held → Type 0
-Grown h t = Extended h.out t.out × Extended h.notes t.notes × Bounded t
+-- the outputs are only added to, no output's use is past its length by more than one, and the memory and the outputs are as long as before
+pub record Grown (h t : Held) : Type 0 where
+  pub added-out : Extended h.out t.out
+  pub added-notes : Extended h.notes t.notes
+  pub bounded : Bounded t
+  pub length-memo : length t.memo ≡ length h.memo
+  pub length-out : length t.out.holds ≡ length h.out.holds
+  pub length-notes : length t.notes.holds ≡ length h.notes.holds
 
 pub grown-nothing : (h : Held) → Bounded h → Grown h h
-grown-nothing h w = (extended-nothing h.out, extended-nothing h.notes, w)
+grown-nothing h w =
+    record {
+      added-out = extended-nothing h.out;
+      added-notes = extended-nothing h.notes;
+      bounded = w;
+      length-memo = refl;
+      length-out = refl;
+      length-notes = refl;
+    }
 
 pub grown-then : (h t u : Held) → Grown h t → Grown t u → Grown h u
-grown-then h t u a b = (extended_then h.out t.out u.out a.0 b.0, extended_then h.notes t.notes u.notes a.1 b.1, b.2)
+grown-then h t u a b =
+    record {
+      added-out = extended_then h.out t.out u.out a.added-out b.added-out;
+      added-notes = extended_then h.notes t.notes u.notes a.added-notes b.added-notes;
+      bounded = b.bounded;
+      length-memo = b.length-memo ∙ a.length-memo;
+      length-out = b.length-out ∙ a.length-out;
+      length-notes = b.length-notes ∙ a.length-notes;
+    }
 
 -- a full output takes nothing
 append-same : (p : List ℕ) (o : Filled) → Full o → append p o ≡ o
@@ -55,6 +76,30 @@ append-quiet p o l e = go (dec_le (o.used + length p) (length o.holds))
 
 append-within : (p : List ℕ) (o : Filled) → Within (append p o)
 append-within p o = rw (append-length p o) (append-bound p o)
+
+-- a piece is added to one output, and the memory is l then
+module _ (h : Held) (w : Bounded h) (p l : List ℕ) (e : length l ≡ length h.memo) where
+  out-grows : Grown h (record { memo = l; out = append p h.out; notes = h.notes })
+  out-grows =
+      record {
+        added-out = append-extends p h.out w.0;
+        added-notes = extended-nothing h.notes;
+        bounded = (append-within p h.out, w.1);
+        length-memo = e;
+        length-out = append-length p h.out;
+        length-notes = refl;
+      }
+
+  notes-grows : Grown h (record { memo = l; out = h.out; notes = append p h.notes })
+  notes-grows =
+      record {
+        added-out = extended-nothing h.out;
+        added-notes = append-extends p h.notes w.1;
+        bounded = (w.0, append-within p h.notes);
+        length-memo = e;
+        length-out = refl;
+        length-notes = append-length p h.notes;
+      }
 
 -- ---- what is written is longer than nothing
 
@@ -124,7 +169,7 @@ first-quiet true f h e q = λ z.
 first-grows : (b : Bool) (f : Feature) (h : Held) → Bounded h → Grown h (first_by b f h)
 unfolding first_by
 first-grows false f h w = grown-nothing h w
-first-grows true f h w = (append-extends (feature_block f) h.out w.0, extended-nothing h.notes, (append-within (feature_block f) h.out, w.1))
+first-grows true f h w = out-grows h w (feature_block f) (set h.memo f.name 1) (length-set h.memo f.name 1)
 
 -- ---- matching
 
@@ -154,8 +199,8 @@ module _ (m : Matching) where
 
   match_grows : (a : Option ℕ) (f : Feature) (h : Held) → Bounded h → Grown h (match_by a m f h)
   unfolding match_by
-  match_grows None f h w = (extended-nothing h.out, append-extends _ h.notes w.1, (w.0, append-within _ h.notes))
-  match_grows (Some i) f h w = (append-extends _ h.out w.0, extended-nothing h.notes, (append-within _ h.out, w.1))
+  match_grows None f h w = notes-grows h w _ (set h.memo f.name 1) (length-set h.memo f.name 1)
+  match_grows (Some i) f h w = out-grows h w _ (set h.memo f.name (i + 2)) (length-set h.memo f.name (i + 2))
 
 -- ---- every purpose
 
@@ -187,10 +232,10 @@ module _ (m : Tables) where
   quiet First f h x y = first-quiet (eqb (get_or h.memo f.name 0) 0) f h refl x
   quiet (Match k) f h x y = match-quiet k (partner_of m k.kept.now f.name) f h x y
 
-  -- an output is only added to
+  -- an output is only added to, and nothing changes its length
   pub grows : (p : Purpose) (f : Feature) (h : Held) → Bounded h → Grown h (taken p m f h)
   unfolding taken
   grows Count f h w = grown-nothing h w
-  grows All f h w = (append-extends (feature_block f) h.out w.0, extended-nothing h.notes, (append-within (feature_block f) h.out, w.1))
+  grows All f h w = out-grows h w (feature_block f) h.memo refl
   grows First f h w = first-grows (eqb (get_or h.memo f.name 0) 0) f h w
   grows (Match k) f h w = match_grows k (partner_of m k.kept.now f.name) f h w

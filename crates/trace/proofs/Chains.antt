@@ -39,13 +39,13 @@ module _ (m : Tables) (s : Side) (k p f : ℕ) where
   unfolding chains
   chains-none e = by-none (steps m s) k p f e
 
-  pub chains-on : 0 < k → (st : TheStep) (l : List TheStep) → steps_from m s p f 0 0 ≡ st ∷ l → chains m s k p f ≡ each (via m s (k - 1)) (steps_from m s p f 0 0)
+  pub chains-on : 0 < k → (st : TheStep) (l : List TheStep) → steps_from m s p f 0 None ≡ st ∷ l → chains m s k p f ≡ each (via m s (k - 1)) (steps_from m s p f 0 None)
   unfolding chains via
   chains-on h st l e = by-steps (steps m s) k p f h st l (sym (steps-from-start m s p f) ∙ e) ∙ rw (steps-from-start m s p f)
 
   pub begins_none : k ≡ 0 → Begins m s k p f None
   begins_none e = chains-zero e
 
-  pub begins : (k ≡ 0 → ⊥) → (q : Option Step) → steps_from m s p f 0 0 ≡ after_step m s p f q → Begins m s k p f q
+  pub begins : (k ≡ 0 → ⊥) → (q : Option Step) → steps_from m s p f 0 None ≡ after_step m s p f q → Begins m s k p f q
   begins h None e = chains-none (sym (steps-from-start m s p f) ∙ e)
   begins h (Some st) e = (omega (arith, h), e)

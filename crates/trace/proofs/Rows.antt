@@ -103,7 +103,7 @@ module _ (m : Tables) (s : TheSide) (x k : ℕ) (o : Chain) (p : List ℕ) (left
     pub remains : Remains row_numbers (traced_block m) (rows_behind m s x k o p (chains m s left c f)) out₀ count out done (left_rows m s x k o p left (after_step m s c f next))
     pub within : Within m next
 
-  pub going_start : (st : Step) → Within m (Some st) → count ≤ length out₀ / row_numbers → (0 < left) × (steps_from m s c f 0 0 ≡ after_step m s c f (Some st)) → Going out₀ count (Some st)
+  pub going_start : (st : Step) → Within m (Some st) → count ≤ length out₀ / row_numbers → (0 < left) × (steps_from m s c f 0 None ≡ after_step m s c f (Some st)) → Going out₀ count (Some st)
   going_start st v h b =
       record { within = v; remains = rw (chains-on m s left c f b.0 _ _ b.1, b.1) (remains-start row_numbers (traced_block m) _ out₀ count h) }
 
@@ -115,16 +115,16 @@ module _ (m : Tables) (s : TheSide) (x k : ℕ) (o : Chain) (p : List ℕ) (left
   module _ (out : List ℕ) (done : ℕ) (next : Option Step) (g : Going out done next) (st : Step) (e : next ≡ Some st) (p' : List ℕ) (l : p' ≡ p ++ (st.row ∷ []))
       (q : Option ℕ) (out' : List ℕ) (w : Written row_numbers (traced_block m) (rows_behind m s x k o p' (chains m s (left - 1) st.child st.feature)) out done q out') where
     split : left_rows m s x k o p left (after_step m s c f next)
-        ≡ rows_behind m s x k o p' (chains m s (left - 1) st.child st.feature) ++ left_rows m s x k o p left (steps_from m s c f st.row (st.child + 1))
+        ≡ rows_behind m s x k o p' (chains m s (left - 1) st.child st.feature) ++ left_rows m s x k o p left (steps_from m s c f st.row (Some st.child))
     unfolding via
     split =
         ap (λ (q : Option Step). left_rows m s x k o p left (after_step m s c f q)) e
-        ∙ rows_append m s x k o p (map (push st.row) (chains m s (left - 1) st.child st.feature)) (each (via m s (left - 1)) (steps_from m s c f st.row (st.child + 1)))
-        ∙ ap (λ (r : List Traced). r ++ left_rows m s x k o p left (steps_from m s c f st.row (st.child + 1)))
+        ∙ rows_append m s x k o p (map (push st.row) (chains m s (left - 1) st.child st.feature)) (each (via m s (left - 1)) (steps_from m s c f st.row (Some st.child)))
+        ∙ ap (λ (r : List Traced). r ++ left_rows m s x k o p left (steps_from m s c f st.row (Some st.child)))
         (rows-along m s x k o p st.row (chains m s (left - 1) st.child st.feature)
         ∙ ap (λ (r : List ℕ). rows_behind m s x k o r (chains m s (left - 1) st.child st.feature)) (sym l))
 
-    pub going_on : (n : ℕ) (next' : Option Step) → Within m next' → q ≡ Some n → steps_from m s c f st.row (st.child + 1) ≡ after_step m s c f next' → Going out' n next'
+    pub going_on : (n : ℕ) (next' : Option Step) → Within m next' → q ≡ Some n → steps_from m s c f st.row (Some st.child) ≡ after_step m s c f next' → Going out' n next'
     going_on n next' v h a =
         record { within = v; remains = rw (← a) (remains-turn row_numbers (traced_block m) _ out₀ count out done _ g.remains _ _ split q out' w n h) }
 

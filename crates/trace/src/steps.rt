@@ -50,7 +50,7 @@ fn is_step(m: &Tables, side: Side, component: u32, feature: u32, i: usize) -> bo
     connection::owner_of(m, i) == component && leads(m, side, feature, i)
 }
 
-// The first child from `from` on (0 is the start, i + 1 is behind child i) to which X row i leads, if it is a connection of the component that leads from
+// The first child behind `last` to which X row i leads, if it is a connection of the component that leads from
 // its feature towards the side.
 #[tactic(auto, unfolding(crate::specs::Steps::leads_to))]
 fn next_child(
@@ -59,9 +59,9 @@ fn next_child(
     component: u32,
     feature: u32,
     i: usize,
-    from: usize,
+    last: Option<usize>,
 ) -> Option<usize>
-    ensures from_value { leads_to (model m.now) (side_of side) component feature i from
+    ensures value { leads_to (model m.now) (side_of side) component feature i last
         ≡ after_child (leads_to (model m.now) (side_of side) component feature i) result }
     ensures inside { Inside (model m.now) result }
 {
@@ -69,10 +69,10 @@ fn next_child(
         return None;
     }
     let name = connection::subcomponent_of(m, side, i);
-    children::find_child_by_name(m, component, name, from)
+    children::find_child_by_name(m, component, name, last)
 }
 
-// The next step from (component, feature), if there is one: from X row `row` on, over that row only to children from `child` on.
+// The next step from (component, feature), if there is one: from X row `row` on, over that row only to children behind `child`.
 #[tactic(auto, using(crate::proofs::Scan::steps_hit, crate::proofs::Scan::steps_miss, crate::proofs::Scan::steps_end))]
 pub fn next_step(
     m: &Tables,
@@ -80,22 +80,22 @@ pub fn next_step(
     component: u32,
     feature: u32,
     row: usize,
-    child: usize,
+    child: Option<usize>,
 ) -> Option<Step>
     ensures child_value { steps_from (model m.now) (side_of side) component feature row child
         ≡ after_step (model m.now) (side_of side) component feature result }
     ensures within { Within (model m.now) result }
 {
-    let mut from = child;
+    let mut last = child;
     for i in row..m.x.len() / X_NUMBERS {
-        if let Some(j) = next_child(m, side, component, feature, i, from) {
+        if let Some(j) = next_child(m, side, component, feature, i, last) {
             return Some(Step {
                 row: i,
                 child: j,
                 feature: connection::feature_of(m, side, i),
             });
         }
-        from = 0;
+        last = None;
     }
     None
 }
@@ -109,5 +109,5 @@ pub fn first_step(m: &Tables, side: Side, component: u32, feature: u32, left: us
     if left == 0 {
         return None;
     }
-    next_step(m, side, component, feature, 0, 0)
+    next_step(m, side, component, feature, 0, None)
 }

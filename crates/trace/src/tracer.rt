@@ -92,7 +92,7 @@ pub fn trace(
             here.component,
             here.feature,
             step.row,
-            step.child + 1,
+            Some(step.child),
         );
     }
     Some(done)

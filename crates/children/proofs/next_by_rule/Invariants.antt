@@ -5,4 +5,4 @@ use Rattle.lent.specs.Model.{model}
 use Rattle.children.proofs.next_by_rule.Given as goal
 
 abbrev pub invariant-loop-i : goal.invariant-loop-i
-invariant-loop-i l = Best (model l.m) l.rule l.owner (name_of (model l.m) l.wanted) l.from l.i l.best
+invariant-loop-i l = Best (model l.m) l.rule l.owner (name_of (model l.m) l.wanted) l.last l.i l.best

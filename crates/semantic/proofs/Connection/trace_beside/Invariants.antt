@@ -1,17 +1,19 @@
--- `semantic::Connection::trace_beside` meets its contract. The invariant: the rows of the children from `from` on remain to be written. The measure: how many those children are. Assumes nothing.
-use Rattle.semantic.specs.Rows.{named_from, rows_beside}
+-- `semantic::Connection::trace_beside` meets its contract. The invariant: the rows of the children that are left remain to be written. Assumes nothing.
+use Rattle.as5506.specs.Tracing.{named}
+use Rattle.semantic.specs.Rows.{rows_beside}
 use Rattle.columns.specs.Side.{side_of}
 use Rattle.trace.proofs.Writing.{Remains}
 use Rattle.as5506.specs.Layout.{traced_block, row_numbers}
 use Rattle.lent.specs.Model.{model}
-use lib.ListN.{length}
+use Rattle.children.specs.Found.{tables_of, children_left}
+use mathlib.Core.Path.{◌≡◌}
 use Rattle.semantic.proofs.Connection.trace_beside.Given as goal
 
 abbrev pub invariant-loop-i : goal.invariant-loop-i
 invariant-loop-i l =
     let m = model l.self.m.now in
-    Remains row_numbers (traced_block m) (rows_beside m l.self.row (side_of l.side) l.far (named_from m (side_of l.side) l.self.row 0)) l.initial.out l.count
-    l.out l.done (rows_beside m l.self.row (side_of l.side) l.far (named_from m (side_of l.side) l.self.row l.from))
-
-abbrev pub decreases-loop-i : goal.decreases-loop-i
-decreases-loop-i l = length (named_from (model l.self.m.now) (side_of l.side) l.self.row l.from)
+    record {
+      same : tables_of l.i-iterator ≡ m;
+      rows : Remains row_numbers (traced_block m) (rows_beside m l.self.row (side_of l.side) l.far (named m (side_of l.side) l.self.row)) l.initial.out l.count
+          l.out l.done (rows_beside m l.self.row (side_of l.side) l.far (children_left l.i-iterator));
+    }

@@ -7,4 +7,4 @@ use Rattle.trace.proofs.steps.next_step.Given as goal
 
 abbrev pub invariant-loop-i : goal.invariant-loop-i
 invariant-loop-i l =
-    steps_from (model l.m) (side_of l.side) l.component l.feature l.row l.child ≡ steps_from (model l.m) (side_of l.side) l.component l.feature l.i l.from
+    steps_from (model l.m) (side_of l.side) l.component l.feature l.row l.fn.child ≡ steps_from (model l.m) (side_of l.side) l.component l.feature l.i l.last
