@@ -252,7 +252,7 @@ pub fn elements() -> Vec<u8> {
 /// Two arrays of 47 elements each with long names, joined one to one: their elements stand in the drawing as they do in the sheet, or the other way round.
 pub fn two_arrays(falling: bool) -> Vec<u8> {
     let mut draft = Draft::new();
-    let arrays = ["a", "b"].map(|front| alike(front)[..58].to_string());
+    let arrays = ["a", "b"].map(|front| format!("{front}{}", "x".repeat(57)));
     draft.sheet.components[0][component::PATTERN] = draft.name("one_to_one");
     for array in &arrays {
         for k in 1..=47 {
@@ -269,13 +269,14 @@ pub fn two_arrays(falling: bool) -> Vec<u8> {
     draft.sheet.bytes()
 }
 
-/// A name of the longest that there are, all of which end alike: two are compared from their ends, so almost to their fronts.
-fn alike(front: &str) -> String {
-    let rest = NAME_BYTES - front.len();
-    format!("{front}{}", "x".repeat(rest))
+/// A name of the longest that there are, all of which are alike but for what stands before the last byte: two are compared by their last bytes, and then
+/// from their fronts, so almost to their ends.
+fn alike(own: &str) -> String {
+    let rest = NAME_BYTES - 1 - own.len();
+    format!("{}{own}x", "x".repeat(rest))
 }
 
-/// One owner with 90 children whose names end alike, and 64 connections between the last two.
+/// One owner with 90 children whose names are alike almost to their ends, and 64 connections between the last two.
 pub fn worst_children() -> Vec<u8> {
     let mut draft = Draft::new();
     let names: Vec<String> = (0..90).map(|k| alike(&format!("{k:02}"))).collect();
@@ -288,7 +289,7 @@ pub fn worst_children() -> Vec<u8> {
     draft.sheet.bytes()
 }
 
-/// One owner with 95 array elements whose names end alike, and 64 connections between the last two. These are named in capitals in front, so
+/// One owner with 95 array elements whose names are alike almost to their ends, and 64 connections between the last two. These are named by a capital, so
 /// every name is compared twice: byte for byte and, as no child has that very name, once more with the case ignored.
 pub fn worst_elements() -> Vec<u8> {
     let mut draft = Draft::new();
@@ -305,7 +306,7 @@ pub fn worst_elements() -> Vec<u8> {
 
 /// No connection, and as many references as fit that no package resolves. They are asked from the last of 96 packages, whose 96 imports
 /// all name that package again, and it has 96 component types and 96 group types. So each reference asks 96 times for a package among 96,
-/// a type among 96 and a group type among 96, and all of these names end alike.
+/// a type among 96 and a group type among 96, and all of these names are alike almost to their ends.
 pub fn worst_imports() -> Vec<u8> {
     const LAST: usize = TABLE_ROWS - 1;
     let mut draft = Draft::default();

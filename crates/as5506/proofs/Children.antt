@@ -40,6 +40,16 @@ rows-ordered m c = ordered-keep ◌<◌ (λ i. eqb (c_parent m i) c) (up_to (c_c
 children-ordered : (m : Tables) (c : ℕ) → Ordered (Before (c_place m)) (children_of m c)
 children-ordered m c = sorted-ordered (c_place m) (rows_naming m letter_c (c_parent m) c) (rows-ordered m c)
 
+-- WHAT A NAME FINDS are those of the children that pass a test, whatever the tables
+pub found-kept : (m : Tables) (c : ℕ) (w : List ℕ) (P : List ℕ → Type 0) → ((p : ℕ → Bool) → P (keep p (children_of m c))) → P (found_children m c w)
+unfolding found_children or_elements
+found-kept m c w P kept = go (has bracket w) (keep (is_named m w) (children_of m c)) (kept (is_named m w))
+  where
+    go : (b : Bool) (l : List ℕ) → P l → P (or_elements b m c w l)
+    go b (i ∷ l) h = h
+    go true [] h = h
+    go false [] h = kept (is_element m w)
+
 -- those that pass a test, as a scan of all rows finds them (the next of them: sorted-next)
 pub children-kept : (m : Tables) (c : ℕ) (p : ℕ → Bool) → keep p (children_of m c) ≡ sort_by (c_place m) (keep (λ i. eqb (c_parent m i) c && p i) (up_to (c_count m)))
 unfolding rows_naming
@@ -94,15 +104,7 @@ module _ (m : Tables) (ok : T (accepted m)) where
       ordered_same (λ i j. c_place m i < c_place m j) (λ i j a b. omega (arith, a, b)) l (children_of m c) (risen m l d.rising) (children-ascend c)
       (λ i h. let k = d.alone i h in row-child m c i k.0 k.1) (λ i h. let k = child-row m c i h in d.each i k.0 k.1)
 
-  or-ascend : (c : ℕ) (w : List ℕ) (b : Bool) (l : List ℕ) → Ordered (λ i j. c_place m i < c_place m j) l → Ordered (λ i j. c_place m i < c_place m j) (or_elements b m c w l)
-  unfolding or_elements
-  or-ascend c w b (i ∷ l) o = o
-  or-ascend c w true [] o = tt
-  or-ascend c w false [] o = ordered-keep (λ i j. c_place m i < c_place m j) (is_element m w) (children_of m c) (children-ascend c)
-
   -- WHAT A NAME FINDS FOLLOWS THE PLACES: pairs and steps are made of these children, and the group listing takes the first
   pub found-rise : (c : ℕ) (w : List ℕ) → PlacesRise m (found_children m c w)
-  unfolding found_children
   found-rise c w =
-      rise m (found_children m c w)
-      (or-ascend c w (has bracket w) (keep (is_named m w) (children_of m c)) (ordered-keep (λ i j. c_place m i < c_place m j) (is_named m w) (children_of m c) (children-ascend c)))
+      found-kept m c w (PlacesRise m) (λ p. rise m (keep p (children_of m c)) (ordered-keep (λ i j. c_place m i < c_place m j) p (children_of m c) (children-ascend c)))

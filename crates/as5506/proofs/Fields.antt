@@ -2,8 +2,8 @@
 use mathlib.Core.Bool.{Bool, true, false, not, ◌&&◌, cond, and_assoc}
 use mathlib.Core.Path.{◌≡◌, refl, sym, ap, ap₂, ◌∙◌, subst}
 use mathlib.Core.List.{List, [], ◌∷◌, ◌++◌, append_assoc}
-use Prim.Native.Nat.{ℕ, zero, suc, ◌+◌, ◌-◌, ◌*◌, ◌≤◌, ◌<◌}
-use native.Mathlib.Nat.{mul-le-mul_right, mul_assoc}
+use Prim.Native.Nat.{ℕ, zero, suc, ◌+◌, ◌-◌, ◌*◌, ◌^◌, ◌≤◌, ◌<◌}
+use native.Mathlib.Nat.{mul-le-mul_right, mul_assoc, lt_of_lt_of_le, pow-succ', pow-le-pow_right}
 use native.Mathlib.Omega.{arith}
 use borrow.Author.Tests.{lt-ltb}
 use lib.Dec.{T, eqb, leb, ltb, leb→le}
@@ -38,18 +38,8 @@ unspaced-short (b ∷ bs) = go (eqb b space) (unspaced-short bs)
 
 -- ---- a number of few digits
 
-abbrev tens : ℕ → ℕ
-tens zero = 1
-tens (suc n) = 10 * tens n
-
-tens-mono : (a b : ℕ) → a ≤ b → tens a ≤ tens b
-tens-mono zero zero h = omega arith
-tens-mono zero (suc b) h = omega (arith, tens-mono zero b (omega arith))
-tens-mono (suc a) zero h = absurd (omega arith)
-tens-mono (suc a) (suc b) h = omega (arith, tens-mono a b (omega arith))
-
 -- digits that continue v give less than v + 1 followed by as many zeros
-decimal-below : (v : ℕ) (s : List ℕ) → T (all_of digit s) → decimal_from v s < suc v * tens (length s)
+decimal-below : (v : ℕ) (s : List ℕ) → T (all_of digit s) → decimal_from v s < suc v * 10 ^ length s
 unfolding decimal_from
 decimal-below v [] t = omega arith
 decimal-below v (b ∷ bs) t =
@@ -57,9 +47,9 @@ decimal-below v (b ∷ bs) t =
     let low = leb→le b 57 (and_right (leb 48 b) (leb b 57) here) in
     let rest = decimal-below (v * 10 + (b - 48)) bs (and_right (digit b) (all_of digit bs) t) in
     let h : suc (v * 10 + (b - 48)) ≤ suc v * 10 = omega (arith, low) in
-    let g : suc (v * 10 + (b - 48)) * tens (length bs) ≤ suc v * 10 * tens (length bs) = mul-le-mul_right (tens (length bs)) h in
-    let e : suc v * 10 * tens (length bs) ≡ suc v * (10 * tens (length bs)) = mul_assoc (suc v) 10 (tens (length bs)) in
-    omega (arith, rest, g, e)
+    let g : suc (v * 10 + (b - 48)) * 10 ^ length bs ≤ suc v * 10 * 10 ^ length bs = mul-le-mul_right (10 ^ length bs) h in
+    let e : suc v * 10 * 10 ^ length bs ≡ suc v * 10 ^ suc (length bs) = mul_assoc (suc v) 10 (10 ^ length bs) ∙ ap (λ (n : ℕ). suc v * n) (sym (pow-succ' 10 (length bs))) in
+    subst (λ (n : ℕ). decimal_from (v * 10 + (b - 48)) bs < n) e (lt_of_lt_of_le rest g)
 
 -- a field that is a number below n, or none
 abbrev pub Below : ℕ → Field → Type 0
@@ -78,15 +68,15 @@ all_digits s t =
     and_left (all_of digit s) (not (eqb (get_or s 0 0) 48 && leb 2 (length s))) (and_right (leb 1 (length s)) (all_of digit s && not (eqb (get_or s 0 0) 48 && leb 2 (length s))) t)
 
 -- a field of at most k columns is a number of at most k digits
-short-field : (k : ℕ) (f : List ℕ) → length f ≤ k → Below (tens k) (field_of f)
+short-field : (k : ℕ) (f : List ℕ) → length f ≤ k → Below (10 ^ k) (field_of f)
 unfolding field_of is_number
-short-field k f h = below_by (tens k) (same_bytes (unspaced f) (bytes_of "-")) (is_number (unspaced f)) (unspaced f) low
+short-field k f h = below_by (10 ^ k) (same_bytes (unspaced f) (bytes_of "-")) (is_number (unspaced f)) (unspaced f) low
   where
-    low : T (is_number (unspaced f)) → decimal_from 0 (unspaced f) < tens k
+    low : T (is_number (unspaced f)) → decimal_from 0 (unspaced f) < 10 ^ k
     low t =
         let u = unspaced f in
         let a = all_digits u (and_left (is_decimal u) (ltb (decimal_from 0 u) (two_to32 * two_to32)) t) in
-        omega (arith, decimal-below 0 u a, tens-mono (length u) k (omega (arith, h, unspaced-short f)))
+        omega (arith, decimal-below 0 u a, pow-le-pow_right {n = 10} (omega arith) {i = length u} {j = k} (omega (arith, h, unspaced-short f)))
 
 -- SIX COLUMNS HOLD A NUMBER BELOW A MILLION
 pub small-field : (f : List ℕ) → length f ≤ 6 → Below 1000000 (field_of f)
@@ -98,7 +88,7 @@ unfolding is_number
 short-number s h = go (is_decimal s) refl
   where
     go : (b : Bool) → is_decimal s ≡ b → b && ltb (decimal_from 0 s) (two_to32 * two_to32) ≡ b
-    go true e = lt-ltb (decimal_from 0 s) (two_to32 * two_to32) (omega (arith, decimal-below 0 s (all_digits s (subst T (sym e) tt)), tens-mono (length s) 19 h))
+    go true e = lt-ltb (decimal_from 0 s) (two_to32 * two_to32) (omega (arith, decimal-below 0 s (all_digits s (subst T (sym e) tt)), pow-le-pow_right {n = 10} (omega arith) h))
     go false e = refl
 
 -- ---- a field, then what follows it

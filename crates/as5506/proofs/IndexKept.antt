@@ -1,7 +1,7 @@
 -- 02 (ii): every accepted sheet written before keeps its index once the field is padded. Assumes nothing.
 use mathlib.Core.Bool.{Bool, true, false}
 use mathlib.Core.Path.{◌≡◌, refl, sym, ap, ◌∙◌, subst}
-use mathlib.Core.List.{List, [], ◌∷◌, ◌++◌, map, append_assoc}
+use mathlib.Core.List.{List, [], ◌∷◌, ◌++◌, map, append_assoc, map-map, map-id}
 use Prim.Native.Nat.{ℕ, ◌*◌, ◌/◌, ◌%◌, ◌≤◌, ◌<◌}
 use native.Mathlib.Nat.{mul-div_cancel, mul-mod_left}
 use native.Mathlib.Omega.{arith}
@@ -180,8 +180,7 @@ module _ (lent : Lent) (s : List ℕ) (m : Tables) (was : read_before lent s ≡
 -- ---- THE PROMISE
 
 texts-back : (us : List (List ℕ)) → map text_of (map ended us) ≡ us
-texts-back [] = refl
-texts-back (u ∷ us) = ap (λ (r : List (List ℕ)). u ∷ r) (texts-back us)
+texts-back us = map-map text_of ended us ∙ map-id us
 
 module _ (was now : Lent) (many : NoFewer was now) (s : List ℕ) (m : Tables) (read : read_before was s ≡ given m) (room : length (padded_sheet s) ≤ 16384) where
   none-now : T (is_nil (sheet_faults now (padded_sheet s)))

@@ -1,18 +1,17 @@
 -- The definition's clashes: the rows whose key an earlier row has; without a clash, rows of the same key are one row. Assumes nothing.
 use mathlib.Core.Bool.{Bool, true, false, not, ◌||◌}
-use mathlib.Core.Path.{◌≡◌, refl, sym, subst}
+use mathlib.Core.Path.{◌≡◌, refl, subst}
 use mathlib.Core.List.{List, [], ◌∷◌, ◌++◌, map}
 use Prim.Native.Nat.{ℕ, zero, suc, ◌≤◌, ◌<◌}
 use native.Mathlib.Nat.{not-suc-le-zero}
 use native.Mathlib.Omega.{arith}
 use native.Mathlib.Decide.{dec_le}
-use lib.Dec.{T, T_not, eqb, eqb→eq}
-use borrow.Author.Tests.{eq-eqb}
+use lib.Dec.{T, T_not}
 use Rattle.as5506.specs.Lists.{span, up_to, put_if, keep, when, is_nil, any_of, same_bytes}
 use Rattle.as5506.specs.Tables.{Tables, Letter, count}
 use Rattle.as5506.specs.Answers.{refusal, row}
 use Rattle.as5506.specs.Refusals.{Key, same_key, clashes_from, clashes}
-use Rattle.as5506.proofs.Laws.{up_to-at, and_left, and_right, and_both, nil-keep}
+use Rattle.as5506.proofs.Laws.{up_to-at, and_left, and_right, and_both, same-bytes, bytes-same, nil-keep}
 
 -- ---- the definition's clashes: it keeps the keys of earlier rows in a list, the latest first
 module _ (key_of : ℕ → Key) where
@@ -47,13 +46,7 @@ module _ (key_of : ℕ → Key) where
 -- ---- the two ways round
 
 same-bytes-sym : (a b : List ℕ) → T (same_bytes a b) → T (same_bytes b a)
-same-bytes-sym [] [] t = tt
-same-bytes-sym [] (y ∷ b) t = t
-same-bytes-sym (x ∷ a) [] t = t
-same-bytes-sym (x ∷ a) (y ∷ b) t =
-    and_both (eqb y x) (same_bytes b a)
-    (subst T (sym (eq-eqb y x (sym (eqb→eq x y (and_left (eqb x y) (same_bytes a b) t))))) tt)
-    (same-bytes-sym a b (and_right (eqb x y) (same_bytes a b) t))
+same-bytes-sym a b t = subst (λ (l : List ℕ). T (same_bytes l a)) (same-bytes a b t) (bytes-same a)
 
 same-key-sym : (a b : Key) → T (same_key a b) → T (same_key b a)
 same-key-sym [] [] t = tt

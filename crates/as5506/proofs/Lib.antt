@@ -4,7 +4,7 @@
 --     Scans         what is left of a scan of rows, and what it keeps
 --     Sorted        lists in an order, and rows sorted by keys
 --     Members       the entries of mapped, joined and cut lists; lists of different entries
---     Letters       the orders of letters agree with each other
+--     Letters       the orders of letters agree with each other; the byte that a line begins with
 --     Fields        what a field of few columns can say, and the fields of a line one by one
 --     Answers       answers that are given or refused
 --     Whole         what the limit of steps takes of accepted tables, and demand 3's condition over lists

@@ -4,17 +4,16 @@ use mathlib.Core.Logic.{◌↔◌, ◌⊎◌, inl, inr}
 use mathlib.Core.Path.{◌≡◌, refl, sym, ap, ap₂, ◌∙◌, subst}
 use mathlib.Core.List.{List, [], ◌∷◌, ◌++◌, map, append_assoc, append-nil}
 use Prim.Native.Nat.{ℕ, zero, suc, ◌+◌, ◌*◌, ◌≤◌, ◌<◌}
-use native.Mathlib.Nat.{le_refl, mul_assoc, mul-le-mul_left, not-suc-le-zero, le_of_suc-le-suc, one-mul, suc_inj}
+use native.Mathlib.Nat.{le_refl, mul_assoc, mul_comm, mul-le-mul, mul-le-mul_left, not-suc-le-zero, le_of_suc-le-suc, one-mul, suc_inj}
 use native.Mathlib.Omega.{arith}
 use lib.Dec.{T, T_not as T-clash, eqb, eqb→eq}
 use lib.ListN.{length}
 use borrow.Author.Tests.{ne_eqb}
 use Rattle.as5506.specs.Lists.{up_to, keep, each, has, total}
-use Rattle.as5506.proofs.Laws.{All, all_map, all-of, all-zip, all_append, all_keep, all-each, each_all, all-mapped, mapped-all, each_same, total-same, total_mono, total-tight, total-times, total-times-right, total-each, total-map, total-append, up_to-below, times-mono, times-tight-left, times-tight-right, and_left, and_right, in_all}
+use Rattle.as5506.proofs.Laws.{All, all_map, all-of, all-zip, all_append, all_keep, all-passing, all-kept, all-each, each_all, all-mapped, mapped-all, each_same, total-same, total_mono, total-tight, total-times, total-times-right, total-each, total-map, total-append, up_to-below, times-tight, and_left, and_right, in_all}
 use Rattle.as5506.specs.Tables.{Tables, present, rows_naming, Side, source, destination, other, name_of, c_count, c_parent, children_of, x_count, x_owner, x_sub, connections_of}
-use Rattle.as5506.specs.Names.{bracket}
-use Rattle.as5506.specs.Tracing.{is_named, is_element, or_elements, found_children, Step, Chain, Start, child, owner, Pair, stop, push, grow, chains_by, chains, steps, steps_over, step_to, leads, shape, Shape, faulty, across, upward, downward, neither, named, one_to_one, pairs_by, pairs, zip_as, all_as, pairs_across, pairs_edge, pair_across, pair_up, pair_down, append_new, row_of, reach, pair_rows, rows_at, traced, shown, rows, unlimited}
-use Rattle.as5506.proofs.Children.{child-row}
+use Rattle.as5506.specs.Tracing.{found_children, Step, Chain, Start, child, owner, Pair, stop, push, grow, chains_by, chains, steps, steps_over, step_to, leads, shape, Shape, faulty, across, upward, downward, neither, named, one_to_one, pairs_by, pairs, zip_as, all_as, pairs_across, pairs_edge, pair_across, pair_up, pair_down, append_new, row_of, reach, pair_rows, rows_at, traced, shown, rows, unlimited}
+use Rattle.as5506.proofs.Children.{child-row, found-kept}
 use Rattle.as5506.proofs.Whole.{Sound, StartWhole, PairWhole, NoFurther}
 
 -- ---- the weight of a path: 2 to the number of its connections
@@ -53,6 +52,17 @@ module _ (next : ℕ → ℕ → List Step) where
   -- the chains that begin with a step
   abbrev pub branch : ℕ → Step → List Chain
   branch k st = map (push st.conn) (chains_by next k st.child st.feat)
+
+  -- what holds where no step exists, and of each chain behind each step, holds of the chains of one step more
+  pub all-grown : (P : Chain → Type 0) (Q : Step → Chain → Type 0) (k c f : ℕ) → (next c f ≡ [] → P (stop c f)) → ((st : Step) (e : Chain) → Q st e → P (push st.conn e))
+      → All (λ st. All (Q st) (chains_by next k st.child st.feat)) (next c f) → All P (chains_by next (suc k) c f)
+  unfolding chains_by
+  all-grown P Q k c f none more t = go (next c f) none t
+    where
+      go : (l : List Step) → (l ≡ [] → P (stop c f)) → All (λ st. All (Q st) (chains_by next k st.child st.feat)) l → All P (grow (stop c f) (branch k) l)
+      go [] h t = (h refl, tt)
+      go (st ∷ sts) h t =
+          all-each (λ st. All (Q st) (chains_by next k st.child st.feat)) P (branch k) (λ st q. all-mapped (Q st) P (push st.conn) (more st) (chains_by next k st.child st.feat) q) (st ∷ sts) t
 
   abbrev heft : ℕ → ℕ → ℕ → ℕ
   heft k c f = total end_weight (chains_by next k c f)
@@ -111,12 +121,6 @@ module _ (next : ℕ → ℕ → List Step) where
   abbrev Whole : ℕ → ℕ → ℕ → Type 0
   Whole k c f = All (Last k) (chains_by next k c f)
 
-  grow-whole : (k c f : ℕ) (l : List Step) → All (λ st. Whole k st.child st.feat) l → All (Last (suc k)) (grow (stop c f) (branch k) l)
-  grow-whole k c f [] t = ((λ (h : 0 ≡ suc k). absurd (omega arith)), tt)
-  grow-whole k c f (st ∷ sts) t =
-      all-each (λ st. Whole k st.child st.feat) (Last (suc k)) (branch k)
-      (λ st p. all-mapped (Last k) (Last (suc k)) (push st.conn) (λ e q h. q (suc_inj h)) (chains_by next k st.child st.feat) p) (st ∷ sts) t
-
   whole-grow : (k c f : ℕ) (l : List Step) → All (Last (suc k)) (grow (stop c f) (branch k) l) → All (λ st. Whole k st.child st.feat) l
   whole-grow k c f [] t = tt
   whole-grow k c f (st ∷ sts) t =
@@ -126,7 +130,8 @@ module _ (next : ℕ → ℕ → List Step) where
   ends→whole : (k c f : ℕ) → Ends k c f → Whole k c f
   unfolding chains_by
   ends→whole zero c f e = ((λ h. e), tt)
-  ends→whole (suc k) c f e = grow-whole k c f (next c f) (all_map _ _ (λ st p. ends→whole k st.child st.feat p) (next c f) e)
+  ends→whole (suc k) c f e =
+      all-grown (Last (suc k)) (λ st. Last k) k c f (λ z (h : 0 ≡ suc k). absurd (omega arith)) (λ st e q h. q (suc_inj h)) (all_map _ _ (λ st p. ends→whole k st.child st.feat p) (next c f) e)
 
   whole→ends : (k c f : ℕ) → Whole k c f → Ends k c f
   unfolding chains_by
@@ -151,21 +156,13 @@ module _ (m : Tables) (ok : Sound m) where
   children-below : (c : ℕ) → c < c_count m → All (Below m c) (children_of m c)
   children-below c h = in_all (Below m c) (children_of m c) (λ i k. let r = child-row m c i k in below c i h r.0 r.1)
 
-  or-below : (c : ℕ) (w : List ℕ) (b : Bool) (l : List ℕ) → c < c_count m → All (Below m c) l → All (Below m c) (or_elements b m c w l)
-  unfolding or_elements
-  or-below c w b (i ∷ is) h t = t
-  or-below c w true [] h t = tt
-  or-below c w false [] h t = all_keep (Below m c) (Below m c) (is_element m w) (λ i u p. p) (children_of m c) (children-below c h)
-
   found_below : (c : ℕ) (w : List ℕ) → c < c_count m → All (Below m c) (found_children m c w)
-  unfolding found_children
-  found_below c w h =
-      or-below c w (has bracket w) (keep (is_named m w) (children_of m c)) h (all_keep (Below m c) (Below m c) (is_named m w) (λ i u p. p) (children_of m c) (children-below c h))
+  found_below c w h = found-kept m c w (All (Below m c)) (λ p. all-kept (Below m c) p (children_of m c) (children-below c h))
 
   -- the connections of a component are its own
   connections-of : (c : ℕ) → All (λ x. x_owner m x ≡ c) (connections_of m c)
   unfolding rows_naming
-  connections-of c = all_keep (λ x. Unit {0}) (λ x. x_owner m x ≡ c) (λ x. eqb (x_owner m x) c) (λ x t u. eqb→eq _ _ t) (up_to (x_count m)) (all-of _ (λ x. tt) (up_to (x_count m)))
+  connections-of c = all-passing (λ x. x_owner m x ≡ c) (λ x. eqb (x_owner m x) c) (λ x t. eqb→eq _ _ t) (up_to (x_count m))
 
   leading : (s : Side) (c : ℕ) (w : List ℕ) (x i : ℕ) → T (leads m s w x) → x_owner m x ≡ c → Below m c i → Leading m s c (step_to m s x i)
   unfolding leads
@@ -190,20 +187,15 @@ module _ (m : Tables) (ok : Sound m) where
   Trail s c [] = Unit {0}
   Trail s c (x ∷ xs) = (x_owner m x ≡ c) × T (present (x_sub m s x)) × T (not (present (x_sub m (other s) x))) × ((d : ℕ) × (c < d) × Trail s d xs)
 
-  grow-trail : (s : Side) (k c f : ℕ) (l : List Step) → All (Leading m s c) l
-      → ((st : Step) → Leading m s c st → All (λ e. Trail s st.child e.path) (chains m s k st.child st.feat))
-      → All (λ e. Trail s c e.path) (grow (stop c f) (branch (steps m s) k) l)
-  unfolding chains
-  grow-trail s k c f [] t h = (tt, tt)
-  grow-trail s k c f (st ∷ sts) t h =
-      all-each (Leading m s c) (λ e. Trail s c e.path) (branch (steps m s) k)
-      (λ st g. all-mapped (λ e. Trail s st.child e.path) (λ e. Trail s c e.path) (push st.conn) (λ e q. (g.of, g.near, g.far, (st.child, g.below.0, q)))
-      (chains m s k st.child st.feat) (h st g)) (st ∷ sts) t
-
   chains-trail : (s : Side) (k c f : ℕ) → c < c_count m → All (λ e. Trail s c e.path) (chains m s k c f)
   unfolding chains chains_by
   chains-trail s zero c f h = (tt, tt)
-  chains-trail s (suc k) c f h = grow-trail s k c f (steps m s c f) (steps-leading s c f h) (λ st g. chains-trail s k st.child st.feat g.below.1)
+  chains-trail s (suc k) c f h =
+      all-grown (steps m s) (λ e. Trail s c e.path) (λ st e. Leading m s c st × Trail s st.child e.path) k c f (λ z. tt)
+      (λ st e q. (q.0.of, q.0.near, q.0.far, (st.child, q.0.below.0, q.1)))
+      (all_map (Leading m s c) _
+      (λ st g. all_map (λ e. Trail s st.child e.path) (λ e. Leading m s c st × Trail s st.child e.path) (λ e q. (g, q)) (chains m s k st.child st.feat) (chains-trail s k st.child st.feat g.below.1))
+      (steps m s c f) (steps-leading s c f h))
 
   trail-near : (s : Side) (c : ℕ) (p : List ℕ) → Trail s c p → All (λ x. T (present (x_sub m s x))) p
   trail-near s c [] t = tt
@@ -236,6 +228,13 @@ module _ (m : Tables) (ok : Sound m) where
       ∙ append_assoc p (x ∷ []) xs)
 
 -- ---- pairs
+
+-- the weight of a pair's rows, by the chains of its starts
+abbrev start_mass : Tables → Side → ℕ → Start → ℕ
+start_mass m s k st = total end_weight (reach m s k st)
+
+abbrev pair_mass : Tables → ℕ → Pair → ℕ
+pair_mass m k p = 2 * (start_mass m source k p.from * start_mass m destination k p.to)
 
 abbrev pub GoodStart : Tables → ℕ → Start → Type 0
 GoodStart m x (child c f) = (x_owner m x < c) × (c < c_count m)
@@ -293,12 +292,6 @@ module _ (m : Tables) (ok : Sound m) (x : ℕ) (lx : x < x_count m) where
 
   -- ---- the weight of a pair's rows
 
-  abbrev start_heft : Side → ℕ → Start → ℕ
-  start_heft s k st = total end_weight (reach m s k st)
-
-  abbrev pair_heft : ℕ → Pair → ℕ
-  pair_heft k p = 2 * (start_heft source k p.from * start_heft destination k p.to)
-
   row-weight : (d : ℕ) (s e : Chain) → x_owner m x < d → All (λ y. T (present (x_sub m source y))) s.path → Trail m ok destination d e.path
       → weight (row_of m x s e).path ≡ 2 * end_weight s * end_weight e
   unfolding row_of
@@ -323,23 +316,23 @@ module _ (m : Tables) (ok : Sound m) (x : ℕ) (lx : x < x_count m) where
       ∙ ap (λ (n : ℕ). n * total end_weight es) (total-times 2 end_weight ss)
       ∙ mul_assoc 2 (total end_weight ss) (total end_weight es)
 
-  pair-weight : (k : ℕ) (p : Pair) → GoodPair m x p → total (λ r. weight r.path) (pair_rows m k x p) ≡ pair_heft k p
+  pair-weight : (k : ℕ) (p : Pair) → GoodPair m x p → total (λ r. weight r.path) (pair_rows m k x p) ≡ pair_mass m k p
   unfolding pair_rows
   pair-weight k p g =
       let (d, l, u) = to-good k p.to g.1 in
       product-weight d (reach m source k p.from) (reach m destination k p.to) l (from-good k p.from g.0) u
 
-start-pos : (m : Tables) (s : Side) (k : ℕ) (st : Start) → 0 < total end_weight (reach m s k st)
+start-pos : (m : Tables) (s : Side) (k : ℕ) (st : Start) → 0 < start_mass m s k st
 unfolding chains
 start-pos m s k (child c f) = heft-pos (steps m s) k c f
 start-pos m s k (owner c f) = le_refl 1
 
-start-mono : (m : Tables) (s : Side) (a b : ℕ) → a ≤ b → (st : Start) → total end_weight (reach m s a st) ≤ total end_weight (reach m s b st)
+start-mono : (m : Tables) (s : Side) (a b : ℕ) → a ≤ b → (st : Start) → start_mass m s a st ≤ start_mass m s b st
 unfolding chains
 start-mono m s a b h (child c f) = heft-mono (steps m s) a b h c f
 start-mono m s a b h (owner c f) = le_refl 1
 
-start-tight : (m : Tables) (s : Side) (a b : ℕ) → a < b → (st : Start) → total end_weight (reach m s b st) ≤ total end_weight (reach m s a st) → StartWhole m s a st
+start-tight : (m : Tables) (s : Side) (a b : ℕ) → a < b → (st : Start) → start_mass m s b st ≤ start_mass m s a st → StartWhole m s a st
 unfolding chains
 start-tight m s a b h (child c f) e =
     ends→whole (steps m s) a c f (tight (steps m s) a b h c f (omega (arith, e, heft-mono (steps m s) a b (omega arith) c f)))
@@ -368,45 +361,42 @@ module _ (m : Tables) (ok : Sound m) where
   abbrev x_mass : ℕ → ℕ → ℕ
   x_mass k x = total (λ r. weight r.path) (rows_at m k x)
 
-  abbrev p_mass : ℕ → Pair → ℕ
-  p_mass k p = 2 * (total end_weight (reach m source k p.from) * total end_weight (reach m destination k p.to))
-
   mass-rows : (k : ℕ) → mass k ≡ total (x_mass k) (up_to (x_count m))
   unfolding traced
   mass-rows k = total-each (λ r. weight r.path) (rows_at m k) (up_to (x_count m))
 
-  mass-pairs : (k x : ℕ) → x < x_count m → x_mass k x ≡ total (p_mass k) (pairs m x)
+  mass-pairs : (k x : ℕ) → x < x_count m → x_mass k x ≡ total (pair_mass m k) (pairs m x)
   unfolding rows_at
   mass-pairs k x lx =
       total-each (λ r. weight r.path) (pair_rows m k x) (pairs m x)
-      ∙ total-same (λ p. total (λ r. weight r.path) (pair_rows m k x p)) (p_mass k) (pairs m x)
+      ∙ total-same (λ p. total (λ r. weight r.path) (pair_rows m k x p)) (pair_mass m k) (pairs m x)
       (all_map (GoodPair m x) _ (λ p g. pair-weight m ok x lx k p g) (pairs m x) (pairs-good m ok x lx))
 
-  p_mass-mono : (a b : ℕ) → a ≤ b → (p : Pair) → p_mass a p ≤ p_mass b p
-  p_mass-mono a b h p = mul-le-mul_left 2 (times-mono _ _ _ _ (start-mono m source a b h p.from) (start-mono m destination a b h p.to))
+  pair_mass-mono : (a b : ℕ) → a ≤ b → (p : Pair) → pair_mass m a p ≤ pair_mass m b p
+  pair_mass-mono a b h p = mul-le-mul_left 2 (mul-le-mul (start-mono m source a b h p.from) (start-mono m destination a b h p.to))
 
   x_mass-mono : (a b : ℕ) → a ≤ b → (x : ℕ) → x < x_count m → x_mass a x ≤ x_mass b x
-  x_mass-mono a b h x lx = rw (mass-pairs a x lx, mass-pairs b x lx) (total_mono (p_mass a) (p_mass b) (pairs m x) (all-of _ (p_mass-mono a b h) (pairs m x)))
+  x_mass-mono a b h x lx = rw (mass-pairs a x lx, mass-pairs b x lx) (total_mono (pair_mass m a) (pair_mass m b) (pairs m x) (all-of _ (pair_mass-mono a b h) (pairs m x)))
 
-  pair-tight : (a b : ℕ) → a < b → (p : Pair) → p_mass a p ≡ p_mass b p → PairWhole m a p
+  pair-tight : (a b : ℕ) → a < b → (p : Pair) → pair_mass m a p ≡ pair_mass m b p → PairWhole m a p
   pair-tight a b h p e = (
-    start-tight m source a b h p.from (times-tight-left _ _ _ _ (start-pos m destination a p.to) u v w),
-    start-tight m destination a b h p.to (times-tight-right _ _ _ _ (start-pos m source a p.from) u v w),
+    start-tight m source a b h p.from (times-tight _ _ _ _ (start-pos m destination a p.to) (start-mono m destination a b (omega arith) p.to) w),
+    start-tight m destination a b h p.to (times-tight _ _ _ _ (start-pos m source a p.from) (start-mono m source a b (omega arith) p.from) (mul_comm (to a) (from a) ∙ w ∙ mul_comm (from b) (to b))),
   )
     where
-      u : total end_weight (reach m source a p.from) ≤ total end_weight (reach m source b p.from)
-      u = start-mono m source a b (omega arith) p.from
+      from : ℕ → ℕ
+      from k = start_mass m source k p.from
 
-      v : total end_weight (reach m destination a p.to) ≤ total end_weight (reach m destination b p.to)
-      v = start-mono m destination a b (omega arith) p.to
+      to : ℕ → ℕ
+      to k = start_mass m destination k p.to
 
-      w : total end_weight (reach m source a p.from) * total end_weight (reach m destination a p.to) ≡ total end_weight (reach m source b p.from) * total end_weight (reach m destination b p.to)
+      w : from a * to a ≡ from b * to b
       w = omega (arith, e)
 
   x-tight : (a b : ℕ) → a < b → (x : ℕ) → x < x_count m → x_mass a x ≡ x_mass b x → All (PairWhole m a) (pairs m x)
   x-tight a b h x lx e =
-      all_map (λ p. p_mass a p ≡ p_mass b p) (PairWhole m a) (pair-tight a b h) (pairs m x)
-      (total-tight (p_mass a) (p_mass b) (pairs m x) (all-of _ (p_mass-mono a b (omega arith)) (pairs m x)) (sym (mass-pairs a x lx) ∙ e ∙ mass-pairs b x lx))
+      all_map (λ p. pair_mass m a p ≡ pair_mass m b p) (PairWhole m a) (pair-tight a b h) (pairs m x)
+      (total-tight (pair_mass m a) (pair_mass m b) (pairs m x) (all-of _ (pair_mass-mono a b (omega arith)) (pairs m x)) (sym (mass-pairs a x lx) ∙ e ∙ mass-pairs b x lx))
 
   -- ⇒: of the rows only the sum of their paths' weights is used
   mass-tight : (a b : ℕ) → a < b → mass a ≡ mass b → NoFurther a m

@@ -1,7 +1,7 @@
 -- Laws of the entries of lists: of mapped, joined and cut ones, where a member stands, and lists of entries that all differ. Assumes nothing.
 use mathlib.Core.Logic.{◌⊎◌, inl, inr}
-use mathlib.Core.Path.{◌≡◌, refl, sym, ap, ◌∙◌}
-use mathlib.Core.List.{List, [], ◌∷◌, ◌++◌, map}
+use mathlib.Core.Path.{◌≡◌, refl, sym, ap, subst, ◌∙◌}
+use mathlib.Core.List.{List, [], ◌∷◌, ◌++◌, map, map-append}
 use Prim.Native.Nat.{ℕ, zero, suc, ◌<◌}
 use native.Mathlib.Omega.{arith}
 use lib.ListN.{length, get_or, take}
@@ -12,22 +12,9 @@ use Rattle.as5506.proofs.Sorted.{Ordered}
 
 -- ---- what a function gives for each entry
 
-pub map-map : {A B C : Type 0} (f : B → C) (g : A → B) (xs : List A) → map f (map g xs) ≡ map (λ x. f (g x)) xs
-map-map f g [] = refl
-map-map f g (x ∷ xs) = ap (λ r. f (g x) ∷ r) (map-map f g xs)
-
-map-append : {A B : Type 0} (f : A → B) (xs ys : List A) → map f (xs ++ ys) ≡ map f xs ++ map f ys
-map-append f [] ys = refl
-map-append f (x ∷ xs) ys = ap (λ r. f x ∷ r) (map-append f xs ys)
-
 pub map_each : {A B C : Type 0} (f : B → C) (g : A → List B) (xs : List A) → map f (each g xs) ≡ each (λ x. map f (g x)) xs
 map_each f g [] = refl
 map_each f g (x ∷ xs) = map-append f (g x) (each g xs) ∙ ap (λ r. map f (g x) ++ r) (map_each f g xs)
-
-pub get_d_map : {A B : Type 0} (f : A → B) (xs : List A) (d : A) (z : B) (j : ℕ) → j < length xs → get_or (map f xs) j z ≡ f (get_or xs j d)
-get_d_map f [] d z j h = absurd (omega arith)
-get_d_map f (x ∷ xs) d z zero h = refl
-get_d_map f (x ∷ xs) d z (suc j) h = get_d_map f xs d z j (omega arith)
 
 -- ---- members
 
@@ -54,25 +41,17 @@ map-in f a [] h = absurd h
 map-in f a (x ∷ xs) (inl e) = inl (ap f e)
 map-in f a (x ∷ xs) (inr h) = inr (map-in f a xs h)
 
+pub each-in : {A B : Type 0} (f : A → List B) (a : A) (xs : List A) (b : B) → In a xs → In b (f a) → In b (each f xs)
+each-in f a [] b h i = absurd h
+each-in f a (x ∷ xs) b (inl e) i = append-in b (f x) (each f xs) (inl (subst (λ z. In b (f z)) e i))
+each-in f a (x ∷ xs) b (inr h) i = append-in b (f x) (each f xs) (inr (each-in f a xs b h i))
+
 -- ---- the front of a list
 
-pub take_in : {A : Type 0} (n : ℕ) (xs : List A) (a : A) → In a (take n xs) → In a xs
-take_in zero xs a h = absurd h
-take_in (suc n) [] a h = absurd h
-take_in (suc n) (x ∷ xs) a (inl e) = inl e
-take_in (suc n) (x ∷ xs) a (inr h) = inr (take_in n xs a h)
-
-pub get_or-taken : (n : ℕ) (xs : List (List ℕ)) (k : ℕ) → k < length (take n xs) → get_or (take n xs) k [] ≡ get_or xs k []
-get_or-taken zero xs k h = absurd (omega arith)
-get_or-taken (suc n) [] k h = absurd (omega arith)
-get_or-taken (suc n) (x ∷ xs) zero h = refl
-get_or-taken (suc n) (x ∷ xs) (suc k) h = get_or-taken n xs k (omega arith)
-
-pub taken-within : (n : ℕ) (xs : List (List ℕ)) (k : ℕ) → k < length (take n xs) → k < length xs
-taken-within zero xs k h = absurd (omega arith)
-taken-within (suc n) [] k h = absurd (omega arith)
-taken-within (suc n) (x ∷ xs) zero h = omega arith
-taken-within (suc n) (x ∷ xs) (suc k) h = omega (arith, taken-within n xs k (omega arith))
+pub all-take : {A : Type 0} (P : A → Type 0) (n : ℕ) (xs : List A) → All P xs → All P (take n xs)
+all-take P zero xs t = tt
+all-take P (suc n) [] t = tt
+all-take P (suc n) (x ∷ xs) t = (t.0, all-take P n xs t.1)
 
 -- ---- entries that all differ
 
@@ -90,12 +69,7 @@ ordered-map R S f h (x ∷ xs) o = (all-mapped (R x) (S (f x)) f (h x) xs o.0, o
 pub ordered-take : {A : Type 0} (R : A → A → Type 0) (n : ℕ) (xs : List A) → Ordered R xs → Ordered R (take n xs)
 ordered-take R zero xs o = tt
 ordered-take R (suc n) [] o = tt
-ordered-take R (suc n) (x ∷ xs) o = (front n xs o.0, ordered-take R n xs o.1)
-  where
-    front : (n : ℕ) (ys : List _) → All (R x) ys → All (R x) (take n ys)
-    front zero ys t = tt
-    front (suc n) [] t = tt
-    front (suc n) (y ∷ ys) t = (t.0, front n ys t.1)
+ordered-take R (suc n) (x ∷ xs) o = (all-take (R x) n xs o.0, ordered-take R n xs o.1)
 
 -- entry i stands nowhere among the first i of a list of different entries
 pub not-before : {A : Type 0} (xs : List A) (d : A) (i : ℕ) → Ordered Apart xs → i < length xs → In (get_or xs i d) (take i xs) → ⊥

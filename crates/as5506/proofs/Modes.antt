@@ -3,24 +3,26 @@
 use mathlib.Core.Bool.{Bool, true, false, not, ◌||◌}
 use mathlib.Core.Logic.{◌↔◌, ◌⊎◌, inl, inr}
 use mathlib.Core.Path.{◌≡◌, refl, sym, ap, ap₂, ◌∙◌, subst}
-use mathlib.Core.List.{List, [], ◌∷◌, ◌++◌, map, append_assoc, append-nil}
+use mathlib.Core.List.{List, [], ◌∷◌, ◌++◌, map, append_assoc, append-nil, map-id, map-map}
 use Prim.Native.Nat.{ℕ, zero, suc, ◌+◌, ◌*◌, ◌/◌, ◌%◌, ◌≤◌, ◌<◌}
 use native.Mathlib.Nat.{le_refl, mul_assoc, mul-one, mul-zero, one-mul, mul_comm, mul-le-mul_left, mul-lt-mul_of_pos_left, div-add-mod, mod-lt, div-lt_iff_lt-mul}
 use native.Mathlib.Omega.{arith}
-use lib.Dec.{T, eqb, ltb, ltb→lt, nltb→le, eqb_refl}
-use lib.ListN.{length, get_or, take, drop, length-map}
-use lib.Seq.{length-take-le, take_all}
+use borrow.Author.Tests.{ltb-true, ltb-false, le-ltb, lt-true}
+use lib.Dec.{T, eqb, ltb, ltb→lt, eqb_refl}
+use lib.ListN.{length, get_or, take, drop, length-map, length-take}
+use lib.Seq.{length-take-le, take_all, get_or-take}
+use Rattle.std.proofs.lemmas.List.{get_or-map}
 use Rattle.as5506.specs.Lists.{up_to, keep, is_nil, each}
 use Rattle.as5506.specs.Tables.{Tables, letter_c, letter_m, rows_of, rows_naming, count, c_count, m_owner, modes_of}
 use Rattle.as5506.specs.Followed.{In}
 use Rattle.as5506.specs.Modes.{modal, extended, grown_by, grown, selections_of, combinations, is_cut, selection_limit, selections}
 use Rattle.as5506.specs.Combined.{GivenOnce, NoneWithoutModes, IsCombination, Lacks, CutIfLacking}
 use Rattle.as5506.specs.Digits.{counted_by, counted, pick, ByDigits}
-use Rattle.as5506.proofs.Laws.{All, all-at, row_at, all_map, all-of, all_keep, all_in, in_all, all_append, all-mapped, each_map, each-each, each_same, map_same, even-length}
+use Rattle.as5506.proofs.Laws.{All, all-at, row_at, all_map, all-of, all_keep, all_in, in_all, all-each, all-mapped, all-mapped-of, each_map, each-each, even-length}
 use Rattle.as5506.specs.Refusals.{accepted}
 use Rattle.as5506.proofs.Accepted.{mode-owner}
-use Rattle.as5506.proofs.Sorted.{in_kept, in-up_to, Ordered, ordered-with, ordered-keep, up_to-ordered}
-use Rattle.as5506.proofs.Members.{map-map, map_each, get_d_map, append-in, map-in, take_in, get_or-taken, taken-within, Apart, ordered-append, ordered-map, ordered-take, not-before, two-places}
+use Rattle.as5506.proofs.Sorted.{in_kept, in-up_to, Ordered, ordered-weaker, ordered-keep, up_to-ordered}
+use Rattle.as5506.proofs.Members.{map_each, map-in, each-in, all-take, Apart, ordered-append, ordered-map, ordered-take, not-before, two-places}
 
 -- ---- all combinations, the first component's mode changing slowest
 
@@ -48,18 +50,13 @@ joins-nil (s ∷ so) = ap₂ ◌∷◌ (append-nil s) (joins-nil so)
 joins-step : (so : List (List ℕ)) (ms : List ℕ) (c : List (List ℕ)) → joins so (combos (ms ∷ c)) ≡ joins (extended so ms) (combos c)
 unfolding combos
 joins-step so ms c =
-    each_same (λ s. map (λ t. s ++ t) (each (λ x. map (λ t. x ∷ t) (combos c)) ms)) (λ s. joins (map (λ x. s ++ (x ∷ [])) ms) (combos c)) so
-    (all-of (λ s. map (λ t. s ++ t) (each (λ x. map (λ t. x ∷ t) (combos c)) ms) ≡ joins (map (λ x. s ++ (x ∷ [])) ms) (combos c)) one so)
+    (λ i. each (λ s. one s i) so)
     ∙ sym (each-each (λ s. map (λ t. s ++ t) (combos c)) (λ s. map (λ x. s ++ (x ∷ [])) ms) so)
   where
     one : (s : List ℕ) → map (λ t. s ++ t) (each (λ x. map (λ t. x ∷ t) (combos c)) ms) ≡ joins (map (λ x. s ++ (x ∷ [])) ms) (combos c)
     one s =
         map_each (λ t. s ++ t) (λ x. map (λ t. x ∷ t) (combos c)) ms
-        ∙ each_same (λ x. map (λ t. s ++ t) (map (λ t. x ∷ t) (combos c))) (λ x. map (λ t. (s ++ (x ∷ [])) ++ t) (combos c)) ms
-        (all-of (λ x. map (λ t. s ++ t) (map (λ t. x ∷ t) (combos c)) ≡ map (λ t. (s ++ (x ∷ [])) ++ t) (combos c))
-        (λ x. map-map (λ t. s ++ t) (λ t. x ∷ t) (combos c)
-        ∙ map_same (λ t. s ++ (x ∷ t)) (λ t. (s ++ (x ∷ [])) ++ t) (combos c)
-        (all-of (λ t. s ++ (x ∷ t) ≡ (s ++ (x ∷ [])) ++ t) (λ t. sym (append_assoc s (x ∷ []) t)) (combos c))) ms)
+        ∙ (λ i. each (λ x. (map-map (λ t. s ++ t) (λ t. x ∷ t) (combos c) ∙ (λ j. map (λ t. sym (append_assoc s (x ∷ []) t) j) (combos c))) i) ms)
         ∙ sym (each_map (λ s. map (λ t. s ++ t) (combos c)) (λ x. s ++ (x ∷ [])) ms)
 
 extended-length : (so : List (List ℕ)) (ms : List ℕ) → length (extended so ms) ≡ length so * length ms
@@ -83,7 +80,7 @@ module _ (limit : ℕ) where
       by true q later = rw (sym (ap (ltb limit) e) ∙ q) (sym (ap (take limit) (joins-nil (extended so ms))))
       by false q later =
           rw (sym (ap (ltb limit) e) ∙ q)
-          (later (nltb→le limit (length (extended so ms)) (subst (λ (b : Bool). T (not b)) (sym q) tt))
+          (later (ltb-false limit (length (extended so ms)) q)
           ∙ ap (λ (n : ℕ). take limit (joins (extended so ms) (combos (counted limit n rest)))) e)
 
   -- THE SELECTIONS ARE THE FIRST COMBINATIONS of the components that count
@@ -91,12 +88,8 @@ module _ (limit : ℕ) where
   unfolding selections_of
   selections-are ms rest h = grown-is ([] ∷ []) (ms ∷ rest) h ∙ ap (take limit) (alone (combos (counted limit 1 (ms ∷ rest))))
     where
-      same : (cs : List (List ℕ)) → map (λ t. [] ++ t) cs ≡ cs
-      same [] = refl
-      same (c ∷ cs) = ap (λ (r : List (List ℕ)). c ∷ r) (same cs)
-
       alone : (cs : List (List ℕ)) → joins ([] ∷ []) cs ≡ cs
-      alone cs = append-nil (map (λ t. [] ++ t) cs) ∙ same cs
+      alone cs = append-nil (map (λ t. t) cs) ∙ map-id cs
 
 -- ---- which components count
 
@@ -113,17 +106,13 @@ module _ (limit : ℕ) where
   all-count : (n : ℕ) (ls : List (List ℕ)) → All Full ls → n * combinations ls ≤ limit → counted limit n ls ≡ ls
   unfolding counted combinations
   all-count n [] t h = refl
-  all-count n (ms ∷ rest) t h = ap (λ (r : List (List ℕ)). ms ∷ r) (by (ltb limit (n * length ms)) refl (all-count (n * length ms) rest t.1 whole))
+  all-count n (ms ∷ rest) t h = rw (le-ltb limit (n * length ms) small) (ap (λ (r : List (List ℕ)). ms ∷ r) (all-count (n * length ms) rest t.1 whole))
     where
       whole : n * length ms * combinations rest ≤ limit
       whole = subst (λ (k : ℕ). k ≤ limit) (sym (mul_assoc n (length ms) (combinations rest))) h
 
       small : n * length ms ≤ limit
       small = omega (arith, whole, mul-le-mul_left (n * length ms) (some-combination rest t.1), mul-one (n * length ms))
-
-      by : (b : Bool) → ltb limit (n * length ms) ≡ b → counted limit (n * length ms) rest ≡ rest → counted_by b (counted limit (n * length ms) rest) ≡ rest
-      by true q e = absurd (omega (arith, small, ltb→lt limit (n * length ms) (subst T (sym q) tt)))
-      by false q e = e
 
   -- so many that the limit is passed, where all combinations pass it
   still-over : (n : ℕ) (ls : List (List ℕ)) → n ≤ limit → limit < n * combinations ls → limit < n * combinations (counted limit n ls)
@@ -134,11 +123,11 @@ module _ (limit : ℕ) where
       by : (b : Bool) → ltb limit (n * length ms) ≡ b → (n * length ms ≤ limit → limit < n * length ms * combinations rest → limit < n * length ms * combinations (counted limit (n * length ms) rest))
           → limit < n * (length ms * combinations (counted_by b (counted limit (n * length ms) rest)))
       by true q later =
-          let o = ltb→lt limit (n * length ms) (subst T (sym q) tt) in
+          let o = ltb-true limit (n * length ms) q in
           subst (λ (k : ℕ). limit < n * k) (sym (mul-one (length ms))) o
       by false q later =
           subst (λ (k : ℕ). limit < k) (mul_assoc n (length ms) (combinations (counted limit (n * length ms) rest)))
-          (later (nltb→le limit (n * length ms) (subst (λ (b : Bool). T (not b)) (sym q) tt)) (subst (λ (k : ℕ). limit < k) (sym (mul_assoc n (length ms) (combinations rest))) h))
+          (later (ltb-false limit (n * length ms) q) (subst (λ (k : ℕ). limit < k) (sym (mul_assoc n (length ms) (combinations rest))) h))
 
   -- all of them, or fewer
   all-or-fewer : (n : ℕ) (ls : List (List ℕ)) → (counted limit n ls ≡ ls) ⊎ (length (counted limit n ls) < length ls)
@@ -173,18 +162,17 @@ combos-apart [] t = (tt, tt)
 combos-apart (ms ∷ rest) t = across ms t.0 (combos-apart rest t.1)
   where
     led : (x y : ℕ) → Apart x y → (cs : List (List ℕ)) (s : List ℕ) → All (λ r. Apart (x ∷ s) r) (map (λ t. y ∷ t) cs)
-    led x y h cs s = all-mapped (λ r. Unit {0}) (λ r. Apart (x ∷ s) r) (λ t. y ∷ t) (λ t u e. h (ap (λ (l : List ℕ). get_or l 0 0) e)) cs (all-of (λ r. Unit {0}) (λ r. tt) cs)
+    led x y h cs s = all-mapped-of (λ r. Apart (x ∷ s) r) (λ t. y ∷ t) (λ t e. h (ap (λ (l : List ℕ). get_or l 0 0) e)) cs
 
     later : (x : ℕ) (s : List ℕ) (cs : List (List ℕ)) (ys : List ℕ) → All (Apart x) ys → All (λ r. Apart (x ∷ s) r) (each (λ y. map (λ t. y ∷ t) cs) ys)
-    later x s cs [] a = tt
-    later x s cs (y ∷ ys) a = all_append (λ r. Apart (x ∷ s) r) (map (λ t. y ∷ t) cs) (each (λ y. map (λ t. y ∷ t) cs) ys) (led x y a.0 cs s) (later x s cs ys a.1)
+    later x s cs ys a = all-each (Apart x) (λ r. Apart (x ∷ s) r) (λ y. map (λ t. y ∷ t) cs) (λ y h. led x y h cs s) ys a
 
     across : (xs : List ℕ) → Ordered Apart xs → Ordered Apart (combos rest) → Ordered Apart (each (λ x. map (λ s. x ∷ s) (combos rest)) xs)
     across [] o c = tt
     across (x ∷ xs) o c =
         ordered-append Apart (map (λ s. x ∷ s) (combos rest)) (each (λ x. map (λ s. x ∷ s) (combos rest)) xs)
         (ordered-map Apart Apart (λ s. x ∷ s) (λ a b h e. h (ap (drop 1) e)) (combos rest) c) (across xs o.1 c)
-        (all-mapped (λ s. Unit {0}) (λ r. All (Apart r) (each (λ x. map (λ s. x ∷ s) (combos rest)) xs)) (λ s. x ∷ s) (λ s u. later x s (combos rest) xs o.0) (combos rest) (all-of (λ s. Unit {0}) (λ s. tt) (combos rest)))
+        (all-mapped-of (λ r. All (Apart r) (each (λ x. map (λ s. x ∷ s) (combos rest)) xs)) (λ s. x ∷ s) (λ s. later x s (combos rest) xs o.0) (combos rest))
 
 -- ---- combinations
 
@@ -194,26 +182,15 @@ unfolding combos
 combination-in [] [] c = inl refl
 combination-in [] (x ∷ s) c = absurd c
 combination-in (ms ∷ rest) [] c = absurd c
-combination-in (ms ∷ rest) (x ∷ s) c = among ms c.0 (combination-in rest s c.1)
-  where
-    among : (ys : List ℕ) → In x ys → In s (combos rest) → In (x ∷ s) (each (λ y. map (λ t. y ∷ t) (combos rest)) ys)
-    among [] h i = absurd h
-    among (y ∷ ys) (inl e) i =
-        append-in (x ∷ s) (map (λ t. y ∷ t) (combos rest)) (each (λ y. map (λ t. y ∷ t) (combos rest)) ys)
-        (inl (subst (λ (z : ℕ). In (x ∷ s) (map (λ t. z ∷ t) (combos rest))) e (map-in (λ t. x ∷ t) s (combos rest) i)))
-    among (y ∷ ys) (inr h) i = append-in (x ∷ s) (map (λ t. y ∷ t) (combos rest)) (each (λ y. map (λ t. y ∷ t) (combos rest)) ys) (inr (among ys h i))
+combination-in (ms ∷ rest) (x ∷ s) c = each-in (λ y. map (λ t. y ∷ t) (combos rest)) x ms (x ∷ s) c.0 (map-in (λ t. x ∷ t) s (combos rest) (combination-in rest s c.1))
 
 -- and nothing else
 pub combos-all : (ls : List (List ℕ)) → All (IsCombination ls) (combos ls)
 unfolding combos
 combos-all [] = (tt, tt)
-combos-all (ms ∷ rest) = among ms (λ x i. i) (combos-all rest)
-  where
-    among : (ys : List ℕ) → ((x : ℕ) → In x ys → In x ms) → All (IsCombination rest) (combos rest) → All (IsCombination (ms ∷ rest)) (each (λ y. map (λ t. y ∷ t) (combos rest)) ys)
-    among [] h c = tt
-    among (y ∷ ys) h c =
-        all_append (IsCombination (ms ∷ rest)) (map (λ t. y ∷ t) (combos rest)) (each (λ y. map (λ t. y ∷ t) (combos rest)) ys)
-        (all-mapped (IsCombination rest) (IsCombination (ms ∷ rest)) (λ t. y ∷ t) (λ t i. (h y (inl refl), i)) (combos rest) c) (among ys (λ x i. h x (inr i)) c)
+combos-all (ms ∷ rest) =
+    all-each (λ y. In y ms) (IsCombination (ms ∷ rest)) (λ y. map (λ t. y ∷ t) (combos rest))
+    (λ y h. all-mapped (IsCombination rest) (IsCombination (ms ∷ rest)) (λ t. y ∷ t) (λ t i. (h, i)) (combos rest) (combos-all rest)) ms (in_all (λ y. In y ms) ms (λ y h. h))
 
 combination-length : (ls : List (List ℕ)) (s : List ℕ) → IsCombination ls s → length s ≡ length ls
 combination-length [] [] c = refl
@@ -241,9 +218,7 @@ module _ (limit : ℕ) (pos : 1 ≤ limit) (ms : List ℕ) (rest : List (List �
   -- a selection has one mode of each component that counts
   pub each-combination : All (IsCombination (counted limit 1 ls)) (selections_of limit ls)
   each-combination =
-      rw (selections-are limit ms rest pos)
-      (in_all (IsCombination (counted limit 1 ls)) (take limit (combos (counted limit 1 ls)))
-      (λ s h. all_in (IsCombination (counted limit 1 ls)) (combos (counted limit 1 ls)) (combos-all (counted limit 1 ls)) s (take_in limit (combos (counted limit 1 ls)) s h)))
+      rw (selections-are limit ms rest pos) (all-take (IsCombination (counted limit 1 ls)) limit (combos (counted limit 1 ls)) (combos-all (counted limit 1 ls)))
 
   -- not cut: all combinations
   pub all-given : combinations ls ≤ limit → selections_of limit ls ≡ combos ls
@@ -282,7 +257,7 @@ module _ (limit : ℕ) (pos : 1 ≤ limit) (ms : List ℕ) (rest : List (List �
       by true e k = tt
       by false e k =
           k.2
-          (subst (λ (l : List (List ℕ)). In k.0 l) (sym (all-given (nltb→le limit (combinations ls) (subst (λ (b : Bool). T (not b)) (sym e) tt)))) (combination-in ls k.0 k.1))
+          (subst (λ (l : List (List ℕ)). In k.0 l) (sym (all-given (ltb-false limit (combinations ls) e))) (combination-in ls k.0 k.1))
 
   -- how many there are
   pub number-whole : combinations ls ≤ limit → length (selections_of limit ls) ≡ combinations ls
@@ -301,7 +276,7 @@ combos-at (ms ∷ rest) t k h =
     ap (λ (n : ℕ). get_or (each (λ x. map (λ s. x ∷ s) (combos rest)) ms) n []) split
     ∙ row_at w (λ x. map (λ s. x ∷ s) (combos rest)) ms
     (all-of (λ x. length (map (λ s. x ∷ s) (combos rest)) ≡ w) (λ x. length-map (combos rest) (λ s. x ∷ s) ∙ combos-length rest) ms) 0 [] (k / w) (k % w) ((div-lt_iff_lt-mul pos).1 h) (mod-lt k pos)
-    ∙ get_d_map (λ s. get_or ms (k / w) 0 ∷ s) (combos rest) [] [] (k % w) (subst (λ (n : ℕ). k % w < n) (sym (combos-length rest)) (mod-lt k pos))
+    ∙ get_or-map (λ s. get_or ms (k / w) 0 ∷ s) (combos rest) (k % w) [] [] (subst (λ (n : ℕ). k % w < n) (sym (combos-length rest)) (mod-lt k pos))
     ∙ ap (λ (r : List ℕ). get_or ms (k / w) 0 ∷ r) (combos-at rest t.1 (k % w) (mod-lt k pos))
   where
     w : ℕ
@@ -321,31 +296,23 @@ passes limit n (ms ∷ rest) = ltb limit (n * length ms) || passes limit (n * le
 module _ (limit : ℕ) where
   pub passes-is : (n : ℕ) (ls : List (List ℕ)) → All Full ls → n ≤ limit → passes limit n ls ≡ ltb limit (n * combinations ls)
   unfolding passes combinations
-  passes-is n [] t h = sym (not-over (ltb limit (n * 1)) refl)
-    where
-      not-over : (b : Bool) → ltb limit (n * 1) ≡ b → b ≡ false
-      not-over true e = absurd (omega (arith, h, mul-one n, ltb→lt limit (n * 1) (subst T (sym e) tt)))
-      not-over false e = refl
+  passes-is n [] t h = sym (le-ltb limit (n * 1) (omega (arith, h, mul-one n)))
   passes-is n (ms ∷ rest) t h = by (ltb limit (n * length ms)) refl (passes-is (n * length ms) rest t.1) ∙ ap (ltb limit) (mul_assoc n (length ms) (combinations rest))
     where
       more : n * length ms ≤ n * length ms * combinations rest
       more = omega (arith, mul-le-mul_left (n * length ms) (some-combination rest t.1), mul-one (n * length ms))
 
-      over-still : (b : Bool) → ltb limit (n * length ms * combinations rest) ≡ b → limit < n * length ms → true ≡ b
-      over-still true e o = refl
-      over-still false e o = absurd (omega (arith, more, o, nltb→le limit (n * length ms * combinations rest) (subst (λ (b : Bool). T (not b)) (sym e) tt)))
-
       by : (b : Bool) → ltb limit (n * length ms) ≡ b → (n * length ms ≤ limit → passes limit (n * length ms) rest ≡ ltb limit (n * length ms * combinations rest))
           → b || passes limit (n * length ms) rest ≡ ltb limit (n * length ms * combinations rest)
-      by true e later = over-still (ltb limit (n * length ms * combinations rest)) refl (ltb→lt limit (n * length ms) (subst T (sym e) tt))
-      by false e later = later (nltb→le limit (n * length ms) (subst (λ (b : Bool). T (not b)) (sym e) tt))
+      by true e later = lt-true limit (n * length ms * combinations rest) (omega (arith, more, ltb-true limit (n * length ms) e))
+      by false e later = later (ltb-false limit (n * length ms) e)
 
 -- ---- the selections of a model
 
 modes-apart : (m : Tables) (c : ℕ) → Ordered Apart (modes_of m c)
 unfolding rows_naming
 modes-apart m c =
-    ordered-with (λ i. Unit {0}) ◌<◌ Apart (λ i j u v h e. omega (arith, h, e)) (modes_of m c) (all-of (λ i. Unit {0}) (λ i. tt) (modes_of m c))
+    ordered-weaker ◌<◌ Apart (λ i j h e. omega (arith, h, e)) (modes_of m c)
     (ordered-keep ◌<◌ (λ i. eqb (m_owner m i) c) (up_to (count m letter_m)) (up_to-ordered (count m letter_m)))
 
 not-nil : (ms : List ℕ) → T (not (is_nil ms)) → Full ms
@@ -356,7 +323,7 @@ modal-good : (m : Tables) → All (λ ms. Full ms × Ordered Apart ms) (modal m)
 unfolding modal
 modal-good m =
     all_keep (Ordered Apart) (λ ms. Full ms × Ordered Apart ms) (λ ms. not (is_nil ms)) (λ ms t o. (not-nil ms t, o)) (map (modes_of m) (rows_of m letter_c))
-    (all-mapped (λ c. Unit {0}) (Ordered Apart) (modes_of m) (λ c u. modes-apart m c) (rows_of m letter_c) (all-of (λ c. Unit {0}) (λ c. tt) (rows_of m letter_c)))
+    (all-mapped-of (Ordered Apart) (modes_of m) (modes-apart m) (rows_of m letter_c))
 
 modal-full : (m : Tables) → All Full (modal m)
 modal-full m = all_map (λ ms. Full ms × Ordered Apart ms) Full (λ ms h. h.0) (modal m) (modal-good m)
@@ -367,14 +334,18 @@ modal-apart m = all_map (λ ms. Full ms × Ordered Apart ms) (Ordered Apart) (λ
 limit-some : 1 ≤ selection_limit
 limit-some = omega arith
 
+-- what holds of no component, and of some whose modes differ, each with some, holds of those of a model
+of-modal : (m : Tables) (P : List (List ℕ) → Type 0) → P [] → ((ms : List ℕ) (rest : List (List ℕ)) → All Full (ms ∷ rest) → All (Ordered Apart) (ms ∷ rest) → P (ms ∷ rest)) → P (modal m)
+of-modal m P none some = go (modal m) (modal-full m) (modal-apart m)
+  where
+    go : (ls : List (List ℕ)) → All Full ls → All (Ordered Apart) ls → P ls
+    go [] f a = none
+    go (ms ∷ rest) f a = some ms rest f a
+
 -- "None is given twice": of two numbers two selections, as M rows
 pub given-once : (m : Tables) → GivenOnce m
 unfolding selections selections_of
-given-once m i j h l = two-places (selections m) [] i j (all (modal m) (modal-full m) (modal-apart m)) h l
-  where
-    all : (ls : List (List ℕ)) → All Full ls → All (Ordered Apart) ls → Ordered Apart (selections_of selection_limit ls)
-    all [] f a = tt
-    all (ms ∷ rest) f a = none-twice selection_limit limit-some ms rest f a
+given-once m i j h l = two-places (selections m) [] i j (of-modal m (λ ls. Ordered Apart (selections_of selection_limit ls)) tt (none-twice selection_limit limit-some)) h l
 
 -- ---- modal is none exactly where there is no M row
 
@@ -385,8 +356,7 @@ none_kept (x ∷ xs) t = rw t.0 (none_kept xs t.1)
 pub no_rows : (m : Tables) → count m letter_m ≡ 0 → T (is_nil (modal m))
 unfolding modal rows_naming
 no_rows m e =
-    none_kept (map (modes_of m) (rows_of m letter_c))
-    (all-mapped (λ c. Unit {0}) (λ ms. ms ≡ []) (modes_of m) (λ c u. rw e) (rows_of m letter_c) (all-of (λ c. Unit {0}) (λ c. tt) (rows_of m letter_c)))
+    none_kept (map (modes_of m) (rows_of m letter_c)) (all-mapped-of (λ ms. ms ≡ []) (modes_of m) (λ c. rw e) (rows_of m letter_c))
 
 pub some-rows : (m : Tables) → T (accepted m) → 0 < count m letter_m → T (not (is_nil (modal m)))
 unfolding modal rows_naming
@@ -412,28 +382,22 @@ no-modes m t = none (modal m) t
 -- "else cut is said exactly if some combination of all components with modes is lacking"
 pub cut-said : (m : Tables) → T (not (is_nil (modal m))) → T (is_cut selection_limit (modal m)) ↔ Lacks (modal m) (selections m)
 unfolding selections
-cut-said m t = said (modal m) (modal-full m) (modal-apart m) t
-  where
-    said : (ls : List (List ℕ)) → All Full ls → All (Ordered Apart) ls → T (not (is_nil ls)) → T (is_cut selection_limit ls) ↔ Lacks ls (selections_of selection_limit ls)
-    said [] f a t = absurd t
-    said (ms ∷ rest) f a t = cut-exactly selection_limit limit-some ms rest f a
+cut-said m =
+    of-modal m (λ ls. T (not (is_nil ls)) → T (is_cut selection_limit ls) ↔ Lacks ls (selections_of selection_limit ls)) (λ t. absurd t)
+    (λ ms rest f a t. cut-exactly selection_limit limit-some ms rest f a)
 
 -- how many there are
 pub number-some : (m : Tables) → T (not (is_nil (modal m))) → combinations (modal m) ≤ selection_limit → length (selections m) ≡ combinations (modal m)
 unfolding selections
-number-some m t = some (modal m) (modal-full m) (modal-apart m) t
-  where
-    some : (ls : List (List ℕ)) → All Full ls → All (Ordered Apart) ls → T (not (is_nil ls)) → combinations ls ≤ selection_limit → length (selections_of selection_limit ls) ≡ combinations ls
-    some [] f a t = absurd t
-    some (ms ∷ rest) f a t = number-whole selection_limit limit-some ms rest f a
+number-some m =
+    of-modal m (λ ls. T (not (is_nil ls)) → combinations ls ≤ selection_limit → length (selections_of selection_limit ls) ≡ combinations ls) (λ t. absurd t)
+    (λ ms rest f a t. number-whole selection_limit limit-some ms rest f a)
 
 pub number-over : (m : Tables) → T (not (is_nil (modal m))) → selection_limit < combinations (modal m) → length (selections m) ≡ selection_limit
 unfolding selections
-number-over m t = over (modal m) (modal-full m) (modal-apart m) t
-  where
-    over : (ls : List (List ℕ)) → All Full ls → All (Ordered Apart) ls → T (not (is_nil ls)) → selection_limit < combinations ls → length (selections_of selection_limit ls) ≡ selection_limit
-    over [] f a t = absurd t
-    over (ms ∷ rest) f a t = number_cut selection_limit limit-some ms rest f a
+number-over m =
+    of-modal m (λ ls. T (not (is_nil ls)) → selection_limit < combinations ls → length (selections_of selection_limit ls) ≡ selection_limit) (λ t. absurd t)
+    (λ ms rest f a t. number_cut selection_limit limit-some ms rest f a)
 
 pub none-without-modes : (m : Tables) → NoneWithoutModes m
 none-without-modes m e = no-modes m (no_rows m e)
@@ -444,13 +408,14 @@ cut-if-lacking m ok h = cut-said m (some-rows m ok h)
 -- the selection at a number
 pub by_digits : (m : Tables) → ByDigits m
 unfolding selections selections_of
-by_digits m k h = at (modal m) (modal-full m) h
+by_digits m k h = of-modal m (λ ls. k < length (selections_of selection_limit ls) → get_or (selections_of selection_limit ls) k [] ≡ pick (counted selection_limit 1 ls) k) (λ l. absurd (omega arith)) at h
   where
-    at : (ls : List (List ℕ)) → All Full ls → k < length (selections_of selection_limit ls) → get_or (selections_of selection_limit ls) k [] ≡ pick (counted selection_limit 1 ls) k
-    at [] f l = absurd (omega arith)
-    at (ms ∷ rest) f l =
+    at : (ms : List ℕ) (rest : List (List ℕ)) → All Full (ms ∷ rest) → All (Ordered Apart) (ms ∷ rest) → k < length (selections_of selection_limit (ms ∷ rest))
+        → get_or (selections_of selection_limit (ms ∷ rest)) k [] ≡ pick (counted selection_limit 1 (ms ∷ rest)) k
+    at ms rest f a l =
+        let cs = counted selection_limit 1 (ms ∷ rest) in
         let e = selections-are selection_limit ms rest limit-some in
-        let n : k < length (take selection_limit (combos (counted selection_limit 1 (ms ∷ rest)))) = subst (λ (x : List (List ℕ)). k < length x) e l in
-        ap (λ (x : List (List ℕ)). get_or x k []) e ∙ get_or-taken selection_limit (combos (counted selection_limit 1 (ms ∷ rest))) k n
-        ∙ combos-at (counted selection_limit 1 (ms ∷ rest)) (counted-all selection_limit Full 1 (ms ∷ rest) f) k
-        (subst (λ (x : ℕ). k < x) (combos-length (counted selection_limit 1 (ms ∷ rest))) (taken-within selection_limit (combos (counted selection_limit 1 (ms ∷ rest))) k n))
+        let n : k < length (take selection_limit (combos cs)) = subst (λ (x : List (List ℕ)). k < length x) e l in
+        ap (λ (x : List (List ℕ)). get_or x k []) e
+        ∙ get_or-take selection_limit (combos cs) k [] (omega (arith, n, length-take selection_limit (combos cs)))
+        ∙ combos-at cs (counted-all selection_limit Full 1 (ms ∷ rest) f) k (omega (arith, n, length-take selection_limit (combos cs), combos-length cs))

@@ -2,7 +2,6 @@
 use mathlib.Core.Bool.{Bool, true, false, not, ◌&&◌, ◌||◌}
 use mathlib.Core.Path.{◌≡◌, refl, sym, ap, ap₂, ◌∙◌, subst}
 use mathlib.Core.List.{List, [], ◌∷◌, ◌++◌, map, append_assoc}
-use mathlib.Core.Option.{Option, none, some}
 use Prim.Native.Nat.{ℕ, suc, ◌+◌, ◌*◌, ◌<◌}
 use native.Mathlib.Nat.{mod-eq_of_lt, div-eq_of_lt, le_trans, le-div_iff_mul-le}
 use native.Mathlib.Omega.{arith}
@@ -10,15 +9,16 @@ use borrow.Author.Tests.{ne_eqb, eq-eqb, eqb-true, eqb-false}
 use lib.Dec.{T, eqb, leb, eqb→eq, leb→le, le→leb}
 use lib.ListN.{length, get_or, take, drop, replicate, length-append, length-map, length-drop, take-append-drop}
 use lib.Seq.{length-take-le}
-use Rattle.as5506.specs.Lists.{put_if, keep, when, is_nil, total}
+use Rattle.std.specs.Prelude.{Option, None, Some}
+use Rattle.as5506.specs.Lists.{put_if, when, is_nil, total}
 use Rattle.as5506.specs.Tables.{missing, two_to32, Letter, letter_n, letter_c, width}
-use Rattle.as5506.specs.Columns.{order, letter_byte, name, row_in, anything, Column, needed, optional, long, columns}
+use Rattle.as5506.specs.Columns.{letter_byte, name, row_in, anything, Column, needed, optional, long, columns}
 use Rattle.as5506.specs.Answers.{refusal, line}
 use Rattle.as5506.specs.Fields.{space, Field, value, dash, bad, field_of, fits, number_of, long_numbers, fields_fit, field_numbers}
 use Rattle.as5506.specs.Sheet.{Line, ended, unended, text_of, letter_of, lines_with, line_name, line_row, is_n, rules_by, keeps_rules, Lent, name_bytes, has_place, earlier_than, is_earlier, known_faults, line_faults, faults_from}
 use Rattle.as5506.specs.Before.{is_c, columns_if, columns_before, width_before, has_place_before, known_before, line_faults_before, lines_faults_before, pad_by, padded_line, in_three, NoFewer}
-use Rattle.as5506.proofs.Laws.{All, all_map, all-of, all_keep, map-own, all_first, and_left, and_right, and_both, not-not, nil-left, nil-right, nil-both, nil-when, nil-mapped, mapped-nil}
-use Rattle.as5506.proofs.Letters.{each-letter, width_some}
+use Rattle.as5506.proofs.Laws.{All, all_map, all-passing, map-own, and_left, and_right, and_both, not-not, nil-left, nil-right, nil-both, nil-when, nil-mapped, mapped-nil}
+use Rattle.as5506.proofs.Letters.{each-letter, width_some, letter-byte, byte-letter}
 use Rattle.as5506.proofs.Fields.{Below, small-field, padded-field, numbers-parts, fit_parts}
 use Rattle.as5506.proofs.Widened.{c-or-other}
 
@@ -158,20 +158,6 @@ width-before-some = c-or-other (λ l. 0 < width_before l) (omega arith) (λ l e.
 other_byte : (l : Letter) → is_c l ≡ false → eqb (letter_byte l) (letter_byte letter_c) ≡ false
 other_byte l e = each-letter (λ l. eqb (letter_byte l) (letter_byte letter_c) ≡ is_c l) refl refl refl refl refl refl refl refl refl refl refl refl l ∙ e
 
--- a line begins with the byte of its letter
-letter-byte : (t : List ℕ) (l : Letter) → letter_of t ≡ some l → get_or t 0 0 ≡ letter_byte l
-unfolding letter_of
-letter-byte [] l e = let z : ◌≡◌ {A = ℕ} 0 1 = cc in absurd (omega arith)
-letter-byte (b ∷ bs) l e =
-    sym (eqb→eq (letter_byte l) b
-    (all_first (λ k. T (eqb (letter_byte k) b)) (keep (λ k. eqb (letter_byte k) b) order)
-    (all_keep (λ k. Unit {0}) (λ k. T (eqb (letter_byte k) b)) (λ k. eqb (letter_byte k) b) (λ k t u. t) order (all-of (λ k. Unit {0}) (λ k. tt) order)) l (sym e)))
-
-letter-c : (t : List ℕ) → get_or t 0 0 ≡ letter_byte letter_c → letter_of t ≡ some letter_c
-unfolding letter_of
-letter-c [] e = absurd (omega arith)
-letter-c (b ∷ bs) e = rw e
-
 -- ---- a padded line: it begins as before, and only a C line has changed
 
 begins-by : (c : Bool) (b : ℕ) (bs : List ℕ) → (get_or (pad_by c (b ∷ bs)) 0 0 ≡ b) × (letter_of (pad_by c (b ∷ bs)) ≡ letter_of (b ∷ bs))
@@ -207,8 +193,7 @@ lines-padded l (s ∷ ls) =
 
 lines-begin : (l : Letter) (ls : List (List ℕ)) → All (λ s. get_or s 0 0 ≡ letter_byte l) (lines_with l ls)
 unfolding lines_with
-lines-begin l ls =
-    all_keep (λ s. Unit {0}) (λ s. get_or s 0 0 ≡ letter_byte l) (λ s. eqb (get_or s 0 0) (letter_byte l)) (λ s t u. eqb→eq (get_or s 0 0) (letter_byte l) t) ls (all-of (λ s. Unit {0}) (λ s. tt) ls)
+lines-begin l ls = all-passing (λ s. get_or s 0 0 ≡ letter_byte l) (λ s. eqb (get_or s 0 0) (letter_byte l)) (λ s t. eqb→eq (get_or s 0 0) (letter_byte l) t) ls
 
 pub lines_other : (l : Letter) → is_c l ≡ false → (ls : List (List ℕ)) → lines_with l (map padded_line ls) ≡ lines_with l ls
 lines_other l e ls =
@@ -266,8 +251,8 @@ module _ (was now : Lent) (many : NoFewer was now) where
   none_left false true true false h u = absurd (h tt)
 
   known_kept : (before : List (List ℕ)) (t : List ℕ) (o : Option Letter) → letter_of t ≡ o → T (is_nil (known_before was before t o)) → T (is_nil (known_faults now (map padded_line before) (padded_line t) o))
-  known_kept before t none e u = absurd u
-  known_kept before t (some l) e u =
+  known_kept before t None e u = absurd u
+  known_kept before t (Some l) e u =
       rw (earlier-kept before l, rules-kept t l (letter-byte t l e))
       (none_left (is_earlier before l) (rules_by (is_n l) (columns_before l) t) (has_place_before was before l t) (has_place now (map padded_line before) l (padded_line t)) (place_kept before t l) u)
 
@@ -302,7 +287,7 @@ module _ (lent : Lent) where
       (nil-when (not (rules_c t)) 4
       (nil-right (when (is_earlier before letter_c) 3) (when (not (rules_c t)) 4)
       (nil-left (when (is_earlier before letter_c) 3 ++ when (not (rules_c t)) 4) (when (not (has_place_before lent before letter_c t)) 5)
-      (subst (λ (o : Option Letter). T (is_nil (known_before lent before t o))) (letter-c t h) u))))
+      (subst (λ (o : Option Letter). T (is_nil (known_before lent before t o))) (byte-letter t letter_c h) u))))
 
   -- each has its LF, and the C lines keep the rules
   pub lines-fine : (before : List (List ℕ)) (k : ℕ) (ls : List Line) → T (is_nil (lines_faults_before lent before k ls)) → (ls ≡ map ended (map text_of ls)) × All Fine (map text_of ls)

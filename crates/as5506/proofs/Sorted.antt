@@ -1,17 +1,18 @@
 -- Laws of lists in an order, each entry before all later ones, and of rows sorted by keys. Assumes nothing.
-use mathlib.Core.Bool.{Bool, true, false, not, ◌&&◌, ◌||◌, cond}
-use mathlib.Core.Logic.{◌⊎◌, inl, inr}
+use mathlib.Core.Bool.{Bool, true, false, ◌&&◌, ◌||◌, cond}
+use mathlib.Core.Logic.{◌⊎◌, inl, inr, ⊎_elim}
 use mathlib.Core.Path.{◌≡◌, refl, sym, ap, ap₂, ◌∙◌, subst}
 use mathlib.Core.List.{List, [], ◌∷◌}
 use Prim.Native.Nat.{ℕ, zero, suc, ◌+◌, ◌≤◌, ◌<◌}
 use native.Mathlib.Decide.{dec_le}
 use native.Mathlib.Omega.{arith}
+use borrow.Author.Tests.{ltb-true, ltb-false}
 use lib.ListN.{length}
-use lib.Dec.{T, eqb, ltb, eqb→eq, ltb→lt, lt→ltb, nltb→le, eqb_refl}
+use lib.Dec.{T, eqb, ltb, eqb→eq, ltb→lt, lt→ltb, eqb_refl}
 use Rattle.as5506.specs.Lists.{span, up_to, put_if, keep, insert_by, sort_by}
 use Rattle.as5506.specs.Followed.{In}
 use Rattle.as5506.specs.Drawing.{is_before}
-use Rattle.as5506.proofs.Laws.{All, all_map, all_keep, all-of, all_in, in_all, and_left, and_right, and_both, or_left, or_right}
+use Rattle.as5506.proofs.Laws.{All, all_map, all_keep, all_in, in_all, and_left, and_right, and_both, or_left, or_right}
 
 -- ---- members
 
@@ -30,11 +31,8 @@ module _ {A : Type 0} where
   -- what `keep` keeps: the entries that pass the test
   pub kept_in : (p : A → Bool) (xs : List A) (a : A) → In a (keep p xs) → In a xs × T (p a)
   kept_in p [] a i = absurd i
-  kept_in p (x ∷ xs) a i = go (in-put (p x) x (keep p xs) a i) (kept_in p xs a)
-    where
-      go : ((a ≡ x) × T (p x)) ⊎ In a (keep p xs) → (In a (keep p xs) → In a xs × T (p a)) → In a (x ∷ xs) × T (p a)
-      go (inl e) rest = (inl e.0, subst (λ (y : A). T (p y)) (sym e.0) e.1)
-      go (inr j) rest = (inr (rest j).0, (rest j).1)
+  kept_in p (x ∷ xs) a i =
+      ⊎_elim (λ e. (inl e.0, subst (λ (y : A). T (p y)) (sym e.0) e.1)) (λ j. let k = kept_in p xs a j in (inr k.0, k.1)) (in-put (p x) x (keep p xs) a i)
 
   pub in_kept : (p : A → Bool) (xs : List A) (a : A) → In a xs → T (p a) → In a (keep p xs)
   in_kept p [] a i t = absurd i
@@ -48,11 +46,11 @@ span-in i (suc n) a (inr h) = let g = span-in (suc i) n a h in (omega (arith, g.
 
 in_span : (i n a : ℕ) → i ≤ a → a < i + n → In a (span i n)
 in_span i zero a h l = absurd (omega arith)
-in_span i (suc n) a h l = go (dec_le a i) (in_span (suc i) n a)
-  where
-    go : Dec (a ≤ i) → (suc i ≤ a → a < suc i + n → In a (span (suc i) n)) → In a (span i (suc n))
-    go (yes q) later = inl (omega arith)
-    go (no q) later = inr (later (omega arith) (omega arith))
+in_span i (suc n) a h l =
+    elim (dec_le a i) [
+      | yes q ↦ inl (omega arith)
+      | no q ↦ inr (in_span (suc i) n a (omega arith) (omega arith))
+    ]
 
 -- the rows of a table of n rows
 pub up_to-in : (n a : ℕ) → In a (up_to n) → a < n
@@ -77,6 +75,10 @@ module _ {A : Type 0} where
       both : (ys : List A) → All P ys → All (R x) ys → All (S x) ys
       both [] u v = tt
       both (y ∷ ys) u v = (h x y t.0 u.0 v.0, both ys u.1 v.1)
+
+  pub ordered-weaker : (R S : A → A → Type 0) → ((x y : A) → R x y → S x y) → (xs : List A) → Ordered R xs → Ordered S xs
+  ordered-weaker R S h [] o = tt
+  ordered-weaker R S h (x ∷ xs) o = (all_map (R x) (S x) (h x) xs o.0, ordered-weaker R S h xs o.1)
 
   ordered-put : (R : A → A → Type 0) (b : Bool) (x : A) (r : List A) → All (R x) r → Ordered R r → Ordered R (put_if b x r)
   ordered-put R true x r t o = (t, o)
@@ -149,11 +151,7 @@ module _ (key : ℕ → ℕ) where
   pub sorted-in : (l : List ℕ) (a : ℕ) → In a (sort_by key l) → In a l
   unfolding sort_by
   sorted-in [] a h = h
-  sorted-in (i ∷ is) a h = go (insert-in i (sort_by key is) a h) (sorted-in is a)
-    where
-      go : In a (i ∷ sort_by key is) → (In a (sort_by key is) → In a is) → In a (i ∷ is)
-      go (inl e) rest = inl e
-      go (inr k) rest = inr (rest k)
+  sorted-in (i ∷ is) a h = ⊎_elim (λ e. inl e) (λ k. inr (sorted-in is a k)) (insert-in i (sort_by key is) a h)
 
   pub in-sorted : (l : List ℕ) (a : ℕ) → In a l → In a (sort_by key l)
   unfolding sort_by
@@ -197,20 +195,20 @@ module _ (key : ℕ → ℕ) where
   insert-ordered i [] t o = (tt, tt)
   insert-ordered i (j ∷ js) t o = go (ltb (key j) (key i)) refl (insert-ordered i js t.1 o.1)
     where
-      behind : T (ltb (key j) (key i)) → All (Before j) (insert_by key i js)
-      behind q = in_all (Before j) (insert_by key i js) (λ a h. all_in (Before j) (i ∷ js) (inl (ltb→lt (key j) (key i) q), o.0) a (insert-in i js a h))
+      behind : key j < key i → All (Before j) (insert_by key i js)
+      behind q = in_all (Before j) (insert_by key i js) (λ a h. all_in (Before j) (i ∷ js) (inl q, o.0) a (insert-in i js a h))
 
-      near : T (not (ltb (key j) (key i))) → Before i j
-      near q = pick (dec_le (key j) (key i))
-        where
-          pick : Dec (key j ≤ key i) → Before i j
-          pick (yes h) = inr (omega (arith, nltb→le (key j) (key i) q), t.0)
-          pick (no h) = inl (omega arith)
+      near : key i ≤ key j → Before i j
+      near q =
+          elim (dec_le (key j) (key i)) [
+            | yes h ↦ inr (omega arith, t.0)
+            | no h ↦ inl (omega arith)
+          ]
 
       go : (b : Bool) → ltb (key j) (key i) ≡ b → Ordered Before (insert_by key i js) → Ordered Before (cond b (j ∷ insert_by key i js) (i ∷ j ∷ js))
-      go true e rest = (behind (subst T (sym e) tt), rest)
+      go true e rest = (behind (ltb-true (key j) (key i) e), rest)
       go false e rest =
-          let n = near (subst (λ (b : Bool). T (not b)) (sym e) tt) in
+          let n = near (ltb-false (key j) (key i) e) in
           ((n, all_map (Before j) (Before i) (λ a h. before-then i j a n h) js o.0), o)
 
   -- IN THE ORDER OF THE KEYS, whatever the rows
@@ -230,8 +228,7 @@ module _ (key : ℕ → ℕ) where
   -- what is in order stays as it is
   pub sorted-same : (l : List ℕ) → Ordered ◌<◌ l → Ordered (λ i j. key i < key j) l → sort_by key l ≡ l
   sorted-same l o r =
-      ordered_same Before before-once (sort_by key l) l (sorted-ordered l o) (ordered-with (λ i. Unit {0}) (λ i j. key i < key j) Before (λ i j p q h. inl h) l (all-of (λ i. Unit {0}) (λ i. tt) l) r)
-      (sorted-in l) (in-sorted l)
+      ordered_same Before before-once (sort_by key l) l (sorted-ordered l o) (ordered-weaker (λ i j. key i < key j) Before (λ i j h. inl h) l r) (sorted-in l) (in-sorted l)
 
   -- ---- the scan for the next: the test of the order, and the rows behind row b
 
@@ -239,7 +236,7 @@ module _ (key : ℕ → ℕ) where
   is-before i j t = go (ltb (key i) (key j)) refl t
     where
       go : (b : Bool) → ltb (key i) (key j) ≡ b → T (b || (eqb (key i) (key j) && ltb i j)) → Before i j
-      go true e u = inl (ltb→lt (key i) (key j) (subst T (sym e) tt))
+      go true e u = inl (ltb-true (key i) (key j) e)
       go false e u = inr (eqb→eq (key i) (key j) (and_left (eqb (key i) (key j)) (ltb i j) u), ltb→lt i j (and_right (eqb (key i) (key j)) (ltb i j) u))
 
   pub before-is : (i j : ℕ) → Before i j → T (is_before key i j)
@@ -262,14 +259,10 @@ module _ (key : ℕ → ℕ) where
       forth back
     where
       forth : (a : ℕ) → In a (sort_by key (keep p (up_to n))) → In a (b ∷ sort_by key (keep (pass_behind p b) (up_to n)))
-      forth a h = go (kept_in p (up_to n) a (sorted-in (keep p (up_to n)) a h))
-        where
-          go : In a (up_to n) × T (p a) → In a (b ∷ sort_by key (keep (pass_behind p b) (up_to n)))
-          go k = pick (least a (up_to-in n a k.0) k.1)
-            where
-              pick : (a ≡ b) ⊎ Before b a → In a (b ∷ sort_by key (keep (pass_behind p b) (up_to n)))
-              pick (inl e) = inl e
-              pick (inr o) = inr (in-sorted (keep (pass_behind p b) (up_to n)) a (in_kept (pass_behind p b) (up_to n) a k.0 (and_both (p a) (is_before key b a) k.1 (before-is b a o))))
+      forth a h =
+          let k = kept_in p (up_to n) a (sorted-in (keep p (up_to n)) a h) in
+          ⊎_elim (λ e. inl e) (λ o. inr (in-sorted (keep (pass_behind p b) (up_to n)) a (in_kept (pass_behind p b) (up_to n) a k.0 (and_both (p a) (is_before key b a) k.1 (before-is b a o)))))
+          (least a (up_to-in n a k.0) k.1)
 
       back : (a : ℕ) → In a (b ∷ sort_by key (keep (pass_behind p b) (up_to n))) → In a (sort_by key (keep p (up_to n)))
       back a (inl e) = in-sorted (keep p (up_to n)) a (subst (λ (c : ℕ). In c (keep p (up_to n))) (sym e) (in_kept p (up_to n) b (in-up_to n b lb) pb))

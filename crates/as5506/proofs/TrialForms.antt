@@ -1,13 +1,14 @@
 -- What a trial of document 01 is: its meaning is a type (`Means`); a test (`passes`) computes; one law (`meant`) turns the test into the meaning.
 -- Assumes nothing.
-use mathlib.Core.Bool.{Bool, true, false, not, ◌&&◌, cond}
-use mathlib.Core.Path.{◌≡◌, refl, sym, ap, ap₂, ◌∙◌, subst}
+use mathlib.Core.Bool.{Bool, true, false, not, ◌&&◌, cond, beq}
+use mathlib.Core.Path.{◌≡◌, refl, sym, ap, ◌∙◌, subst}
 use mathlib.Core.List.{List, [], ◌∷◌, ◌++◌, map}
-use mathlib.Core.Option.{Option, none, some}
 use Prim.Native.Nat.{ℕ, suc, ◌+◌, ◌-◌, ◌*◌, ◌/◌, ◌%◌}
 use Prim.Native.String.{String}
 use lib.Dec.{T, eqb, leb, eqb→eq, eqb_refl, T_not}
 use lib.ListN.{length, get_or, take, drop}
+use lib.Pointwise.{pointwise, pointwise_decides}
+use Rattle.std.specs.Prelude.{Option, None, Some}
 use Rattle.as5506.specs.Lists.{keep, each, first_of, same_bytes, bytes_of}
 use Rattle.as5506.specs.Tables.{Tables, count, missing, two_to32, Letter, letter_n, letter_c, letter_f, letter_x, letter_p, letter_i, letter_t, letter_q, letter_u, letter_e, letter_r, letter_m, table, name_of, Ref, ref}
 use Rattle.as5506.specs.Names.{good_name, folded, base_name, is_one_to_one}
@@ -25,7 +26,7 @@ use Rattle.as5506.specs.Layout.{room_in, output, feature_numbers, traced_row_num
 use Rattle.as5506.specs.Modes.{modal, selections_of, is_cut, Modes, modes_answer, Selection, selection_answer}
 use Rattle.as5506.specs.Text.{column}
 use Rattle.as5506.specs.Program.{rows_lent, lent, text_lent, conlist_text, text_after, conlist, modes, mode}
-use Rattle.as5506.proofs.Laws.{All, and_left, and_right, and_both, is_true}
+use Rattle.as5506.proofs.Laws.{All, and_left, and_right, and_both, is_true, same-bytes, bytes-same}
 
 -- ---- sheets, and models in words
 
@@ -168,8 +169,8 @@ change m l g =
 
 -- "a refusal with its number and place", if the answer is one
 abbrev pub refusal_of : {A : Type 0} → Answer A → Option Refusal
-refusal_of (given a) = none
-refusal_of (refused r) = some r
+refusal_of (given a) = None
+refusal_of (refused r) = Some r
 
 -- the lent tables after the reader: bytes and rows in use, of which a refusal has none, then the tables
 abbrev pub counts : Answer Tables → List ℕ
@@ -207,7 +208,7 @@ feature_texts m x = map (feature_text m) x.features
 -- the refusal of a sheet written before 02 (ii), by the reader and the checks of then, where conlist lends as many rows
 abbrev refusal_in : Answer Tables → Option Refusal
 refusal_in (given m) = first_of (faults_before m)
-refusal_in (refused r) = some r
+refusal_in (refused r) = Some r
 
 abbrev pub refusal_before : List ℕ → Option Refusal
 refusal_before sheet = refusal_in (read_before (record { bytes = 16384; numbers = λ l. rows_lent (is_n l) * width_before l }) sheet)
@@ -348,37 +349,27 @@ Means (joins space names m bs r) = refusal_of (group_of space names m bs) ≡ r
 
 -- ---- equal, by a test, and the laws of the tests
 
-is_false : (b : Bool) → T (not b) → b ≡ false
-is_false true t = absurd t
-is_false false t = refl
+-- a test that tells equal values, of the entries of two lists
+module _ {A : Type 0} (test : A → A → Bool) (tells : (x y : A) → T (test x y) → x ≡ y) (owns : (x : A) → T (test x x)) where
+  decides : (xs ys : List A) → (pointwise test xs ys ≡ true → xs ≡ ys) × (xs ≡ ys → pointwise test xs ys ≡ true)
+  decides = pointwise_decides (λ x y. (λ e. tells x y (subst T (sym e) tt), λ e. is_true (test x y) (subst (λ (z : A). T (test x z)) e (owns x))))
 
-same_bytes_lem : (l r : List ℕ) → T (same_bytes l r) → l ≡ r
-same_bytes_lem [] [] t = refl
-same_bytes_lem [] (y ∷ ys) t = absurd t
-same_bytes_lem (x ∷ xs) [] t = absurd t
-same_bytes_lem (x ∷ xs) (y ∷ ys) t = ap₂ ◌∷◌ (eqb→eq x y (and_left (eqb x y) (same_bytes xs ys) t)) (same_bytes_lem xs ys (and_right (eqb x y) (same_bytes xs ys) t))
+  same-by : (xs ys : List A) → T (pointwise test xs ys) → xs ≡ ys
+  same-by xs ys t = (decides xs ys).0 (is_true (pointwise test xs ys) t)
 
-bytes_same : (l : List ℕ) → T (same_bytes l l)
-bytes_same [] = tt
-bytes_same (x ∷ xs) = and_both (eqb x x) (same_bytes xs xs) (eqb_refl x) (bytes_same xs)
+  by-same : (xs ys : List A) → xs ≡ ys → T (pointwise test xs ys)
+  by-same xs ys e = subst T (sym ((decides xs ys).1 e)) tt
 
 abbrev same_lists : List (List ℕ) → List (List ℕ) → Bool
-same_lists [] [] = true
-same_lists [] (y ∷ ys) = false
-same_lists (x ∷ xs) [] = false
-same_lists (x ∷ xs) (y ∷ ys) = same_bytes x y && same_lists xs ys
+same_lists l r = pointwise same_bytes l r
 
 same-lists : (l r : List (List ℕ)) → T (same_lists l r) → l ≡ r
-same-lists [] [] t = refl
-same-lists [] (y ∷ ys) t = absurd t
-same-lists (x ∷ xs) [] t = absurd t
-same-lists (x ∷ xs) (y ∷ ys) t =
-    ap₂ ◌∷◌ (same_bytes_lem x y (and_left (same_bytes x y) (same_lists xs ys) t)) (same-lists xs ys (and_right (same_bytes x y) (same_lists xs ys) t))
+same-lists = same-by same_bytes same-bytes bytes-same
 
 -- a value that its code gives back is known by its code
 module _ {A : Type 0} (code : A → List ℕ) (decoded : List ℕ → A) (gives_back : (a : A) → decoded (code a) ≡ a) where
   by_code : (a b : A) → T (same_bytes (code a) (code b)) → a ≡ b
-  by_code a b t = sym (gives_back a) ∙ ap decoded (same_bytes_lem (code a) (code b) t) ∙ gives_back b
+  by_code a b t = sym (gives_back a) ∙ ap decoded (same-bytes (code a) (code b) t) ∙ gives_back b
 
 abbrev place_code : ℕ → Place → List ℕ
 place_code n nowhere = n ∷ []
@@ -386,14 +377,14 @@ place_code n (line k) = n ∷ k ∷ []
 place_code n (row l i) = n ∷ i ∷ number_of l ∷ []
 
 abbrev refusal_code : Option Refusal → List ℕ
-refusal_code none = []
-refusal_code (some r) = place_code r.number r.place
+refusal_code None = []
+refusal_code (Some r) = place_code r.number r.place
 
 abbrev decoded_refusal : List ℕ → Option Refusal
-decoded_refusal [] = none
-decoded_refusal (n ∷ []) = some (refusal n nowhere)
-decoded_refusal (n ∷ k ∷ []) = some (refusal n (line k))
-decoded_refusal (n ∷ i ∷ l ∷ ls) = some (refusal n (row (get_or letters l letter_n) i))
+decoded_refusal [] = None
+decoded_refusal (n ∷ []) = Some (refusal n nowhere)
+decoded_refusal (n ∷ k ∷ []) = Some (refusal n (line k))
+decoded_refusal (n ∷ i ∷ l ∷ ls) = Some (refusal n (row (get_or letters l letter_n) i))
 
 letter-back : (l : Letter) → get_or letters (number_of l) letter_n ≡ l
 letter-back letter_n = refl
@@ -409,14 +400,14 @@ letter-back letter_e = refl
 letter-back letter_r = refl
 letter-back letter_m = refl
 
-place-back : (n : ℕ) (p : Place) → decoded_refusal (place_code n p) ≡ some (refusal n p)
+place-back : (n : ℕ) (p : Place) → decoded_refusal (place_code n p) ≡ Some (refusal n p)
 place-back n nowhere = refl
 place-back n (line k) = refl
-place-back n (row l i) = ap (λ h. some (refusal n (row h i))) (letter-back l)
+place-back n (row l i) = ap (λ h. Some (refusal n (row h i))) (letter-back l)
 
 refusal-back : (r : Option Refusal) → decoded_refusal (refusal_code r) ≡ r
-refusal-back none = refl
-refusal-back (some r) = place-back r.number r.place
+refusal-back None = refl
+refusal-back (Some r) = place-back r.number r.place
 
 abbrev same_refusal : Option Refusal → Option Refusal → Bool
 same_refusal a b = same_bytes (refusal_code a) (refusal_code b)
@@ -454,10 +445,7 @@ same_row r t =
     eqb r.conn t.conn && (eqb r.kind t.kind && (eqb r.src t.src && (eqb r.dst t.dst && (same_bytes r.path t.path && (same_bytes r.name t.name && (same_bytes r.src_name t.src_name && same_bytes r.dst_name t.dst_name))))))
 
 abbrev same_rows : List Row → List Row → Bool
-same_rows [] [] = true
-same_rows [] (y ∷ ys) = false
-same_rows (x ∷ xs) [] = false
-same_rows (x ∷ xs) (y ∷ ys) = same_row x y && same_rows xs ys
+same_rows l r = pointwise same_row l r
 
 same_row_lem : (r t : Row) → T (same_row r t) → r ≡ t
 same_row_lem r t h =
@@ -467,35 +455,29 @@ same_row_lem r t h =
       kind = eqb→eq r.kind t.kind (search (and_left, and_right)) i;
       src = eqb→eq r.src t.src (search (and_left, and_right)) i;
       dst = eqb→eq r.dst t.dst (search (and_left, and_right)) i;
-      path = same_bytes_lem r.path t.path (search (and_left, and_right)) i;
-      name = same_bytes_lem r.name t.name (search (and_left, and_right)) i;
-      src_name = same_bytes_lem r.src_name t.src_name (search (and_left, and_right) depth 9) i;
-      dst_name = same_bytes_lem r.dst_name t.dst_name (search (and_left, and_right) depth 9) i;
+      path = same-bytes r.path t.path (search (and_left, and_right)) i;
+      name = same-bytes r.name t.name (search (and_left, and_right)) i;
+      src_name = same-bytes r.src_name t.src_name (search (and_left, and_right) depth 9) i;
+      dst_name = same-bytes r.dst_name t.dst_name (search (and_left, and_right) depth 9) i;
     }
 
 row_same : (r : Row) → T (same_row r r)
 row_same r =
-    search (and_both, eqb_refl r.conn, eqb_refl r.kind, eqb_refl r.src, eqb_refl r.dst, bytes_same r.path, bytes_same r.name, bytes_same r.src_name, bytes_same r.dst_name) depth 9
+    search (and_both, eqb_refl r.conn, eqb_refl r.kind, eqb_refl r.src, eqb_refl r.dst, bytes-same r.path, bytes-same r.name, bytes-same r.src_name, bytes-same r.dst_name) depth 9
 
 same-rows : (l r : List Row) → T (same_rows l r) → l ≡ r
-same-rows [] [] t = refl
-same-rows [] (y ∷ ys) t = absurd t
-same-rows (x ∷ xs) [] t = absurd t
-same-rows (x ∷ xs) (y ∷ ys) t = ap₂ ◌∷◌ (same_row_lem x y (and_left (same_row x y) (same_rows xs ys) t)) (same-rows xs ys (and_right (same_row x y) (same_rows xs ys) t))
+same-rows = same-by same_row same_row_lem row_same
 
-rows_same : (l : List Row) → T (same_rows l l)
-rows_same [] = tt
-rows_same (x ∷ xs) = and_both (same_row x x) (same_rows xs xs) (row_same x) (rows_same xs)
+rows_same : (l r : List Row) → l ≡ r → T (same_rows l r)
+rows_same = by-same same_row same_row_lem row_same
 
 -- ---- the test and its law
 
-abbrev is : Bool → Bool → Bool
-is true b = b
-is false b = not b
-
-is_same : (a b : Bool) → T (is b a) → a ≡ b
-is_same a true t = is_true a t
-is_same a false t = is_false a t
+same-bool : (a b : Bool) → T (beq a b) → a ≡ b
+same-bool true true t = refl
+same-bool true false t = absurd t
+same-bool false true t = absurd t
+same-bool false false t = refl
 
 abbrev pub passes : Trial → Bool
 passes (prints sheet list) = same_bytes (conlist sheet) (text list)
@@ -504,10 +486,10 @@ passes (lends ns) = same_bytes (lengths lent) ns
 passes (pads sheet r padded) = same_refusal (refusal_before sheet) r && same_bytes (padded_sheet sheet) padded
 passes (lists m list) = same_bytes (listed m) (text list)
 passes (length_is m n) = eqb (length (listed m)) n
-passes (name s b) = is b (good_name s)
+passes (name s b) = beq (good_name s) b
 passes (folds s t) = same_bytes (folded (bytes_of s)) (bytes_of t)
 passes (base s t) = same_bytes (base_name (bytes_of s)) (bytes_of t)
-passes (pattern s b) = is b (is_one_to_one s)
+passes (pattern s b) = beq (is_one_to_one s) b
 passes (printed n s) = same_bytes (column n) (bytes_of s)
 passes (reads sheet r used m) =
     same_refusal (refusal_of (read_sheet (lent_of m) sheet)) r
@@ -535,8 +517,8 @@ passes (groups m r rs ds ns) =
     && (same_bytes (output (length ds) group_diag_numbers (group_answer (room_in (length rs) (length ds)) (length ns) m)) ds
     && same_bytes (output (length ns) composed_names (group_answer (room_in (length rs) (length ds)) (length ns) m)) ns))
 passes (both m r out) = same_refusal (refusal_of (both_in m out)) r && same_lists (both_outputs m out (both_in m out)) out
-passes (grows limit m ss b) = same_lists (selections_of limit (modal m)) ss && is b (is_cut limit (modal m))
-passes (counts_modes m r n b) = same_refusal (refusal_of (modes_answer m)) r && (eqb (mode_count (modes_answer m)) n && is b (modes_cut (modes_answer m)))
+passes (grows limit m ss b) = same_lists (selections_of limit (modal m)) ss && beq (is_cut limit (modal m)) b
+passes (counts_modes m r n b) = same_refusal (refusal_of (modes_answer m)) r && (eqb (mode_count (modes_answer m)) n && beq (modes_cut (modes_answer m)) b)
 passes (selects m k r rs ns) =
     same_refusal (refusal_of (selection_answer (length rs) (length ns) m k)) r
     && (same_bytes (output (length rs) selection_rows (selection_answer (length rs) (length ns) m k)) rs
@@ -546,20 +528,20 @@ passes (mode_prints sheet k list) = same_bytes (mode k sheet) (text list)
 passes (joins space names m bs r) = same_refusal (refusal_of (group_of space names m bs)) r
 
 meant : (t : Trial) → T (passes t) → Means t
-meant (prints sheet list) t = same_bytes_lem (conlist sheet) (text list) t
-meant (fills sheet out) t = same_bytes_lem (text_after (length out) sheet) out t
-meant (lends ns) t = same_bytes_lem (lengths lent) ns t
-meant (pads sheet r padded) t = (same-refusal _ r (search and_left), same_bytes_lem _ padded (search and_right))
-meant (lists m list) t = same_bytes_lem (listed m) (text list) t
+meant (prints sheet list) t = same-bytes (conlist sheet) (text list) t
+meant (fills sheet out) t = same-bytes (text_after (length out) sheet) out t
+meant (lends ns) t = same-bytes (lengths lent) ns t
+meant (pads sheet r padded) t = (same-refusal _ r (search and_left), same-bytes _ padded (search and_right))
+meant (lists m list) t = same-bytes (listed m) (text list) t
 meant (length_is m n) t = eqb→eq (length (listed m)) n t
-meant (name s b) t = is_same (good_name s) b t
-meant (folds s r) t = same_bytes_lem (folded (bytes_of s)) (bytes_of r) t
-meant (base s r) t = same_bytes_lem (base_name (bytes_of s)) (bytes_of r) t
-meant (pattern s b) t = is_same (is_one_to_one s) b t
-meant (printed n s) t = same_bytes_lem (column n) (bytes_of s) t
+meant (name s b) t = same-bool (good_name s) b t
+meant (folds s r) t = same-bytes (folded (bytes_of s)) (bytes_of r) t
+meant (base s r) t = same-bytes (base_name (bytes_of s)) (bytes_of r) t
+meant (pattern s b) t = same-bool (is_one_to_one s) b t
+meant (printed n s) t = same-bytes (column n) (bytes_of s) t
 meant (reads sheet r used m) t = (
   same-refusal _ r (search and_left),
-  same_bytes_lem _ used (search (and_left, and_right)),
+  same-bytes _ used (search (and_left, and_right)),
   same-lists _ (lent_tables m) (search (and_left, and_right)),
 )
 meant (checks m r) t = same-refusal (first_of (faults m)) r t
@@ -571,29 +553,28 @@ meant (resolves ls r) t = (
 meant (expands m g u fs visits) t = (and_left (accepted m) _ t, same-lists _ (map bytes_of fs) (search (and_left, and_right)), eqb→eq _ visits (search (and_left, and_right)))
 meant (stops room x r fs visits) t =
     (same-refusal _ r (search and_left), eqb→eq _ fs (search (and_left, and_right)), eqb→eq _ visits (search (and_left, and_right)))
-meant (expands_into m g u inverse r out) t = (same-refusal _ r (search and_left), same_bytes_lem _ out (search and_right))
-meant (children m c s l) t = (and_left (accepted m) _ t, same_bytes_lem (found_children m c (bytes_of s)) l (and_right (accepted m) _ t))
+meant (expands_into m g u inverse r out) t = (same-refusal _ r (search and_left), same-bytes _ out (search and_right))
+meant (children m c s l) t = (and_left (accepted m) _ t, same-bytes (found_children m c (bytes_of s)) l (and_right (accepted m) _ t))
 meant (whole m) t = (and_left (accepted m) _ t, same-rows (rows step_limit m) (unlimited m) (and_right (accepted m) _ t))
 meant (cut m) t = (
   and_left (accepted m) (not (same_rows (rows step_limit m) (unlimited m))) t,
-  (λ e. T_not (same_rows (rows step_limit m) (unlimited m)) (and_right (accepted m) (not (same_rows (rows step_limit m) (unlimited m))) t)
-      (subst (λ (l : List Row). T (same_rows (rows step_limit m) l)) e (rows_same (rows step_limit m)))),
+  (λ e. T_not (same_rows (rows step_limit m) (unlimited m)) (and_right (accepted m) (not (same_rows (rows step_limit m) (unlimited m))) t) (rows_same (rows step_limit m) (unlimited m) e)),
 )
 meant (traces m r rs ds) t =
-    (same-refusal _ r (search and_left), same_bytes_lem _ rs (search (and_left, and_right)), same_bytes_lem _ ds (search (and_left, and_right)))
+    (same-refusal _ r (search and_left), same-bytes _ rs (search (and_left, and_right)), same-bytes _ ds (search (and_left, and_right)))
 meant (groups m r rs ds ns) t = (
   same-refusal _ r (search and_left),
-  same_bytes_lem _ rs (search (and_left, and_right)),
-  same_bytes_lem _ ds (search (and_left, and_right)),
-  same_bytes_lem _ ns (search (and_left, and_right)),
+  same-bytes _ rs (search (and_left, and_right)),
+  same-bytes _ ds (search (and_left, and_right)),
+  same-bytes _ ns (search (and_left, and_right)),
 )
 meant (both m r out) t = (same-refusal _ r (search and_left), same-lists _ out (search (and_left, and_right)))
-meant (grows limit m ss b) t = (same-lists _ ss (search and_left), is_same _ b (search and_right))
-meant (counts_modes m r n b) t = (same-refusal _ r (search and_left), eqb→eq _ n (search (and_left, and_right)), is_same (modes_cut (modes_answer m)) b (search and_right))
+meant (grows limit m ss b) t = (same-lists _ ss (search and_left), same-bool _ b (search and_right))
+meant (counts_modes m r n b) t = (same-refusal _ r (search and_left), eqb→eq _ n (search (and_left, and_right)), same-bool (modes_cut (modes_answer m)) b (search and_right))
 meant (selects m k r rs ns) t =
-    (same-refusal _ r (search and_left), same_bytes_lem _ rs (search (and_left, and_right)), same_bytes_lem _ ns (search (and_left, and_right)))
-meant (modes_prints sheet list) t = same_bytes_lem (modes sheet) (text list) t
-meant (mode_prints sheet k list) t = same_bytes_lem (mode k sheet) (text list) t
+    (same-refusal _ r (search and_left), same-bytes _ rs (search (and_left, and_right)), same-bytes _ ns (search (and_left, and_right)))
+meant (modes_prints sheet list) t = same-bytes (modes sheet) (text list) t
+meant (mode_prints sheet k list) t = same-bytes (mode k sheet) (text list) t
 meant (joins space names m bs r) t = same-refusal (refusal_of (group_of space names m bs)) r t
 
 -- ---- a table of trials

@@ -1,10 +1,10 @@
 -- Trials of the two listings: rows, diagnostics, rooms, lent outputs and text, over models in words. Assumes nothing.
 use mathlib.Core.Bool.{true, false}
 use mathlib.Core.List.{List, [], ◌∷◌, ◌++◌}
-use mathlib.Core.Option.{Option, none, some}
 use Prim.Native.Nat.{ℕ, ◌+◌, ◌-◌, ◌*◌}
 use Prim.Native.String.{String}
 use lib.ListN.{length, replicate, set}
+use Rattle.std.specs.Prelude.{Option, None, Some}
 use Rattle.as5506.specs.Lists.{zeros, bytes_of}
 use Rattle.as5506.specs.Tables.{Tables, missing, letter_c, letter_n, letter_m}
 use Rattle.as5506.specs.Answers.{Refusal, refusal, nowhere, row}
@@ -400,18 +400,18 @@ composed = bytes_of "cn.xg.xhub.X"
 
 -- a refusal without a place
 abbrev over : ℕ → Option Refusal
-over n = some (refusal n nowhere)
+over n = Some (refusal n nowhere)
 
 -- the same tables, but component 0 has a parent: 7
 abbrev parented : Tables
 parented = change mixed letter_c (λ t. set t 1 0)
 
 abbrev bad_root : Option Refusal
-bad_root = some (refusal 7 (row letter_c 0))
+bad_root = Some (refusal 7 (row letter_c 0))
 
 -- connection 0 of the mixed model with expanded ends, of so many visits, that have the feature x
 abbrev end : ℕ → Option Expansion
-end v = some (record { features = record { name = 25; kind = 0; direction = missing; prefix = [] } ∷ []; visits = v })
+end v = Some (record { features = record { name = 25; kind = 0; direction = missing; prefix = [] } ∷ []; visits = v })
 
 abbrev joining : Option Expansion → Option Expansion → GroupConnection
 joining s d = record { conn = 0; src = 0; dst = 0; src_group = s; dst_group = d }
@@ -438,17 +438,17 @@ of_rooms =
     "D     5     0    26     0" ∷ "! feature group connection 'cn': source feature 'y' has no matching destination feature (STPA-REQ-011)" ∷ "@ cn" ∷ "@ y" ∷
     "Z     1     1" ∷ [])
     -- "After success unused output is zero", "an output holds the whole rows in it"
-    ∷ traces mixed none (traced_row ++ zeros 3) (traced_diag ++ zeros 2)
-    ∷ traces mixed none traced_row traced_diag
+    ∷ traces mixed None (traced_row ++ zeros 3) (traced_diag ++ zeros 2)
+    ∷ traces mixed None traced_row traced_diag
     -- the path and its length
-    ∷ traces (model (across_top ("C k 1 - p t -" ∷ "X d 1 0 k u - f" ∷ []))) none (filled row_width (0 ∷ 3 ∷ 3 ∷ 2 ∷ 9 ∷ 19 ∷ 13 ∷ 2 ∷ 0 ∷ 1 ∷ [])) []
+    ∷ traces (model (across_top ("C k 1 - p t -" ∷ "X d 1 0 k u - f" ∷ []))) None (filled row_width (0 ∷ 3 ∷ 3 ∷ 2 ∷ 9 ∷ 19 ∷ 13 ∷ 2 ∷ 0 ∷ 1 ∷ [])) []
     -- 11: "more rows than the output holds", 12: "more diagnostics than the output holds", in this order; "A refusal leaves zeros"
     ∷ traces mixed (over 11) (zeros (row_width - 1)) (zeros 3)
     ∷ traces mixed (over 12) (zeros row_width) (zeros 3)
-    ∷ groups mixed none (group_row ++ zeros (row_width + 1)) (group_diag ++ zeros 5) (composed ++ zeros 2)
-    ∷ groups mixed none group_row group_diag composed
+    ∷ groups mixed None (group_row ++ zeros (row_width + 1)) (group_diag ++ zeros 5) (composed ++ zeros 2)
+    ∷ groups mixed None group_row group_diag composed
     -- "Each row's names (row, source, destination) lie unseparated in the output of composed names"
-    ∷ groups (model (own (with_x ++ ("E 1 0 yy 3 - - - -" ∷ [])))) none
+    ∷ groups (model (own (with_x ++ ("E 1 0 yy 3 - - - -" ∷ [])))) None
     (filled row_width (0 ∷ 0 ∷ 0 ∷ 0 ∷ 3 ∷ 3 ∷ 3 ∷ 1 ∷ 0 ∷ []) ++ filled row_width (0 ∷ 4 ∷ 0 ∷ 0 ∷ 4 ∷ 4 ∷ 4 ∷ 1 ∷ 0 ∷ [])) []
     (bytes_of "c.xg.xg.xc.yyg.yyg.yy")
     -- in the table's order 11, 14: "composed names longer than their output", 12
@@ -459,10 +459,10 @@ of_rooms =
     ∷ joins_nowhere (joining (end 65536) (end 65536) ∷ []) 11
     ∷ joins_nowhere (joining (end 65537) (end 1) ∷ []) 13
     ∷ joins_nowhere (joining (end 1) (end 65537) ∷ []) 13
-    ∷ joins_nowhere (joining (end 1) (end 1) ∷ joining none (end 65537) ∷ []) 13
+    ∷ joins_nowhere (joining (end 1) (end 1) ∷ joining None (end 65537) ∷ []) 13
     -- both in one call
-    ∷ both mixed none (traced_row ∷ traced_diag ∷ group_row ∷ group_diag ∷ composed ∷ [])
-    ∷ both mixed none (filled (row_width + 50) traced_row ∷ filled 9 traced_diag ∷ filled (row_width + 1) group_row ∷ filled 7 group_diag ∷ filled 13 composed ∷ [])
+    ∷ both mixed None (traced_row ∷ traced_diag ∷ group_row ∷ group_diag ∷ composed ∷ [])
+    ∷ both mixed None (filled (row_width + 50) traced_row ∷ filled 9 traced_diag ∷ filled (row_width + 1) group_row ∷ filled 7 group_diag ∷ filled 13 composed ∷ [])
     -- "The traced listing ends, refusals included, before the group listing starts"
     ∷ both mixed (over 11) (zeros (row_width - 1) ∷ zeros 3 ∷ [] ∷ [] ∷ [] ∷ [])
     ∷ both mixed (over 12) (zeros row_width ∷ zeros 3 ∷ [] ∷ [] ∷ [] ∷ [])
@@ -553,7 +553,7 @@ of_modes =
     ((1 ∷ 0 ∷ []) ∷ (1 ∷ 2 ∷ []) ∷ (3 ∷ 0 ∷ []) ∷ (3 ∷ 2 ∷ []) ∷ (4 ∷ 0 ∷ []) ∷ (4 ∷ 2 ∷ []) ∷ []) false
     -- "With no modes at all the number is 0 and nothing is cut"
     ∷ grows 10000 (four []) [] false
-    ∷ counts_modes (four []) none 0 false
+    ∷ counts_modes (four []) None 0 false
     ∷ grows 10000 (four ("M x 0 0" ∷ [])) ((0 ∷ []) ∷ []) false
     -- "If the growing list passes 10,000 at a component, its first 10,000 selections count and later components are missing from each": under other
     -- limits, exactly met, passed at the last component, and before it
@@ -563,25 +563,25 @@ of_modes =
     ∷ grows 4 (four ("M x 0 0" ∷ "M y 0 0" ∷ "M x 1 0" ∷ "M y 1 0" ∷ "M x 2 0" ∷ "M y 2 0" ∷ [])) ((0 ∷ 2 ∷ 4 ∷ []) ∷ (0 ∷ 2 ∷ 5 ∷ []) ∷ (0 ∷ 3 ∷ 4 ∷ []) ∷ (0 ∷ 3 ∷ 5 ∷ []) ∷ []) true
     ∷ grows 2 (four ("M x 0 0" ∷ "M y 0 0" ∷ "M z 0 0" ∷ "M x 1 0" ∷ [])) ((0 ∷ []) ∷ (1 ∷ []) ∷ []) true
     -- 100 times 100 is 10,000, and 73 times 137 is 10,001
-    ∷ counts_modes (many 100 100) none 10000 false
-    ∷ counts_modes (many 73 137) none 10000 true
-    ∷ selects (many 73 137) 9999 none (72 ∷ 208 ∷ []) (bytes_of "on_off")
+    ∷ counts_modes (many 100 100) None 10000 false
+    ∷ counts_modes (many 73 137) None 10000 true
+    ∷ selects (many 73 137) 9999 None (72 ∷ 208 ∷ []) (bytes_of "on_off")
     ∷ selects (many 73 137) 10000 (over 20) (zeros 2) (zeros 6)
     -- "the mode names are joined by an underscore"; "as `M` rows with the joined name"; unused output is zero
-    ∷ selects twice 1 none (1 ∷ 2 ∷ 0 ∷ []) (bytes_of "yy_z" ++ (0 ∷ []))
-    ∷ selects twice 3 none (3 ∷ 2 ∷ []) (bytes_of "w_z")
-    ∷ selects (four ("M x 2 0" ∷ [])) 0 none (0 ∷ []) (bytes_of "x")
+    ∷ selects twice 1 None (1 ∷ 2 ∷ 0 ∷ []) (bytes_of "yy_z" ++ (0 ∷ []))
+    ∷ selects twice 3 None (3 ∷ 2 ∷ []) (bytes_of "w_z")
+    ∷ selects (four ("M x 2 0" ∷ [])) 0 None (0 ∷ []) (bytes_of "x")
     -- two selections of which the joined names are equal
-    ∷ selects (four ("M a 0 0" ∷ "M a_b 0 0" ∷ "M b_c 1 0" ∷ "M c 1 0" ∷ [])) 0 none (0 ∷ 2 ∷ []) (bytes_of "a_b_c")
-    ∷ selects (four ("M a 0 0" ∷ "M a_b 0 0" ∷ "M b_c 1 0" ∷ "M c 1 0" ∷ [])) 3 none (1 ∷ 3 ∷ []) (bytes_of "a_b_c")
+    ∷ selects (four ("M a 0 0" ∷ "M a_b 0 0" ∷ "M b_c 1 0" ∷ "M c 1 0" ∷ [])) 0 None (0 ∷ 2 ∷ []) (bytes_of "a_b_c")
+    ∷ selects (four ("M a 0 0" ∷ "M a_b 0 0" ∷ "M b_c 1 0" ∷ "M c 1 0" ∷ [])) 3 None (1 ∷ 3 ∷ []) (bytes_of "a_b_c")
     -- "A selection number not below the number of selections is refused as 20, after the tables' checks"; "then the existing 11", then 14
     ∷ selects twice 4 (over 20) [] []
     ∷ selects twice 5 (over 20) (zeros 2) (zeros 4)
     ∷ selects twice 3 (over 11) (zeros 1) (zeros 2)
     ∷ selects twice 3 (over 14) (zeros 2) (zeros 2)
     ∷ selects (four []) 0 (over 20) (zeros 2) (zeros 2)
-    ∷ selects (four ("M x 4 0" ∷ [])) 9 (some (refusal 6 (row letter_m 0))) (zeros 2) (zeros 2)
-    ∷ counts_modes (four ("M x 0 2" ∷ [])) (some (refusal 6 (row letter_m 0))) 0 false
+    ∷ selects (four ("M x 4 0" ∷ [])) 9 (Some (refusal 6 (row letter_m 0))) (zeros 2) (zeros 2)
+    ∷ counts_modes (four ("M x 0 2" ∷ [])) (Some (refusal 6 (row letter_m 0))) 0 false
     -- the programs
     ∷ modes_prints mode_sheet ("Z     4     0" ∷ [])
     ∷ mode_prints mode_sheet 2 ("M     3     0" ∷ "= w_x" ∷ [])

@@ -1,5 +1,5 @@
 -- Tables of before, with the array index in three numbers (02 (ii)): they are refused as before, and have the same index. Assumes nothing.
-use mathlib.Core.Bool.{Bool, true, false, not, ◌&&◌, ◌||◌, cond, not-or_self}
+use mathlib.Core.Bool.{Bool, true, false, not, ◌&&◌, ◌||◌, cond, not-or_self, false≢true}
 use mathlib.Core.Path.{◌≡◌, refl, sym, ap, ap₂, ◌∙◌, subst}
 use mathlib.Core.List.{List, [], ◌∷◌, ◌++◌, map}
 use Prim.Native.Nat.{ℕ, zero, suc, ◌+◌, ◌*◌, ◌/◌, ◌%◌, ◌<◌}
@@ -8,14 +8,14 @@ use native.Mathlib.Numerals.{add-one}
 use native.Mathlib.Omega.{arith}
 use lib.Dec.{T, eqb, ltb}
 use lib.ListN.{length, get_or}
-use Rattle.as5506.specs.Lists.{up_to, keep, when, all_of}
+use Rattle.as5506.specs.Lists.{up_to, keep, when, each, all_of}
 use Rattle.as5506.specs.Tables.{Tables, two_to32, present, Letter, letter_n, letter_c, letter_f, letter_x, letter_p, letter_i, letter_t, letter_q, letter_u, letter_e, letter_r, letter_m, table, width, count, at, has_index, c_index, e_holder_kind}
 use Rattle.as5506.specs.Columns.{order, Meaning, name, row_in, holder, below, anything, Column, needed, optional, long, columns}
 use Rattle.as5506.specs.Names.{key}
 use Rattle.as5506.specs.Answers.{refusal, row}
 use Rattle.as5506.specs.Refusals.{row_faults, broken_rows, too_many_rows, bad_name, faults10, holder_letter, in_range, good_long, allows, allows_from, bad_row, faults6, bad_parent, faults7, Key, clashes_from, clashes, place_key, faults16, faults8, faults9, faults}
 use Rattle.as5506.specs.Before.{is_c, columns_before, width_if, width_before, count_before, at_before, row_faults_before, faults10_before, in_range_before, allows_before, allows_from_before, faults6_before, bad_parent_before, faults7_before, place_key_before, faults16_before, faults_before, row_in_three, widened}
-use Rattle.as5506.proofs.Laws.{All, all-of, keep-alike, each_same, map_same, even-length, up_to-all, up_to-length, up_to-entry, row_at, false-true}
+use Rattle.as5506.proofs.Laws.{All, all-of, keep-alike, map_same, even-length, up_to-all, up_to-length, up_to-entry, row_at}
 use Rattle.as5506.proofs.Letters.{each-letter}
 
 -- ---- letters: C, or another, of which nothing has changed
@@ -87,7 +87,7 @@ module _ (m : Tables) where
   unfolding widened
   other-table =
       each-letter (λ l. is_c l ≡ false → table (widened m) l ≡ table m l)
-      (λ e. refl) (λ e. absurd (false-true (sym e))) (λ e. refl) (λ e. refl) (λ e. refl) (λ e. refl) (λ e. refl) (λ e. refl) (λ e. refl) (λ e. refl) (λ e. refl) (λ e. refl)
+      (λ e. refl) (λ e. absurd (false≢true (sym e))) (λ e. refl) (λ e. refl) (λ e. refl) (λ e. refl) (λ e. refl) (λ e. refl) (λ e. refl) (λ e. refl) (λ e. refl) (λ e. refl)
 
   other_at : (l : Letter) → is_c l ≡ false → (i j : ℕ) → at (widened m) l i j ≡ at_before m l i j
   other_at l e i j = ap₂ (λ (t : List ℕ) (w : ℕ). get_or t (i * w + j) 0) (other-table l e) (sym (other_width l e))
@@ -126,10 +126,8 @@ module _ (m : Tables) where
   faults10-kept whole =
       ap₂ ◌++◌
       (ap₂ ◌++◌
-      (each_same (broken_rows (widened m)) (λ l. when (not (eqb (length (table m l) % width_before l) 0)) (refusal 10 (row l 0))) order
-      (all-of (λ l. broken_rows (widened m) l ≡ when (not (eqb (length (table m l) % width_before l) 0)) (refusal 10 (row l 0))) (broken-kept whole) order))
-      (each_same (too_many_rows (widened m)) (λ l. when (ltb 4096 (count_before m l)) (refusal 10 (row l 4096))) order
-      (all-of (λ l. too_many_rows (widened m) l ≡ when (ltb 4096 (count_before m l)) (refusal 10 (row l 4096))) many-kept order)))
+      (λ i. each (λ l. broken-kept whole l i) order)
+      (λ i. each (λ l. many-kept l i) order))
       (rows-kept 10 letter_n (bad_name (widened m)) (bad_name m) (λ k h. names-kept k))
 
   -- ---- 6
@@ -187,9 +185,7 @@ module _ (m : Tables) where
   faults6-kept : faults6 (widened m) ≡ faults6_before m
   unfolding faults6 faults6_before
   faults6-kept =
-      each_same (λ l. row_faults 6 (widened m) l (bad_row (widened m) l)) (λ l. row_faults_before 6 m l (λ i. not (allows_from_before m l i 0 (columns_before l)))) order
-      (all-of (λ l. row_faults 6 (widened m) l (bad_row (widened m) l) ≡ row_faults_before 6 m l (λ i. not (allows_from_before m l i 0 (columns_before l))))
-      (λ l. rows-kept 6 l (bad_row (widened m) l) (λ i. not (allows_from_before m l i 0 (columns_before l))) (row_kept l)) order)
+      λ j. each (λ l. rows-kept 6 l (bad_row (widened m) l) (λ i. not (allows_from_before m l i 0 (columns_before l))) (row_kept l) j) order
 
   -- ---- 7 and 16
 

@@ -3,8 +3,7 @@
 -- (`KeepsIndex`). Nothing else in the definition speaks of that form.
 -- A C line and a C row alone had another form; so what looks at neither is not said again: lines, letters and their order, the fields of the other letters,
 -- names, the rules of a field (that a number has 64 bits says nothing of six columns), keys that clash, and refusals 8 and 9. Assumes nothing.
-use Rattle.std.specs.Prelude.{Bool, true, false, not, ◌&&◌, ◌||◌, cond, List, [], ◌∷◌, ◌++◌, map, ◌≡◌, ℕ, zero, suc, ◌+◌, ◌*◌, ◌/◌, ◌%◌, ◌≤◌, ◌<◌, T, eqb, leb, ltb, length, get_or, take, drop, replicate}
-use Rattle.std.proofs.Math.Option.{Option, none, some}
+use Rattle.std.specs.Prelude.{Bool, true, false, not, ◌&&◌, ◌||◌, cond, List, [], ◌∷◌, ◌++◌, map, ◌≡◌, ℕ, zero, suc, ◌+◌, ◌*◌, ◌/◌, ◌%◌, ◌≤◌, ◌<◌, T, eqb, leb, ltb, length, get_or, take, drop, replicate, Option, None, Some}
 use Rattle.as5506.specs.Lists.{up_to, keep, when, is_nil, each}
 use Rattle.as5506.specs.Tables.{Tables, tables_of, present, Letter, letter_n, letter_c, table, width, has_index, c_index, e_holder_kind}
 use Rattle.as5506.specs.Columns.{order, rank, letter_byte, Meaning, name, row_in, holder, below, anything, Column, needed, optional, long, columns}
@@ -46,8 +45,8 @@ has_place_before lent before l s =
     && (not (is_n l) || leb (name_bytes (s ∷ before)) lent.bytes)
 
 abbrev pub known_before : Lent → List (List ℕ) → List ℕ → Option Letter → List ℕ
-known_before lent before s none = 2 ∷ []
-known_before lent before s (some l) =
+known_before lent before s None = 2 ∷ []
+known_before lent before s (Some l) =
     when (is_earlier before l) 3 ++ when (not (rules_by (is_n l) (columns_before l) s)) 4 ++ when (not (has_place_before lent before l s)) 5
 
 unfoldable pub line_faults_before : Lent → List (List ℕ) → Line → List ℕ

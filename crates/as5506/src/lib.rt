@@ -1,4 +1,4 @@
-// The numbers of document 01 that the code needs, and a refusal. The definition is in specs/.
+// The numbers of document 01 that the code needs, a refusal, and what a listing counts. The definition is in specs/.
 #![tactic(auto)]
 
 mod reason;
@@ -8,6 +8,7 @@ ghost use Rattle.as5506.specs.Answers.{nowhere, refusal, told};
 
 pub use reason::Reason;
 
+// A missing field of a table. A number and no Option: C and the reader lend the tables so, and the definition has the same word.
 pub const MISSING: u32 = 4294967295;
 
 pub const SHEET_BYTES: usize = 16384;
@@ -80,12 +81,20 @@ pub const TEXT_LENT: usize = 8192;
 
 pub const SHEET_LENT: usize = SHEET_BYTES + 1;
 
-// A refusal as document 01 prints it: its number, its place (a line, a row, else 0) and the letter of the place's table, or `-`.
+// A refusal as document 01 prints it: its number, its place (a line, a row, else 0) and the letter of the place's table, or `-`. The number is printed
+// and handed to C, so it is one here too; refusals without a place are made of a `Reason`.
 #[derive(Clone, Copy)]
 pub struct Refusal {
     pub number: u32,
     pub place: u32,
     pub letter: u8,
+}
+
+// How many rows and diagnostics a listing wrote.
+#[derive(Clone, Copy)]
+pub struct Listed {
+    pub rows: usize,
+    pub diagnostics: usize,
 }
 
 // A refusal that has no place.

@@ -5,34 +5,27 @@ ghost use Rattle.as5506.specs.Reasons.{number_of};
 
 use crate::{Refusal, unplaced};
 
-// The reasons.
+// The reasons, by the numbers of their refusals.
 #[derive(Clone, Copy)]
 pub enum Reason {
     // More rows than their output holds.
-    Rows,
+    Rows = 11,
     // More diagnostics than their output holds.
-    Diagnostics,
+    Diagnostics = 12,
     // An endpoint has over 65,536 visits.
-    Visits,
+    Visits = 13,
     // Composed names, or a joined one, longer than their output.
-    Names,
+    Names = 14,
     // A printed list longer than its output.
-    Text,
+    Text = 15,
     // A selection number not below the number of selections.
-    Selection,
+    Selection = 20,
 }
 
 impl From<Reason> for Refusal {
     fn from(reason: Reason) -> Self
         ensures { result ≡ told (refusal (number_of reason) nowhere) }
     {
-        unplaced(match reason {
-            Reason::Rows => 11,
-            Reason::Diagnostics => 12,
-            Reason::Visits => 13,
-            Reason::Names => 14,
-            Reason::Text => 15,
-            Reason::Selection => 20,
-        })
+        unplaced(reason as u32)
     }
 }

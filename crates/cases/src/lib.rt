@@ -1,5 +1,5 @@
-// Reads stored cases, for the programs that replay them: a case begins with `V`, and a number stands in six columns as in a sheet. Each function takes
-// the reader; the programs hand over standard input.
+// Reads stored cases, for the programs that replay them, and prints what they print of each: a case begins with `V`, and a number stands in six columns
+// as in a sheet. Each function takes the reader, or the printer; the programs hand over standard input and output.
 #![tactic(auto)]
 
 ghost use Rattle.std.specs.Prelude.{◌≡◌, ◌≤◌, min, length, drop};
@@ -19,6 +19,28 @@ pub fn byte<R: Read>(input: &mut R) -> u8 {
 // Whether a case begins here; at the end of the file none does.
 pub fn begins<R: Read>(input: &mut R) -> bool {
     byte(input) == b'V'
+}
+
+// Hands the reader to `replay` behind the `V` of each case, until none begins.
+pub fn replay_all<R: Read, F: Fn(&mut R)>(input: &mut R, replay: F)
+    requires { F.IsAlwaysCallable replay }
+{
+    for _ in 0..u64::MAX {
+        if !begins(input) {
+            return;
+        }
+        replay(input);
+    }
+}
+
+// Prints a text as it is.
+pub fn print(rt: &impl Print, text: &[u8]) {
+    let _ = rt.write_all(text);
+}
+
+// Prints a space and the number.
+pub fn print_number(rt: &impl Print, n: u64) {
+    let _ = print!(rt; " {n}");
 }
 
 // The next number; `-` is a missing one.
@@ -51,12 +73,12 @@ pub fn bytes<R: Read>(input: &mut R, out: &mut [u8], len: u32) -> usize
 pub fn line<R: Read>(input: &mut R, out: &mut [u8]) -> usize
     ensures { (result ≤ length out.old) × (drop result out.new ≡ drop result out.old) }
 {
-    for i in 0..out.len() {
+    for (i, place) in out.iter_mut().enumerate() {
         let b = byte(input);
         if b == LINE_FEED {
             return i;
         }
-        out[i] = b;
+        *place = b;
     }
     out.len()
 }

@@ -1,5 +1,5 @@
 -- The next of sorted rows, by a scan of all rows that keeps the best so far: the laws of such a loop. Assumes nothing.
-use mathlib.Core.Bool.{Bool, true, false, ◌&&◌, cond}
+use mathlib.Core.Bool.{Bool, true, false, ◌&&◌, cond, false≢true}
 use mathlib.Core.Logic.{◌⊎◌, inl, inr}
 use mathlib.Core.Path.{◌≡◌, refl, sym, ap, ◌∙◌, subst}
 use mathlib.Core.List.{[], ◌∷◌}
@@ -9,7 +9,7 @@ use native.Mathlib.Omega.{arith}
 use lib.Dec.{T, ltb, ltb→lt, nltb→le}
 use Rattle.std.specs.Prelude.{Option, Some, None, not}
 use Rattle.as5506.specs.Lists.{up_to, keep, sort_by}
-use Rattle.as5506.proofs.Laws.{is_true, false-true, no_member}
+use Rattle.as5506.proofs.Laws.{is_true, no_member}
 use Rattle.as5506.proofs.Sorted.{kept_in, up_to-in, sorted-in, Before, before-then, pass_behind, sorted-next}
 
 module _ (key : ℕ → ℕ) (p : ℕ → Bool) where
@@ -38,7 +38,7 @@ module _ (key : ℕ → ℕ) (p : ℕ → Bool) where
   pass i (Some b) l e = (omega (arith, l.0), l.1, (λ j h t. go j (split i j h) t))
     where
       go : (j : ℕ) → (j ≡ i) ⊎ (j < i) → p j ≡ true → (j ≡ b) ⊎ Before key b j
-      go j (inl q) t = absurd (false-true (sym (ap p q ∙ e) ∙ t))
+      go j (inl q) t = absurd (false≢true (sym (ap p q ∙ e) ∙ t))
       go j (inr q) t = l.2 j q t
 
   -- it is the first that passes
@@ -47,7 +47,7 @@ module _ (key : ℕ → ℕ) (p : ℕ → Bool) where
     where
       go : (j : ℕ) → (j ≡ i) ⊎ (j < i) → p j ≡ true → (j ≡ i) ⊎ Before key i j
       go j (inl r) t = inl r
-      go j (inr r) t = absurd (false-true (sym (l j r) ∙ t))
+      go j (inr r) t = absurd (false≢true (sym (l j r) ∙ t))
 
   -- it comes before the best: its key is smaller
   smaller : (i b : ℕ) → First i (Some b) → p i ≡ true → key i < key b → First (i + 1) (Some i)
@@ -81,7 +81,7 @@ module _ (key : ℕ → ℕ) (p : ℕ → Bool) where
   turn : (i : ℕ) (best : Option ℕ) → First i best → (a : Bool) → p i ≡ a → (d : Bool) → precedes best i ≡ d → First (i + 1) (cond (a && d) (Some i) best)
   turn i best l false e d f = pass i best l e
   turn i None l true e true f = begin i l e
-  turn i None l true e false f = absurd (false-true (sym f))
+  turn i None l true e false f = absurd (false≢true (sym f))
   turn i (Some b) l true e true f = smaller i b l e (ltb→lt (key i) (key b) (subst T (sym f) tt))
   turn i (Some b) l true e false f = larger i b l (nltb→le (key i) (key b) (subst (λ (b : Bool). T (not b)) (sym f) tt))
 
@@ -93,7 +93,7 @@ module _ (key : ℕ → ℕ) (p : ℕ → Bool) where
   pub least-none : (n : ℕ) → Least n None → sort_by key (keep p (up_to n)) ≡ []
   least-none n l =
       no_member (sort_by key (keep p (up_to n)))
-      (λ a h. let k = kept_in p (up_to n) a (sorted-in key (keep p (up_to n)) a h) in false-true (sym (l.first a (up_to-in n a k.0)) ∙ is_true (p a) k.1))
+      (λ a h. let k = kept_in p (up_to n) a (sorted-in key (keep p (up_to n)) a h) in false≢true (sym (l.first a (up_to-in n a k.0)) ∙ is_true (p a) k.1))
 
   pub least-found : (n b : ℕ) → Least n (Some b) → sort_by key (keep p (up_to n)) ≡ b ∷ sort_by key (keep (pass_behind key p b) (up_to n))
   least-found n b l = sorted-next key p n b l.first.0 (subst T (sym l.first.1) tt) (λ j h t. l.first.2 j h (is_true (p j) t))

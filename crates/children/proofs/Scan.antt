@@ -1,19 +1,21 @@
 -- Laws of the children that a name finds: the next of them by a scan of all rows, and that they are the definition's. Assumes nothing.
-use mathlib.Core.Bool.{Bool, true, false, not, ◌&&◌, cond}
+use mathlib.Core.Bool.{Bool, true, false, not, ◌&&◌, cond, and-true}
 use mathlib.Core.Path.{◌≡◌, refl, sym, ap, ◌∙◌, subst}
 use mathlib.Core.List.{List, [], ◌∷◌}
-use Prim.Native.Nat.{ℕ, ◌+◌, ◌-◌, ◌≤◌, ◌<◌}
+use Prim.Native.Nat.{ℕ, zero, suc, ◌+◌, ◌-◌, ◌≤◌, ◌<◌}
 use native.Mathlib.Nat.{sub-zero}
+use native.Mathlib.Numerals.{add-one}
 use native.Mathlib.Omega.{arith}
 use lib.Dec.{T}
 use lib.ListN.{length}
 use Rattle.std.specs.Prelude.{Option, Some, None}
-use Rattle.as5506.specs.Lists.{span, up_to, keep, is_nil, has, sort_by}
+use Rattle.std.specs.List.{filter, range_with_len}
+use Rattle.as5506.specs.Lists.{span, up_to, put_if, keep, is_nil, has, sort_by}
 use Rattle.as5506.specs.Tables.{Tables, children_of, c_count, c_place}
 use Rattle.as5506.specs.Names.{bracket}
 use Rattle.as5506.specs.Tracing.{is_named, is_element, or_elements, found_children}
 use Rattle.as5506.specs.Drawing.{is_before}
-use Rattle.as5506.proofs.Laws.{and-true, and_right}
+use Rattle.as5506.proofs.Laws.{and_right}
 use Rattle.as5506.proofs.Scans.{keep-hit, keep-miss, keep-done, keep_same}
 use Rattle.as5506.proofs.Sorted.{sorted-length, before-then, is-before, before-is, pass_behind}
 use Rattle.as5506.proofs.Children.{children-kept}
@@ -145,23 +147,19 @@ module _ (m : Tables) (p : ℕ) (w : List ℕ) where
 
 -- ---- how many
 
-module _ (m : Tables) (rule : Rule) (p : ℕ) (w : List ℕ) where
-  -- how many the rule finds from row i on
-  unfoldable pub how_many : ℕ → ℕ
-  how_many i = length (rows_from m rule p w i)
+-- the rows of a range that pass a test
+kept-of-range : (q : ℕ → Bool) (i n : ℕ) → filter q (range_with_len i n) ≡ keep q (span i n)
+kept-of-range q i zero = refl
+kept-of-range q i (suc n) = rw (add-one i) (go (q i) (kept-of-range q (suc i) n))
+  where
+    go : (b : Bool) {k l : List ℕ} → k ≡ l → cond b (i ∷ k) k ≡ put_if b i l
+    go true e = ap (λ (l : List ℕ). i ∷ l) e
+    go false e = e
 
-  pub how_many_start : rule ≡ rule_for m p w → how_many 0 ≡ length (found_children m p w)
-  unfolding how_many found_behind
-  how_many_start r = as_many m rule p w ∙ ap (λ (r : Rule). length (children_behind m r p w None)) r ∙ ap length (found_all m p w)
-
-  pub how_many_hit : (i : ℕ) → i < c_count m → is_found m rule p w i ≡ true → how_many i ≡ 1 + how_many (i + 1)
-  unfolding how_many
-  how_many_hit i h e = omega (arith, ap length (rows_hit m rule p w i h e))
-
-  pub how_many_miss : (i : ℕ) → i < c_count m → is_found m rule p w i ≡ false → how_many i ≡ how_many (i + 1)
-  unfolding how_many
-  how_many_miss i h e = ap length (rows_miss m rule p w i h e)
-
-  pub how_many_end : (i : ℕ) → c_count m ≤ i → how_many i ≡ 0
-  unfolding how_many
-  how_many_end i h = ap length (rows_end m rule p w i h)
+-- THE ROWS THAT THE RULE FINDS ARE AS MANY AS THE CHILDREN THAT THE NAME FINDS
+pub how_many : (m : Tables) (rule : Rule) (p : ℕ) (w : List ℕ) → rule ≡ rule_for m p w
+    → length (filter (is_found m rule p w) (range_with_len 0 (c_count m - 0))) ≡ length (found_children m p w)
+unfolding found_behind
+how_many m rule p w r =
+    ap length (kept-of-range (is_found m rule p w) 0 (c_count m - 0))
+    ∙ as_many m rule p w ∙ ap (λ (r : Rule). length (children_behind m r p w None)) r ∙ ap length (found_all m p w)

@@ -10,6 +10,7 @@ use Rattle.lent.specs.Model.{model}
 use Rattle.std.specs.Iterator.{YieldsFirst}
 use Rattle.children.specs.declared.Children.{Children}
 use Rattle.children.specs.declared.Rule.{Rule}
+use Rattle.children.specs.declared.Search.{Search}
 use Rattle.children.specs.declared.Rule.TheVariants.{Exact, Base}
 
 -- component i by a rule: "byte-equal names", or "an array index" and a "name up to the first `[`" that "is equal folded"
@@ -66,13 +67,29 @@ abbrev pub Inside : Tables → Option ℕ → Type 0
 Inside m None = Unit {0}
 Inside m (Some i) = i < c_count m
 
+-- the model of the tables that a search goes through
+abbrev pub tables_in : Search → Tables
+tables_in s = model s.m.now
+
+-- the name that it is for
+abbrev pub name_in : Search → List ℕ
+name_in s = name_of (tables_in s) s.wanted
+
+-- component i is a child that it finds
+abbrev pub finds : Search → ℕ → Bool
+finds s i = is_found (tables_in s) s.rule s.owner (name_in s) i
+
+-- the children that it finds, behind `last`
+abbrev pub found_after : Search → Option ℕ → List ℕ
+found_after s last = children_behind (tables_in s) s.rule s.owner (name_in s) last
+
 -- the model of the tables that an iterator goes through
 abbrev pub tables_of : Children → Tables
-tables_of c = model c.m.now
+tables_of c = tables_in c.search
 
 -- the children that are left to it
 unfoldable pub children_left : Children → List ℕ
-children_left c = children_behind (tables_of c) c.rule c.owner (name_of (tables_of c) c.wanted) c.last
+children_left c = found_after c.search c.last
 
 -- a call of next gives the first of what is left, a row of C, and leaves the others; or nothing is left, and stays so
 abbrev pub GivesChild : Children → Option ℕ → Children → Type 0

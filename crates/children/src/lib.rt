@@ -7,13 +7,13 @@ ghost use Rattle.as5506.specs.Lists.{is_nil};
 ghost use Rattle.as5506.specs.Tables.{name_of, c_count};
 ghost use Rattle.as5506.specs.Tracing.{is_element, found_children};
 ghost use Rattle.lent.specs.Model.{model};
-ghost use Rattle.children.specs.Found.{fits, is_found, stands_behind, is_better, is_next, children_behind, rule_for, found_behind, after_child, Inside, tables_of, children_left, GivesChild};
+ghost use Rattle.children.specs.Found.{fits, stands_behind, is_better, is_next, rule_for, found_behind, after_child, Inside, tables_in, name_in, finds, found_after, tables_of, children_left, GivesChild};
 
 use as5506::C_NUMBERS;
 use columns::component;
 use lent::Tables;
 
-// How a name finds children.
+// How a name finds children. An enum and no closure: there are these two, and the contract says by which.
 #[derive(Clone, Copy)]
 pub enum Rule {
     // Byte for byte.
@@ -22,35 +22,13 @@ pub enum Rule {
     Base,
 }
 
-// Whether component i is an array element whose name before the bracket is the wanted one, case ignored.
-#[tactic(auto, unfolding(as5506::specs::Tracing::is_element))]
-fn is_element(m: &Tables, wanted: u32, i: usize) -> bool
-    ensures { result ≡ is_element (model m.now) (name_of (model m.now) wanted) i }
-{
-    if !component::has_index(m, i) {
-        return false;
-    }
-    let own = name::name_of(m, component::name_of(m, i));
-    name::same_folded(name::base_name_of(own), name::name_of(m, wanted))
-}
-
-// Whether component i has the wanted name by the rule, in whichever component it stands.
-#[tactic(auto, unfolding(crate::specs::Found::fits, as5506::specs::Tracing::is_named))]
-fn name_fits(m: &Tables, rule: Rule, wanted: u32, i: usize) -> bool
-    ensures { result ≡ fits (model m.now) rule (name_of (model m.now) wanted) i }
-{
-    match rule {
-        Rule::Exact => name::same_names(m, component::name_of(m, i), wanted),
-        Rule::Base => is_element(m, wanted, i),
-    }
-}
-
-// Whether component i is a child of `owner` that the rule finds by the wanted name.
-#[tactic(auto, unfolding(crate::specs::Found::is_found))]
-fn is_found(m: &Tables, rule: Rule, owner: u32, wanted: u32, i: usize) -> bool
-    ensures { result ≡ is_found (model m.now) rule owner (name_of (model m.now) wanted) i }
-{
-    component::parent_of(m, i) == owner && name_fits(m, rule, wanted, i)
+// A search: whose children, by which name, and by which rule the name finds them.
+#[derive(Clone, Copy)]
+struct Search<'a, 'b> {
+    m: &'a Tables<'b>,
+    rule: Rule,
+    owner: u32,
+    wanted: u32,
 }
 
 // Whether component i stands behind `last` in the order of the drawing: by place, of equal places by row. All do where there is none.
@@ -75,59 +53,89 @@ fn is_better(m: &Tables, best: Option<usize>, i: usize) -> bool
     }
 }
 
-// Whether component i is the next child so far: one that the rule finds, behind `last` and before the best of the rows above. Names are
-// compared last, since that takes longest.
-#[tactic(auto, unfolding(crate::specs::Found::is_next, crate::specs::Found::is_left, crate::specs::Found::is_found))]
-fn is_next(
-    m: &Tables,
-    rule: Rule,
-    owner: u32,
-    wanted: u32,
-    last: Option<usize>,
-    best: Option<usize>,
-    i: usize,
-) -> bool
-    ensures { result ≡ is_next (model m.now) rule owner (name_of (model m.now) wanted) last best i }
-{
-    component::parent_of(m, i) == owner
-        && is_behind(m, last, i)
-        && is_better(m, best, i)
-        && name_fits(m, rule, wanted, i)
-}
-
-// The first child behind `last` that the rule finds, in the order of the drawing.
-#[tactic(auto, using(crate::proofs::Scan::best_taken, crate::proofs::Scan::best_left, crate::proofs::Scan::best_next, crate::proofs::Scan::best_inside))]
-fn next_by_rule(
-    m: &Tables,
-    rule: Rule,
-    owner: u32,
-    wanted: u32,
-    last: Option<usize>,
-) -> Option<usize>
-    ensures value { children_behind (model m.now) rule owner (name_of (model m.now) wanted) last
-        ≡ after_child (children_behind (model m.now) rule owner (name_of (model m.now) wanted)) result }
-    ensures inside { Inside (model m.now) result }
-{
-    let mut best = None;
-    for i in 0..m.c.len() / C_NUMBERS {
-        if is_next(m, rule, owner, wanted, last, best, i) {
-            best = Some(i);
+impl<'a, 'b> Search<'a, 'b> {
+    // By the rule of the name.
+    fn by_name(m: &'a Tables<'b>, owner: u32, wanted: u32) -> Search<'a, 'b>
+        ensures { result ≡ record { m = m.entry; rule = rule_for (model m.now) owner (name_of (model m.now) wanted); owner = owner; wanted = wanted } }
+    {
+        Search {
+            m,
+            rule: rule_for(m, owner, wanted),
+            owner,
+            wanted,
         }
     }
-    best
-}
 
-// Whether the rule finds any child.
-#[tactic(auto, using(crate::proofs::Scan::rows_miss, crate::proofs::Scan::some_found, crate::proofs::Scan::none_found))]
-fn finds(m: &Tables, rule: Rule, owner: u32, wanted: u32) -> bool
-    ensures { result ≡ not (is_nil (children_behind (model m.now) rule owner (name_of (model m.now) wanted) None)) }
-{
-    for i in 0..m.c.len() / C_NUMBERS {
-        if is_found(m, rule, owner, wanted, i) {
-            return true;
+    // Whether component i is an array element whose name before the bracket is the wanted one, case ignored.
+    #[tactic(auto, unfolding(as5506::specs::Tracing::is_element))]
+    fn is_element(&self, i: usize) -> bool
+        ensures { result ≡ is_element (tables_in self.now) (name_in self.now) i }
+    {
+        if !component::has_index(self.m, i) {
+            return false;
+        }
+        let own = name::name_of(self.m, component::name_of(self.m, i));
+        name::same_folded(name::base_name_of(own), name::name_of(self.m, self.wanted))
+    }
+
+    // Whether component i has the wanted name by the rule, in whichever component it stands.
+    #[tactic(auto, unfolding(crate::specs::Found::fits, as5506::specs::Tracing::is_named))]
+    fn name_fits(&self, i: usize) -> bool
+        ensures { result ≡ fits (tables_in self.now) self.now.rule (name_in self.now) i }
+    {
+        match self.rule {
+            Rule::Exact => name::same_names(self.m, component::name_of(self.m, i), self.wanted),
+            Rule::Base => self.is_element(i),
         }
     }
-    false
+
+    // Whether it finds component i.
+    #[tactic(auto, unfolding(crate::specs::Found::is_found))]
+    fn finds(&self, i: usize) -> bool
+        ensures { result ≡ finds self.now i }
+    {
+        component::parent_of(self.m, i) == self.owner && self.name_fits(i)
+    }
+
+    // Whether it finds any component.
+    #[tactic(auto, using(crate::proofs::Scan::rows_miss, crate::proofs::Scan::some_found, crate::proofs::Scan::none_found))]
+    fn finds_any(&self) -> bool
+        ensures { result ≡ not (is_nil (found_after self.now None)) }
+    {
+        for i in 0..self.m.c.len() / C_NUMBERS {
+            if self.finds(i) {
+                return true;
+            }
+        }
+        false
+    }
+
+    // Whether component i is the next child so far: one that it finds, behind `last` and before the best of the rows above. Names are compared last,
+    // since that takes longest.
+    #[tactic(auto, unfolding(crate::specs::Found::is_next, crate::specs::Found::is_left, crate::specs::Found::is_found))]
+    fn is_next(&self, last: Option<usize>, best: Option<usize>, i: usize) -> bool
+        ensures { result ≡ is_next (tables_in self.now) self.now.rule self.now.owner (name_in self.now) last best i }
+    {
+        component::parent_of(self.m, i) == self.owner
+            && is_behind(self.m, last, i)
+            && is_better(self.m, best, i)
+            && self.name_fits(i)
+    }
+
+    // The first child behind `last` that it finds, in the order of the drawing.
+    #[tactic(auto, using(crate::proofs::Scan::best_taken, crate::proofs::Scan::best_left, crate::proofs::Scan::best_next, crate::proofs::Scan::best_inside))]
+    fn next_child(&self, last: Option<usize>) -> Option<usize>
+        ensures value { found_after self.now last ≡ after_child (found_after self.now) result }
+        ensures inside { Inside (tables_in self.now) result }
+    {
+        let mut best = None;
+        for i in 0..self.m.c.len() / C_NUMBERS {
+            if self.is_next(last, best, i) {
+                best = Some(i);
+            }
+        }
+        best
+    }
 }
 
 // The rule by which a name finds children of a component: array elements only where no child has that very name and the name has no bracket.
@@ -135,7 +143,13 @@ fn finds(m: &Tables, rule: Rule, owner: u32, wanted: u32) -> bool
 pub fn rule_for(m: &Tables, owner: u32, wanted: u32) -> Rule
     ensures { result ≡ rule_for (model m.now) owner (name_of (model m.now) wanted) }
 {
-    if finds(m, Rule::Exact, owner, wanted) || name::has_bracket(name::name_of(m, wanted)) {
+    let exact = Search {
+        m,
+        rule: Rule::Exact,
+        owner,
+        wanted,
+    };
+    if exact.finds_any() || name::has_bracket(name::name_of(m, wanted)) {
         Rule::Exact
     } else {
         Rule::Base
@@ -149,16 +163,13 @@ pub fn find_child_by_name(m: &Tables, owner: u32, wanted: u32, last: Option<usiz
         ≡ after_child (found_behind (model m.now) owner (name_of (model m.now) wanted)) result }
     ensures inside { Inside (model m.now) result }
 {
-    next_by_rule(m, rule_for(m, owner, wanted), owner, wanted, last)
+    Search::by_name(m, owner, wanted).next_child(last)
 }
 
 // The children that a name finds, in the order of the drawing. The rule of the name is asked for once.
 #[derive(Clone, Copy)]
 pub struct Children<'a, 'b> {
-    m: &'a Tables<'b>,
-    owner: u32,
-    wanted: u32,
-    rule: Rule,
+    search: Search<'a, 'b>,
     last: Option<usize>,
 }
 
@@ -169,10 +180,7 @@ pub fn named<'a, 'b>(m: &'a Tables<'b>, owner: u32, wanted: u32) -> Children<'a,
     ensures tables { tables_of result ≡ model m.now }
 {
     Children {
-        m,
-        owner,
-        wanted,
-        rule: rule_for(m, owner, wanted),
+        search: Search::by_name(m, owner, wanted),
         last: None,
     }
 }
@@ -188,24 +196,20 @@ impl Iterator for Children<'_, '_> {
 
     #[tactic(auto, unfolding(crate::specs::Found::children_left))]
     fn next(&mut self) -> Option<usize> {
-        let child = next_by_rule(self.m, self.rule, self.owner, self.wanted, self.last)?;
+        let child = self.search.next_child(self.last)?;
         self.last = Some(child);
         Some(child)
     }
 }
 
 // How many children the wanted name finds.
-#[tactic(auto, using(crate::proofs::Scan::how_many_start, crate::proofs::Scan::how_many_hit, crate::proofs::Scan::how_many_miss, crate::proofs::Scan::how_many_end))]
 pub fn count_children(m: &Tables, owner: u32, wanted: u32) -> usize
     ensures value { result ≡ length (found_children (model m.now) owner (name_of (model m.now) wanted)) }
     ensures upper_bound { result ≤ c_count (model m.now) }
 {
-    let rule = rule_for(m, owner, wanted);
-    let mut found = 0;
-    for i in 0..m.c.len() / C_NUMBERS {
-        if is_found(m, rule, owner, wanted, i) {
-            found += 1;
-        }
-    }
-    found
+    let search = Search::by_name(m, owner, wanted);
+    let found = |i: &usize| -> bool
+        ensures { result ≡ finds search.entry i.now }
+    { search.finds(*i) };
+    (0..m.c.len() / C_NUMBERS).filter(found).count()
 }

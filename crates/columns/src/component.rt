@@ -1,4 +1,4 @@
-// C rows: components.
+// C rows: components. One function for each column; lib.rt says why.
 ghost use Rattle.std.specs.Prelude.{◌≡◌};
 ghost use Rattle.as5506.specs.Tables.{c_name, c_parent, c_package, c_type, c_pattern, c_place, has_index};
 ghost use Rattle.lent.specs.Model.{model};

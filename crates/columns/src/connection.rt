@@ -1,4 +1,4 @@
-// X rows: connections.
+// X rows: connections. One function for each column; lib.rt says why.
 ghost use Rattle.std.specs.Prelude.{◌≡◌};
 ghost use Rattle.as5506.specs.Tables.{x_name, x_owner, x_kind, x_sub, x_feat};
 ghost use Rattle.lent.specs.Model.{model};
@@ -30,7 +30,7 @@ pub fn kind_of(m: &Tables, i: usize) -> u32
     field_at(m.x, X_NUMBERS, i, 2)
 }
 
-// The subcomponent that it names on a side, or missing.
+// The subcomponent that it names on a side, or missing. By cases: each side has a column.
 pub fn subcomponent_of(m: &Tables, side: Side, i: usize) -> u32
     ensures { result ≡ x_sub (model m.now) (side_of side) i }
 {

@@ -1,4 +1,4 @@
-// E rows: the features that a component type or a group type declares.
+// E rows: the features that a component type or a group type declares. One function for each column; lib.rt says why.
 ghost use Rattle.std.specs.Prelude.{◌≡◌};
 ghost use Rattle.as5506.specs.Tables.{e_holder_kind, e_holder, e_name, e_kind, e_direction, e_classifier};
 ghost use Rattle.lent.specs.Model.{model};
@@ -9,7 +9,14 @@ use crate::reference::{Reference, reference_at};
 use as5506::E_NUMBERS;
 use lent::Tables;
 
-// Whether a component type holds it, 0, or a group type, 1.
+// The two kinds of a holder, and the kind of a feature that is a group: numbers, as the tables hold them, since of all kinds only these are asked for.
+pub const COMPONENT_TYPE: u32 = 0;
+
+pub const GROUP_TYPE: u32 = 1;
+
+pub const FEATURE_GROUP: u32 = 8;
+
+// Whether a component type holds it, or a group type.
 pub fn holder_kind_of(m: &Tables, i: usize) -> u32
     ensures { result ≡ e_holder_kind (model m.now) i }
 {

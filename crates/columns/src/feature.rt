@@ -1,4 +1,4 @@
-// F rows: the features of components.
+// F rows: the features of components. One function for each column; lib.rt says why.
 ghost use Rattle.std.specs.Prelude.{◌≡◌};
 ghost use Rattle.as5506.specs.Tables.{f_name, f_owner, f_kind};
 ghost use Rattle.lent.specs.Model.{model};

@@ -1,4 +1,4 @@
-// U rows: group types.
+// U rows: group types. One function for each column; lib.rt says why.
 ghost use Rattle.std.specs.Prelude.{◌≡◌};
 ghost use Rattle.as5506.specs.Tables.{u_package, u_private, u_extends, u_inverse_of};
 ghost use Rattle.lent.specs.Model.{model};

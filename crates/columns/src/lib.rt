@@ -13,6 +13,7 @@ pub mod group_type;
 pub mod mode;
 mod reference;
 
+pub use field::field_at;
 pub use reference::Reference;
 
 // The two ends of a connection.

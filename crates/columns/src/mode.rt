@@ -1,4 +1,4 @@
-// M rows: the modes of components.
+// M rows: the modes of components. One function for each column; lib.rt says why.
 ghost use Rattle.std.specs.Prelude.{◌≡◌};
 ghost use Rattle.as5506.specs.Tables.{m_name, m_owner};
 ghost use Rattle.lent.specs.Model.{model};

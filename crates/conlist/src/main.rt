@@ -8,7 +8,8 @@ ghost use Rattle.on_sheet.specs.Tasks.{Writes};
 use as5506::{SHEET_LENT, TEXT_LENT};
 use on_sheet::Task;
 
-// THE PROGRAM (each of the three has its own, since its contract cites the definition of that program): the text for the bytes that were read.
+// THE PROGRAM (each of the three has its own, since its contract cites the definition of that program): the text for the bytes that were read, the front of an array: a program has no other memory.
+#[tactic(auto, using(on_sheet::proofs::Programs::conlist_writes))]
 fn conlist(read: &[u8; SHEET_LENT], got: usize, text: &mut [u8; TEXT_LENT]) -> usize
     ensures { Writes written read.now got result text.new }
 {

@@ -27,10 +27,10 @@ records-at ns i zero k d h = absurd (omega arith)
 records-at ns i (suc n) zero d h = ap (record_at ns) (omega arith)
 records-at ns i (suc n) (suc k) d h = records-at ns (suc i) n k d (omega arith) ∙ ap (record_at ns) (omega arith)
 
--- a list that has each record in its place
-pub records_are : (ns : List ℕ) (ys : List Diagnostic) (n : ℕ) → length ys ≡ n → ((k : ℕ) → k < n → get_or ys k (record_at ns 0) ≡ record_at ns k) → ys ≡ records_from ns 0 n
-records_are ns ys n e h =
-    ext_get_or (record_at ns 0) ys (records_from ns 0 n) (e ∙ sym (records-length ns 0 n)) (λ k l. let m : k < n = omega (arith, l, e) in h k m ∙ ap (record_at ns) (omega arith) ∙ sym (records-at ns 0 n k (record_at ns 0) m))
+-- a list that has each record below i, and so all, in its place
+pub records_are : (ns : List ℕ) (ys : List Diagnostic) (n i : ℕ) → length ys ≡ n → n ≤ i → ((k : ℕ) → k < i → get_or ys k (record_at ns 0) ≡ record_at ns k) → ys ≡ records_from ns 0 n
+records_are ns ys n i e past h =
+    ext_get_or (record_at ns 0) ys (records_from ns 0 n) (e ∙ sym (records-length ns 0 n)) (λ k l. let m : k < n = omega (arith, l, e) in h k (omega (arith, m, past)) ∙ ap (record_at ns) (omega arith) ∙ sym (records-at ns 0 n k (record_at ns 0) m))
 
 -- ---- one record
 

@@ -2,10 +2,9 @@
 use Rattle.std.specs.Prelude.{cond, List, [], ◌∷◌, ℕ, ◌-◌, Result, Ok, Err}
 use Rattle.as5506.specs.Lists.{zeros}
 use Rattle.as5506.specs.declared.Refusal.{Refusal}
+use Rattle.as5506.specs.declared.Listed.{Listed}
 use Rattle.sheet.specs.declared.Counts.{Counts}
 use Rattle.feature_group.specs.declared.Expanded.{Expanded}
-use Rattle.instance.specs.declared.Listed.{Listed}
-use Rattle.group_list.specs.declared.GroupListed.{GroupListed}
 use Rattle.listing.specs.declared.Both.{Both}
 use Rattle.operation_modes.specs.declared.Modes.{Modes}
 use Rattle.operation_modes.specs.declared.Selected.{Selected}
@@ -33,11 +32,8 @@ abbrev pub expanded_numbers : Expanded → List ℕ
 expanded_numbers x = 0 ∷ x.features ∷ x.visits ∷ []
 
 -- how many rows and diagnostics there are
-abbrev pub traced_numbers : Listed → List ℕ
-traced_numbers l = 0 ∷ l.rows ∷ l.diagnostics ∷ []
-
-abbrev pub group_numbers : GroupListed → List ℕ
-group_numbers l = 0 ∷ l.rows ∷ l.diagnostics ∷ []
+abbrev pub listed_numbers : Listed → List ℕ
+listed_numbers l = 0 ∷ l.rows ∷ l.diagnostics ∷ []
 
 -- the same of both listings
 abbrev pub both_numbers : Both → List ℕ

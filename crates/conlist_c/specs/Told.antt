@@ -7,14 +7,14 @@ use Rattle.as5506.specs.Listing.{TracedList, GroupList, BothLists}
 use Rattle.instance.specs.Answer.{TracedAs, listed as traced_listed}
 use Rattle.group_list.specs.Answer.{GroupListedAs, listed as group_listed}
 use Rattle.listing.specs.Answer.{Outputs, BothAs, listed as both_listed}
-use Rattle.conlist_c.specs.Numbers.{answer_numbers, traced_numbers, group_numbers, both_numbers}
+use Rattle.conlist_c.specs.Numbers.{answer_numbers, listed_numbers, both_numbers}
 
 pub record TracedTold (wanted : Answer TracedList) (m : Tables) (rows numbers told' rows' numbers' : List ℕ) : Type 0 where
-  pub told : told' ≡ answer_numbers 3 traced_numbers (handed traced_listed wanted)
+  pub told : told' ≡ answer_numbers 3 listed_numbers (handed traced_listed wanted)
   pub outputs-hold : TracedAs wanted m rows numbers (handed traced_listed wanted) rows' numbers'
 
 pub record GroupTold (wanted : Answer GroupList) (rows names numbers told' rows' names' numbers' : List ℕ) : Type 0 where
-  pub told : told' ≡ answer_numbers 3 group_numbers (handed group_listed wanted)
+  pub told : told' ≡ answer_numbers 3 listed_numbers (handed group_listed wanted)
   pub outputs-hold : GroupListedAs wanted rows names numbers (handed group_listed wanted) rows' names' numbers'
 
 pub record BothTold (wanted : Answer BothLists) (m : Tables) (o : Outputs) (told' : List ℕ) (p : Outputs) : Type 0 where

@@ -35,7 +35,7 @@ fn list(
     ))
 }
 
-// The same with room for no more diagnostics than `count` and `group_count` records.
+// The same with room for no more diagnostics than `count` and `group_count` records, which C lends beside the numbers.
 fn list_for(
     m: &Tables,
     rows: &mut [u32],

@@ -30,6 +30,7 @@ fn record_at(numbers: &[u32], i: usize) -> Diagnostic
 }
 
 // Fills every record from the numbers that a listing has left, with zeros past their end, where `chunks_exact` has no numbers for a record.
+#[tactic(auto, using(crate::proofs::Records::records_are))]
 pub fn fill_records(out: &mut [Diagnostic], numbers: &[u32])
     ensures { out.new ≡ records_from numbers.now 0 (length out.old) }
 {

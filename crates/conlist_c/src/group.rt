@@ -17,7 +17,7 @@ fn expand(m: &Tables, rows: &mut [u32], names: &mut [u8], diagnostics: &mut [u32
     numbers::told(group_list::expand_feature_group_connections(m, rows, names, diagnostics))
 }
 
-// The same with room for no more diagnostics than `count` records.
+// The same with room for no more diagnostics than `count` records, which C lends beside the numbers.
 fn expand_for(
     m: &Tables,
     rows: &mut [u32],

@@ -1,11 +1,9 @@
 // An answer as numbers.
 ghost use Rattle.std.specs.Prelude.{◌≡◌, ◌≤◌, List, ℕ};
-ghost use Rattle.conlist_c.specs.Numbers.{refused_numbers, answer_numbers, none_numbers, read_numbers, expanded_numbers, traced_numbers, group_numbers, both_numbers, modes_numbers, selected_numbers};
+ghost use Rattle.conlist_c.specs.Numbers.{refused_numbers, answer_numbers, none_numbers, read_numbers, expanded_numbers, listed_numbers, both_numbers, modes_numbers, selected_numbers};
 
-use as5506::Refusal;
+use as5506::{Listed, Refusal};
 use feature_group::Expanded;
-use group_list::GroupListed;
-use instance::Listed;
 use listing::Both;
 use operation_modes::{Modes, Selected};
 use sheet::Counts;
@@ -81,16 +79,7 @@ impl Given<3> for Expanded {
 }
 
 impl Given<3> for Listed {
-    ghost numbers = { traced_numbers };
-
-    fn numbers(self) -> [u64; 3] {
-        [0, self.rows as u64, self.diagnostics as u64]
-    }
-}
-
-// As `Listed`: these are two types of two crates, and one impl for both would need a trait that is longer than the second.
-impl Given<3> for GroupListed {
-    ghost numbers = { group_numbers };
+    ghost numbers = { listed_numbers };
 
     fn numbers(self) -> [u64; 3] {
         [0, self.rows as u64, self.diagnostics as u64]

@@ -17,7 +17,7 @@ fn trace(m: &Tables, rows: &mut [u32], diagnostics: &mut [u32]) -> [u64; 3]
     numbers::told(instance::compute_semantic_connections(m, rows, diagnostics))
 }
 
-// The same with room for no more diagnostics than `count` records.
+// The same with room for no more diagnostics than `count` records, which C lends beside the numbers.
 fn trace_for(m: &Tables, rows: &mut [u32], numbers: &mut [u32], count: usize) -> [u64; 3]
     ensures { TracedTold (traced_for (model m.now) rows.old numbers.old count) (model m.now) rows.old numbers.old result rows.new numbers.new }
 {

@@ -14,8 +14,8 @@ pub columns-left : (k : ℕ) (cs : List ℕ) → take (length cs) (drop k cs) �
 columns-left k cs = let e : length (drop k cs) ≤ length cs = rw (length-drop k cs) (omega arith) in take_all (length cs) (drop k cs) e
 
 -- over no columns
-pub decimal-bare : (n : ℕ) → digits n ≡ drop (length (digits n)) [] ++ digits n
-decimal-bare n = rw (drop-nil {A = ℕ} (length (digits n)))
+pub decimal_bare : (n : ℕ) → digits n ≡ drop (length (digits n)) [] ++ digits n
+decimal_bare n = rw (drop-nil {A = ℕ} (length (digits n)))
 
 drop-replicate : (k n : ℕ) (a : ℕ) → drop k (replicate n a) ≡ replicate (n - k) a
 drop-replicate zero n a = rw (sub-zero n)
@@ -23,6 +23,6 @@ drop-replicate (suc k) zero a = rw (zero-sub (suc k))
 drop-replicate (suc k) (suc n) a = rw (suc-sub-suc n k) (drop-replicate k n a)
 
 -- over six spaces
-pub decimal-column : (n : ℕ) → column n ≡ drop (length (digits n)) (replicate 6 space) ++ digits n
+pub decimal_column : (n : ℕ) → column n ≡ drop (length (digits n)) (replicate 6 space) ++ digits n
 unfolding column
-decimal-column n = ap (λ (l : List ℕ). l ++ digits n) (sym (drop-replicate (length (digits n)) 6 space))
+decimal_column n = ap (λ (l : List ℕ). l ++ digits n) (sym (drop-replicate (length (digits n)) 6 space))

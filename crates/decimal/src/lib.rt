@@ -42,11 +42,13 @@ struct Powers {
 }
 
 impl Powers {
+    #[tactic(auto, unfolding(crate::specs::Powers::tenfold))]
     fn new() -> Powers {
         Powers { of_ten: POWERS }
     }
 
     // The power at a place.
+    #[tactic(auto, using(crate::proofs::Table::power_at))]
     fn at(&self, k: usize) -> usize
         requires { k < 20 }
         ensures { result ≡ 10 ^ k }
@@ -62,7 +64,9 @@ struct Digit {
     rest: usize,
 }
 
-// The first digit of a number below ten times a power: how often the power can be subtracted.
+// The first digit of a number below ten times a power: how often the power can be subtracted. That is known only when it no longer can, so the loop is
+// no `for`; a division would tell it, and there is to be none.
+#[tactic(auto, using(crate::proofs::Spelt::subtracting))]
 fn first_digit(n: usize, power: usize) -> Digit
     requires { (0 < power) × (n < 10 * power) }
     ensures { (result.byte ≡ 48 + n / power) × (result.rest ≡ n % power) }
@@ -90,6 +94,7 @@ fn digit_count(n: usize, powers: &Powers) -> usize
 }
 
 // Prints n in decimal over the end of `columns`: what it leaves of them stands before it, and a longer number stands in full.
+#[tactic(auto, using(crate::proofs::Spelt::spelling))]
 fn put_digits(n: usize, powers: &Powers, columns: &[u8], out: &mut Output)
     ensures { Put (drop (length (digits n)) columns.now ++ digits n) out.old out.new }
 {
@@ -104,6 +109,7 @@ fn put_digits(n: usize, powers: &Powers, columns: &[u8], out: &mut Output)
 }
 
 // The same over six columns.
+#[tactic(auto, using(output::proofs::Put::put_as, crate::proofs::Columns::decimal_column))]
 fn put_in_six(n: usize, powers: &Powers, out: &mut Output)
     ensures { Put (column n) out.old out.new }
 {
@@ -125,6 +131,7 @@ pub fn put_column(n: usize, out: &mut Output)
 }
 
 // Prints numbers, each in six columns.
+#[tactic(auto, using(crate::proofs::Each::printing_each))]
 pub fn put_columns(numbers: &[u32], out: &mut Output)
     ensures { Put (each column numbers.now) out.old out.new }
 {

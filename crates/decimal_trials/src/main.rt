@@ -6,9 +6,6 @@
 use output::Output;
 use std::io::Read;
 
-// The most cases of a file.
-const CASES: usize = 1000000;
-
 // The number of these parts.
 fn number_of(parts: [u32; 4]) -> usize {
     let [a, b, c, d] = parts.map(|part| part as usize);
@@ -27,27 +24,19 @@ fn print_number(rt: &impl Print, parts: [u32; 4]) {
     out.put(b"|");
     decimal::put_columns(&parts, &mut out);
     out.put(b"\n");
-    let end = out.done();
-    let _ = rt.write_all(lent::part(&text, 0, end));
+    if let Some(end) = out.done() {
+        cases::print(rt, lent::part(&text, 0, end));
+    }
 }
 
-// Reads a case and replays it; false where there is none.
-fn next_case(rt: &impl Print, input: &mut impl Read) -> bool {
-    if !cases::begins(input) {
-        return false;
-    }
+// Reads a case and replays it.
+fn replay_case(rt: &impl Print, input: &mut impl Read) {
     let mut parts = [0u32; 4];
     cases::numbers(input, &mut parts);
     cases::byte(input);
     print_number(rt, parts);
-    true
 }
 
 fn main(rt: HostRuntime) {
-    let mut input = rt.stdin();
-    for _ in 0..CASES {
-        if !next_case(&rt, &mut input) {
-            return;
-        }
-    }
+    cases::replay_all(&mut rt.stdin(), |input| replay_case(&rt, input));
 }

@@ -2,11 +2,9 @@
 use mathlib.Core.Bool.{Bool, true, false, ◌&&◌, ◌||◌}
 use mathlib.Core.Path.{◌≡◌, refl, sym, ap, ap₂, ◌∙◌}
 use mathlib.Core.List.{List, [], ◌∷◌}
-use mathlib.Core.Option.{none, some}
-use mathlib.Core.Option.{Option as Maybe}
 use Prim.Native.Nat.{ℕ, ◌≤◌, ◌<◌}
 use lib.Dec.{eqb}
-use Rattle.std.specs.Prelude.{Option, Some, None, MatchOption}
+use Rattle.std.specs.Prelude.{Option, Some, None, MatchOption, is_some}
 use Rattle.as5506.specs.Lists.{up_to, put_if, keep, first_of, any_of, same_bytes}
 use Rattle.as5506.specs.Tables.{Tables, missing, letter_f, letter_e, count, Side, Ref, ref, name_of, rows_naming, x_owner, x_sub, c_package, c_type, f_name, f_owner, f_kind, features_of, e_name, e_kind, e_holder, e_holder_kind, e_classifier, present}
 use Rattle.as5506.specs.Names.{key}
@@ -18,7 +16,7 @@ use Rattle.as5506.proofs.Laws.{missing-is, present-is}
 use Rattle.as5506.proofs.Scans.{keep-both}
 use Rattle.resolver.specs.declared.Classifier.{Classifier}
 use Rattle.resolver.specs.declared.Classifier.TheVariants.{ComponentType, ComponentImpl, GroupType}
-use Rattle.resolver.specs.Found.{row_of, found}
+use Rattle.resolver.specs.Found.{found}
 use Rattle.resolver.proofs.Answers.{meant, means}
 use Rattle.resolver.proofs.Scan.{Searching, search_hit, search_end}
 use Rattle.endpoint.specs.Ends.{is_group, is_declared}
@@ -27,52 +25,48 @@ module _ (m : Tables) where
   -- ---- the component of an end
 
   module _ (s : Side) (i p sub : ℕ) (e : p ≡ x_owner m i) (f : sub ≡ x_sub m s i) where
-    pub end_owner : sub ≡ missing → some p ≡ end_component m s i
+    pub end_owner : sub ≡ missing → Some p ≡ end_component m s i
     unfolding end_component end_component_by
-    end_owner h = rw (missing-is sub (x_sub m s i) f h) (ap some e)
+    end_owner h = rw (missing-is sub (x_sub m s i) f h) (ap Some e)
 
     -- l is what the name finds, l' is left behind the first
-    pub end_child : (q : Option ℕ) (l l' : List ℕ) → (sub ≡ missing → ⊥) → l ≡ found_children m p (name_of m sub) → MatchOption q ((l ≡ []) × (l' ≡ [])) (λ j. l ≡ j ∷ l') → row_of q ≡ end_component m s i
+    pub end_child : (q : Option ℕ) (l l' : List ℕ) → (sub ≡ missing → ⊥) → l ≡ found_children m p (name_of m sub) → MatchOption q ((l ≡ []) × (l' ≡ [])) (λ j. l ≡ j ∷ l') → q ≡ end_component m s i
     unfolding end_component end_component_by named
     end_child q l l' h a g =
         rw (present-is sub (x_sub m s i) f h) (first q g ∙ ap first_of (a ∙ ap₂ (λ (p sub : ℕ). found_children m p (name_of m sub)) e f))
       where
-        first : (q : Option ℕ) → MatchOption q ((l ≡ []) × (l' ≡ [])) (λ j. l ≡ j ∷ l') → row_of q ≡ first_of l
+        first : (q : Option ℕ) → MatchOption q ((l ≡ []) × (l' ≡ [])) (λ j. l ≡ j ∷ l') → q ≡ first_of l
         first None g = rw (g.0) refl
         first (Some j) g = rw g refl
 
   -- ---- the group features of a component
 
-  abbrev has_first : Maybe ℕ → Bool
-  has_first (some i) = true
-  has_first none = false
-
   -- an entry passes exactly where there is a first that does
-  any-first : (p : ℕ → Bool) (xs : List ℕ) → any_of p xs ≡ has_first (first_of (keep p xs))
+  any-first : (p : ℕ → Bool) (xs : List ℕ) → any_of p xs ≡ is_some (first_of (keep p xs))
   any-first p [] = refl
   any-first p (x ∷ xs) = by_first (p x) (any_of p xs) (keep p xs) (any-first p xs)
     where
-      by_first : (b a : Bool) (l : List ℕ) → a ≡ has_first (first_of l) → b || a ≡ has_first (first_of (put_if b x l))
+      by_first : (b a : Bool) (l : List ℕ) → a ≡ is_some (first_of l) → b || a ≡ is_some (first_of (put_if b x l))
       by_first true a l e = refl
       by_first false a l e = e
 
   module _ (c : ℕ) (k : List ℕ) where
-    feature-search : is_group_feature m c k ≡ has_first (first_of (keep (is_group m c k) (up_to (count m letter_f))))
+    feature-search : is_group_feature m c k ≡ is_some (first_of (keep (is_group m c k) (up_to (count m letter_f))))
     unfolding is_group_feature rows_naming is_group
     feature-search =
         let p : ℕ → Bool = λ f. eqb (f_kind m f) feature_kind_group && same_bytes (key m (f_name m f)) k in
-        any-first p (features_of m c) ∙ ap (λ (l : List ℕ). has_first (first_of l)) (keep-both p (λ f. eqb (f_owner m f) c) (up_to (count m letter_f)))
+        any-first p (features_of m c) ∙ ap (λ (l : List ℕ). is_some (first_of l)) (keep-both p (λ f. eqb (f_owner m f) c) (up_to (count m letter_f)))
 
     module _ (i : ℕ) (s : Searching (is_group m c k) (count m letter_f) i) where
       pub feature_hit : i < count m letter_f → is_group m c k i ≡ true → true ≡ is_group_feature m c k
-      feature_hit h t = ap has_first (search_hit (is_group m c k) (count m letter_f) i s h t) ∙ sym feature-search
+      feature_hit h t = ap is_some (search_hit (is_group m c k) (count m letter_f) i s h t) ∙ sym feature-search
 
       pub feature_end : count m letter_f ≤ i → false ≡ is_group_feature m c k
-      feature_end h = ap has_first (search_end (is_group m c k) (count m letter_f) i s h) ∙ sym feature-search
+      feature_end h = ap is_some (search_end (is_group m c k) (count m letter_f) i s h) ∙ sym feature-search
 
   -- ---- the groups that a component type declares
 
-  module _ (t : ℕ) (k : List ℕ) (z : Maybe ℕ) where
+  module _ (t : ℕ) (k : List ℕ) (z : Option ℕ) where
     pub declared_found : z ≡ first_of (keep (is_declared m t k) (up_to (count m letter_e))) → z ≡ declared_group m t k
     unfolding declared_group rows_naming is_declared
     declared_found e =
@@ -85,27 +79,27 @@ module _ (m : Tables) where
   -- ---- the classifier of E row e, for component c
 
   module _ (c e : ℕ) (r : Ref) (a : r ≡ e_classifier m e) where
-    pub no_classifier : r.type ≡ missing → none ≡ declared_by m c (some e)
+    pub no_classifier : r.type ≡ missing → None ≡ declared_by m c (Some e)
     unfolding declared_by classifier_by
     no_classifier h = rw (missing-is r.type (e_classifier m e).type (ap (λ (r : Ref). r.type) a) h)
 
     module _ (h : r.type ≡ missing → ⊥) where
-      asked : (b : Bool) → classifier_by (present r.type) m c r ≡ declared_by m c (some e)
+      asked : (b : Bool) → classifier_by (present r.type) m c r ≡ declared_by m c (Some e)
       unfolding declared_by
       asked b = ap (λ (r : Ref). classifier_by (present r.type) m c r) a
 
-      pub from_component : (g : ℕ) → r.pkg ≡ missing → g ≡ c_package m c → some (expand m g r.type) ≡ declared_by m c (some e)
+      pub from_component : (g : ℕ) → r.pkg ≡ missing → g ≡ c_package m c → Some (expand m g r.type) ≡ declared_by m c (Some e)
       unfolding classifier_by
-      from_component g k d = ap (λ (g : ℕ). some (expand m g r.type)) d ∙ sym (rw (present-is r.type r.type refl h, missing-is r.pkg r.pkg refl k)) ∙ asked true
+      from_component g k d = ap (λ (g : ℕ). Some (expand m g r.type)) d ∙ sym (rw (present-is r.type r.type refl h, missing-is r.pkg r.pkg refl k)) ∙ asked true
 
-      pub from_classifier : (r.pkg ≡ missing → ⊥) → some (expand m r.pkg r.type) ≡ declared_by m c (some e)
+      pub from_classifier : (r.pkg ≡ missing → ⊥) → Some (expand m r.pkg r.type) ≡ declared_by m c (Some e)
       unfolding classifier_by
       from_classifier k = sym (rw (present-is r.type r.type refl h, present-is r.pkg r.pkg refl k)) ∙ asked true
 
   -- ---- the group of feature f of component c
 
   module _ (c f : ℕ) (b : Bool) (p : b ≡ is_group_feature m c (key m f)) where
-    pub no_feature : b ≡ false → none ≡ endpoint m c f
+    pub no_feature : b ≡ false → None ≡ endpoint m c f
     unfolding endpoint endpoint_by
     no_feature h = rw (← p, h)
 
@@ -115,16 +109,16 @@ module _ (m : Tables) where
       unfolding endpoint endpoint_by type_of
       typed z e = rw (← p, h) (ap (typed_by m c (key m f)) (sym (means m v (ref v w missing) z e) ∙ ap₂ (λ (v w : ℕ). resolve m v (ref v w missing)) d t))
 
-      pub no_type : None ≡ found m (resolve m v (ref v w missing)) → none ≡ endpoint m c f
+      pub no_type : None ≡ found m (resolve m v (ref v w missing)) → None ≡ endpoint m c f
       unfolding typed_by
       no_type e = typed None e
 
       module _ (z : Classifier) (e : Some z ≡ found m (resolve m v (ref v w missing))) where
-        pub no_impl : (g i : ℕ) → z ≡ ComponentImpl g i → none ≡ endpoint m c f
+        pub no_impl : (g i : ℕ) → z ≡ ComponentImpl g i → None ≡ endpoint m c f
         unfolding typed_by
         no_impl g i q = typed (Some (ComponentImpl g i)) (ap (λ (z : Classifier). Some z) (sym q) ∙ e)
 
-        pub no_group : (g i : ℕ) → z ≡ GroupType g i → none ≡ endpoint m c f
+        pub no_group : (g i : ℕ) → z ≡ GroupType g i → None ≡ endpoint m c f
         unfolding typed_by
         no_group g i q = typed (Some (GroupType g i)) (ap (λ (z : Classifier). Some z) (sym q) ∙ e)
 
@@ -133,11 +127,11 @@ module _ (m : Tables) where
           unfolding typed_by
           declared = typed (Some (ComponentType g i)) (ap (λ (z : Classifier). Some z) (sym q) ∙ e)
 
-          pub not_declared : none ≡ declared_group m i (key m f) → none ≡ endpoint m c f
+          pub not_declared : None ≡ declared_group m i (key m f) → None ≡ endpoint m c f
           unfolding declared_by
           not_declared n = ap (declared_by m c) n ∙ declared
 
-          pub by_classifier : (j : ℕ) (x : Maybe Expansion) → some j ≡ declared_group m i (key m f) → x ≡ declared_by m c (some j) → x ≡ endpoint m c f
+          pub by_classifier : (j : ℕ) (x : Option Expansion) → Some j ≡ declared_group m i (key m f) → x ≡ declared_by m c (Some j) → x ≡ endpoint m c f
           by_classifier j x s r = r ∙ ap (declared_by m c) s ∙ declared
 
 -- what each function goes by

@@ -1,16 +1,14 @@
 -- The group that an end stands for, as the definition has it, and what its features are found by. Assumes nothing.
-use Rattle.std.specs.Prelude.{Bool, ◌&&◌, List, ℕ, Option, Some, None, eqb}
-use Rattle.std.proofs.Math.Option as maybe
+use Rattle.std.specs.Prelude.{Bool, ◌&&◌, List, ℕ, eqb}
 use Rattle.as5506.specs.Lists.{same_bytes}
 use Rattle.as5506.specs.Tables.{Tables, f_name, f_owner, f_kind, e_name, e_kind, e_holder, e_holder_kind}
 use Rattle.as5506.specs.Names.{key}
 use Rattle.as5506.specs.Groups.{Expansion, feature_kind_group, expand}
 use Rattle.endpoint.specs.declared.Group.{Group}
 
--- the expansion of the group that an end stands for, or none: its type is asked for by its bare name
-abbrev pub expanded_at : Tables → Option Group → maybe.Option Expansion
-expanded_at m (Some g) = maybe.some (expand m g.package g.type_name)
-expanded_at m None = maybe.none
+-- the expansion of the group that an end stands for: its type is asked for by its bare name
+abbrev pub expanded : Tables → Group → Expansion
+expanded m g = expand m g.package g.type_name
 
 -- F row i is one of component c, a group, and has the key k
 unfoldable pub is_group : Tables → ℕ → List ℕ → ℕ → Bool

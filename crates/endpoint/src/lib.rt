@@ -2,14 +2,12 @@
 // group that its feature stands for.
 #![tactic(auto)]
 
-ghost use Rattle.std.specs.Prelude.{◌≡◌};
-ghost use Rattle.std.proofs.Math.Option.{some};
+ghost use Rattle.std.specs.Prelude.{◌≡◌, Some, option_map};
 ghost use Rattle.as5506.specs.Names.{key};
 ghost use Rattle.as5506.specs.GroupList.{is_group_connection, is_group_feature, declared_group, declared_by, end_component, endpoint as the_endpoint};
 ghost use Rattle.lent.specs.Model.{model};
 ghost use Rattle.columns.specs.Side.{side_of};
-ghost use Rattle.resolver.specs.Found.{row_of};
-ghost use Rattle.endpoint.specs.Ends.{expanded_at, is_group, is_declared};
+ghost use Rattle.endpoint.specs.Ends.{expanded, is_group, is_declared};
 
 use as5506::{E_NUMBERS, F_NUMBERS, MISSING};
 use columns::{Reference, Side, component, connection, declared, feature};
@@ -23,9 +21,7 @@ pub struct Group {
     pub type_name: u32,
 }
 
-// `FeatureKind::FeatureGroup` and `ConnectionKind::FeatureGroup`: numbers, since of all kinds only these are asked for.
-const FEATURE_KIND: u32 = 8;
-
+// `ConnectionKind::FeatureGroup`: a number, since of all kinds only this is asked for.
 const CONNECTION_KIND: u32 = 2;
 
 // Whether X row i connects groups: it has their kind, and a feature at both ends.
@@ -41,7 +37,7 @@ pub fn is_group_connection(m: &Tables, i: usize) -> bool
 // The component at an end of X row i: the first child of the name, or the owner where no subcomponent is named.
 #[tactic(auto, using(crate::proofs::Steps::end_owner, crate::proofs::Steps::end_child))]
 pub fn end_component(m: &Tables, side: Side, i: usize) -> Option<usize>
-    ensures { row_of result ≡ end_component (model m.now) (side_of side) i }
+    ensures { result ≡ end_component (model m.now) (side_of side) i }
 {
     let owner = connection::owner_of(m, i);
     let sub = connection::subcomponent_of(m, side, i);
@@ -57,7 +53,7 @@ fn is_group_feature(m: &Tables, component: u32, feature: u32, i: usize) -> bool
     ensures { result ≡ is_group (model m.now) component (key (model m.now) feature) i }
 {
     feature::owner_of(m, i) == component
-        && feature::kind_of(m, i) == FEATURE_KIND
+        && feature::kind_of(m, i) == declared::FEATURE_GROUP
         && name::same_folded_names(m, feature::name_of(m, i), feature)
 }
 
@@ -80,15 +76,15 @@ fn is_declared_group(m: &Tables, holder: usize, feature: u32, i: usize) -> bool
     ensures { result ≡ is_declared (model m.now) holder (key (model m.now) feature) i }
 {
     declared::holder_of(m, i) as usize == holder
-        && declared::holder_kind_of(m, i) == 0
-        && declared::kind_of(m, i) == FEATURE_KIND
+        && declared::holder_kind_of(m, i) == declared::COMPONENT_TYPE
+        && declared::kind_of(m, i) == declared::FEATURE_GROUP
         && name::same_folded_names(m, declared::name_of(m, i), feature)
 }
 
 // The first such feature.
 #[tactic(auto, using(resolver::proofs::Scan::searching, crate::proofs::Steps::declared_found))]
 fn declared_group(m: &Tables, holder: usize, feature: u32) -> Option<usize>
-    ensures { row_of result ≡ declared_group (model m.now) holder (key (model m.now) feature) }
+    ensures { result ≡ declared_group (model m.now) holder (key (model m.now) feature) }
 {
     for i in 0..m.e.len() / E_NUMBERS {
         if is_declared_group(m, holder, feature, i) {
@@ -101,7 +97,7 @@ fn declared_group(m: &Tables, holder: usize, feature: u32) -> Option<usize>
 // The group that the classifier of E row i asks for: where it names no package, from the component's.
 #[tactic(auto, using(crate::proofs::Steps::classifier_steps))]
 fn classifier(m: &Tables, i: usize, component: u32) -> Option<Group>
-    ensures { expanded_at (model m.now) result ≡ declared_by (model m.now) component (some i) }
+    ensures { option_map (expanded (model m.now)) result ≡ declared_by (model m.now) component (Some i) }
 {
     let Reference {
         package,
@@ -122,7 +118,7 @@ fn classifier(m: &Tables, i: usize, component: u32) -> Option<Group>
 // names the group type.
 #[tactic(auto, using(crate::proofs::Steps::endpoint_steps))]
 pub fn endpoint(m: &Tables, component: u32, feature: u32) -> Option<Group>
-    ensures { expanded_at (model m.now) result ≡ the_endpoint (model m.now) component feature }
+    ensures { option_map (expanded (model m.now)) result ≡ the_endpoint (model m.now) component feature }
 {
     if !has_group_feature(m, component, feature) {
         return None;

@@ -11,7 +11,7 @@ ghost use Rattle.feature_group.specs.Answer.{answer_for, Gives, ExpandedInto};
 
 use as5506::{FEATURE_NUMBERS, MISSING, Reason, Refusal, TABLE_ROWS};
 use columns::Reference;
-use group_walk::{LEVELS, Walk};
+use group_walk::{LEVELS, Position, Walk};
 use lent::Tables;
 use links::Links;
 use sink::{Path, Purpose, Sink, Tally};
@@ -40,7 +40,7 @@ fn write_features<'a>(
         memo: &mut [],
         out,
         notes: &mut [],
-        tally: Tally { used: 0, noted: 0 },
+        tally: Tally::new(),
     };
     let mut calm = [0u32; TABLE_ROWS * LEVELS];
     let walk = Walk {
@@ -48,13 +48,15 @@ fn write_features<'a>(
         links,
         purpose: Purpose::All,
     };
-    let Some(visits) = walk.visit(&mut sink, &mut calm, to, inverse, &Path::new(), LEVELS, 0) else {
-        return Err(Refusal::from(Reason::Visits));
+    let start = Position {
+        inverse,
+        prefix: Path::new(),
+        left: LEVELS,
     };
-    let used = sink.tally.used;
-    if sink.out.len() < used {
-        return Err(Refusal::from(Reason::Rows));
-    }
+    let visits = walk
+        .visit(&mut sink, &mut calm, to, &start, 0)
+        .ok_or(Refusal::from(Reason::Visits))?;
+    let used = sink.tally.used.ok_or(Refusal::from(Reason::Rows))?;
     Ok(Expanded {
         features: used / FEATURE_NUMBERS,
         visits,
@@ -91,6 +93,7 @@ fn expand(
 
 // The features of a group type, given by its name and the name of the package to ask from; with the inverse flag or without. The output holds
 // them from the front, and zeros behind; on a refusal, zeros.
+#[tactic(auto, using(crate::proofs::Answers::given_call, crate::proofs::Answers::refused_call))]
 pub fn expand_feature_group(
     m: &Tables,
     out: &mut [u32],

@@ -1,5 +1,5 @@
 -- Laws of the definition's fields, one for each way through the code. Assumes nothing.
-use mathlib.Core.Bool.{Bool, true, false, ◌&&◌}
+use mathlib.Core.Bool.{Bool, true, false, ◌&&◌, and-false, and-true}
 use mathlib.Core.List.{List, [], ◌∷◌, map}
 use mathlib.Core.Path.{◌≡◌, refl, ap, ◌∙◌}
 use Prim.Native.Nat.{ℕ, suc, ◌+◌, ◌-◌, ◌*◌, ◌≤◌, ◌<◌}
@@ -17,7 +17,6 @@ use Rattle.as5506.specs.Fields.{unspaced, digit, decimal_from, is_decimal, is_nu
 use Rattle.as5506.specs.Lists.{all_of, same_bytes, bytes_of}
 use Rattle.as5506.specs.Tables.{two_to32}
 use Rattle.as5506.proofs.Fields.{Below, small-field, field-cells}
-use Rattle.as5506.proofs.Laws.{and-false, and-true}
 use Rattle.lent.proofs.Sets.{sets-append}
 use Rattle.fields.specs.Fields.{Short, spelt, column, columns_of, is_short, plain}
 use Rattle.fields.specs.declared.Mark.{Mark}

@@ -20,7 +20,8 @@ pub enum Mark {
     Long,
 }
 
-// What the columns of a field say: a number, a lone `-`, or something against the sheet's rules.
+// What the columns of a field say: a number, a lone `-`, or something against the sheet's rules. Three cases, as the definition has them: an Option
+// could not tell the last two apart.
 #[derive(Clone, Copy)]
 enum Field {
     Value(u64),
@@ -32,7 +33,7 @@ enum Field {
 const TWO_TO_32: u64 = 4294967296;
 
 impl Mark {
-    // The columns of a line that a field takes.
+    // The columns of a line that a field takes. By cases: two marks take six.
     fn columns(self) -> usize
         ensures { result ≡ field_bytes (column self) }
     {
@@ -103,7 +104,7 @@ impl Field {
         }
     }
 
-    // The number that a table holds for a field that is not long.
+    // The number that a table holds for a field that is not long. By cases: no derive knows them.
     fn number(self) -> u32
         requires { Short (shown self) }
         ensures { result ≡ number_of (shown self) }
@@ -115,7 +116,7 @@ impl Field {
         }
     }
 
-    // The numbers that it holds for a long one: present, high, low.
+    // The numbers that it holds for a long one: present, high, low. By cases, as `number`.
     fn long_numbers(self) -> [u32; 3]
         ensures { result ≡ long_numbers (shown self) }
     {

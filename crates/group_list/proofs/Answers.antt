@@ -1,18 +1,18 @@
 -- The call's answer and outputs, case by case. Assumes nothing.
 use mathlib.Core.Bool.{Bool, true, false, not}
-use mathlib.Core.Logic.{inl, inr}
+use mathlib.Core.Logic.{◌⊎◌, inl, inr}
 use mathlib.Core.Path.{◌≡◌, refl, sym, ap, ap₂, ◌∙◌, subst}
-use mathlib.Core.List.{List, [], ◌∷◌}
-use Prim.Native.Nat.{ℕ, ◌+◌, ◌*◌, ◌/◌, ◌≤◌, ◌<◌}
+use mathlib.Core.List.{List, [], ◌∷◌, ◌++◌, append-nil}
+use Prim.Native.Nat.{ℕ, ◌+◌, ◌/◌, ◌≤◌, ◌<◌}
 use native.Mathlib.Omega.{arith}
 use lib.Dec.{T}
-use lib.ListN.{length, drop}
-use lib.Seq.{sets, sets-eq}
+use lib.ListN.{length, take, drop}
+use lib.Seq.{sets, sets-eq, take_at, length-take-le}
 use borrow.Author.Tests.{lt-ltb, le-ltb}
-use Rattle.std.specs.Prelude.{Option, Some, None, Result, Ok, Err, is_err, IsErrAnd}
-use Rattle.std.proofs.lemmas.Result.{err_from_is_err_and}
+use Rattle.std.specs.Prelude.{Option, Some, Result, Ok, Err, ok_or, is_err, IsErrAnd}
 use Rattle.as5506.specs.Lists.{is_nil, each, total, zeros}
 use Rattle.as5506.specs.declared.Refusal.{Refusal as Told}
+use Rattle.as5506.specs.declared.Listed.{Listed}
 use Rattle.as5506.specs.Tables.{Tables}
 use Rattle.as5506.specs.Answers.{Refusal, Answer, given, refused, refusal, nowhere, told, handed}
 use Rattle.as5506.specs.Refusals.{faults, accepted}
@@ -21,10 +21,11 @@ use Rattle.as5506.specs.GroupList.{group_connections, overrun, Match, matches, r
 use Rattle.as5506.specs.Listing.{GroupList, Room, row_names, group_within, group_list_of, group_of, group_on, group_answer}
 use Rattle.as5506.specs.Layout.{row_numbers, diag_numbers, room_in, group_block, diag_block, group_row_numbers, group_diag_numbers, composed_names, output}
 use Rattle.as5506.proofs.Laws.{All, each-length, zeros-length}
-use Rattle.as5506.proofs.Answers.{is_given, hands-refused}
+use Rattle.as5506.proofs.Answers.{is_given, hands-refused, came-given, came-refused, passed, none-told, some-told}
 use Rattle.lent.specs.Answered.{AnswerIn}
-use Rattle.lent.proofs.Sets.{sets-again}
-use Rattle.lent.proofs.Append.{Used, used-by}
+use Rattle.lent.specs.Printed.{Printed}
+use Rattle.lent.proofs.Sets.{sets-whole, sets_behind}
+use Rattle.lent.proofs.Pieces.{printed-by, printed-some, printed-none}
 use Rattle.lent.proofs.Answered.{given-in, refused-in, keeps, clears}
 use Rattle.sink.specs.declared.Tally.{Tally}
 use Rattle.tables.specs.Answer.{Checked, checked}
@@ -34,23 +35,10 @@ use Rattle.group_names.specs.Pairs.{Pair}
 use Rattle.group_names.specs.Pieces.{pairs_back}
 use Rattle.group_names.specs.Compose.{Composed}
 use Rattle.group_names.proofs.Blocks.{pair_block, Short, pairs-back}
-use Rattle.group_names.proofs.Named.{names-used, all-rows}
-use Rattle.group_list.specs.declared.GroupListed.{GroupListed}
+use Rattle.group_names.proofs.Named.{names-printed, all-rows}
 use Rattle.group_list.specs.Answer.{listed, answer_for, answer_of, NamesStay, Lists, GroupListedInto}
+use Rattle.group_list.proofs.Short.{pairs-short}
 use Rattle.group_list.proofs.Matches.{told_over, told-done, pairs_of, pair-blocks, pairs-length, rows-of-pairs, rows-number, rows-length, note-blocks, notes-length}
-
--- ---- what a `?` hands on, and whether an answer is given
-
-pub passed : {A : Type 0} (z : Result A Told) (r : Told) → IsErrAnd z (λ y. y ≡ r) → z ≡ Err r
-passed z r h = let s = err_from_is_err_and z h in s.1 ∙ ap Err s.2
-
-came-given : (a : Answer GroupList) → is_err (handed listed a) ≡ false → T (is_given a)
-came-given (given l) h = tt
-came-given (refused r) h = absurd (subst T h tt)
-
-came-refused : (a : Answer GroupList) → is_err (handed listed a) ≡ true → T (not (is_given a))
-came-refused (given l) h = absurd (subst T (sym h) tt)
-came-refused (refused r) h = tt
 
 -- ---- THE ORDER 13, 11, 14, 12
 
@@ -97,15 +85,15 @@ module _ (m : Tables) (rows names diags : List ℕ) where
   the_list = group_list_of m the_matches
 
   -- what the listing ensures: its answer, and what the outputs hold
-  abbrev Leaves : Result GroupListed Told → List ℕ → List ℕ → List ℕ → Type 0
+  abbrev Leaves : Result Listed Told → List ℕ → List ℕ → List ℕ → Type 0
   Leaves z rows' names' diags' = Lists the_answer rows names diags z rows' names' diags'
 
-  refused-for : (number : ℕ) (reason : Told) → the_answer ≡ refused (refusal number nowhere) → reason ≡ told (refusal number nowhere)
-      → (rows' names' diags' : List ℕ) → NamesStay (Err reason) names names' → Leaves (Err reason) rows' names' diags'
-  refused-for number reason e f rows' names' diags' s =
+  refused-for : (number : ℕ) (z : Result Listed Told) → the_answer ≡ refused (refusal number nowhere) → z ≡ Err (told (refusal number nowhere))
+      → (rows' names' diags' : List ℕ) → NamesStay z names names' → Leaves z rows' names' diags'
+  refused-for number z e f rows' names' diags' s =
       let r : Refusal = refusal number nowhere in
       record {
-        answer = ap Err f ∙ sym (ap (handed listed) e);
+        answer = f ∙ sym (ap (handed listed) e);
         in_rows = refused-in group_row_numbers the_answer rows rows' r e;
         in_names = refused-in composed_names the_answer names names' r e;
         in_diagnostics = refused-in group_diag_numbers the_answer diags diags' r e;
@@ -113,119 +101,156 @@ module _ (m : Tables) (rows names diags : List ℕ) where
       }
 
   -- the output of names is as it was
-  untouched : (reason : Told) → NamesStay (Err reason) names names
+  untouched : (z : Result Listed Told) → NamesStay z names names
   unfolding NamesStay
-  untouched reason h = refl
+  untouched (Ok l) = tt
+  untouched (Err r) = λ h. refl
 
   -- or the refusal is neither 13 nor 11
-  composed-before : (number : ℕ) (reason : Told) → reason ≡ told (refusal number nowhere) → (number ≡ 13 → ⊥) → (number ≡ 11 → ⊥)
-      → (names' : List ℕ) → NamesStay (Err reason) names names'
+  composed-before : (number : ℕ) (z : Result Listed Told) → z ≡ Err (told (refusal number nowhere)) → (number ≡ 13 → ⊥) → (number ≡ 11 → ⊥)
+      → (names' : List ℕ) → NamesStay z names names'
   unfolding NamesStay
-  composed-before number reason e a b names' (inl h) = absurd (a (sym (ap (λ (r : Told). r.number) e) ∙ h))
-  composed-before number reason e a b names' (inr h) = absurd (b (sym (ap (λ (r : Told). r.number) e) ∙ h))
+  composed-before number z e a b names' = rw e (λ h. go h)
+    where
+      go : (number ≡ 13) ⊎ (number ≡ 11) → names' ≡ names
+      go (inl h) = absurd (a h)
+      go (inr h) = absurd (b h)
 
-  module _ (rows₁ diags₁ : List ℕ) (q : Option Tally) (e : MatchedInto m rows diags q rows₁ diags₁) where
+  -- matching answered q: r₁ is that as a Result, in which nothing is told as s₁
+  module _ (ok : T (accepted m)) (rows₁ diags₁ : List ℕ) (q : Option Tally) (e : MatchedInto m rows diags q rows₁ diags₁) (s₁ : Told) (r₁ : Result Tally Told) (e₁ : r₁ ≡ ok_or q s₁) where
+    short : All Short the_pairs
+    short = pairs-short m ok
+
     -- 13
-    pub lists-13 : q ≡ None → (reason : Told) → reason ≡ told (refusal 13 nowhere) → (rows' diags' : List ℕ) → Leaves (Err reason) rows' names diags'
+    pub lists-13 : (x : Told) → r₁ ≡ Err x → (z : Result Listed Told) → IsErrAnd z (λ y. y ≡ x) → s₁ ≡ told (refusal 13 nowhere) → (rows' diags' : List ℕ) → Leaves z rows' names diags'
     unfolding group_of
-    lists-13 h z f rows' diags' =
-        let over : overrun (group_connections m) ≡ true = told_over m (group_connections m) rows diags rows₁ diags₁ q e h in
-        refused-for 13 z (ap (λ (b : Bool). group_within (room_in (length rows) (length diags)) (length names) b the_list) over ∙ within-13 _ _ the_list) f
+    lists-13 x g z i j rows' diags' =
+        let h = none-told q s₁ x (sym e₁ ∙ g) in
+        let over : overrun (group_connections m) ≡ true = told_over m (group_connections m) rows diags rows₁ diags₁ q e h.0 in
+        refused-for 13 z (ap (λ (b : Bool). group_within (room_in (length rows) (length diags)) (length names) b the_list) over ∙ within-13 _ _ the_list) (passed z x i ∙ ap Err (h.1 ∙ j))
         rows' names diags' (untouched z)
 
-    module _ (t : Tally) (f : q ≡ Some t) (short : All Short the_pairs) where
+    -- r₂ and s₂ are so of how much of the rows is used
+    module _ (t : Tally) (f₁ : r₁ ≡ Ok t) (s₂ : Told) (r₂ : Result ℕ Told) (e₂ : r₂ ≡ ok_or t.used s₂) where
+      f : q ≡ Some t
+      f = some-told q s₁ t (sym e₁ ∙ f₁)
+
+      abbrev blocks : List ℕ
+      blocks = each pair_block the_pairs
+
       answer-is : the_answer ≡ group_within (room_in (length rows) (length diags)) (length names) false the_list
       unfolding group_of
       answer-is = ap (λ (b : Bool). group_within (room_in (length rows) (length diags)) (length names) b the_list) (told-done m (group_connections m) rows diags rows₁ diags₁ q e t f).0
 
-      rows-used : Used rows rows₁ t.used (each pair_block the_pairs)
-      rows-used = used-by (match_pieces the_matches) rows rows₁ t.used (each pair_block the_pairs) (pair-blocks the_matches) (told-done m (group_connections m) rows diags rows₁ diags₁ q e t f).1
+      rows_printed : Printed blocks rows t.used rows₁
+      rows_printed = printed-by (match_pieces the_matches) rows rows₁ t.used blocks (pair-blocks the_matches) (told-done m (group_connections m) rows diags rows₁ diags₁ q e t f).1
 
-      notes-used : Used diags diags₁ t.noted (each diag_block (diags_matched the_matches))
-      notes-used = used-by (note_pieces the_matches) diags diags₁ t.noted (each diag_block (diags_matched the_matches)) (note-blocks the_matches) (told-done m (group_connections m) rows diags rows₁ diags₁ q e t f).2
+      notes-printed : Printed (each diag_block (diags_matched the_matches)) diags t.noted diags₁
+      notes-printed =
+          printed-by (note_pieces the_matches) diags diags₁ t.noted (each diag_block (diags_matched the_matches)) (note-blocks the_matches)
+          (told-done m (group_connections m) rows diags rows₁ diags₁ q e t f).2
 
       row_count : length the_list.rows ≡ length the_pairs
       unfolding group_list_of
       row_count = rows-number m the_matches
 
       -- 11
-      pub lists-11 : length rows₁ < t.used → (reason : Told) → reason ≡ told (refusal 11 nowhere) → (rows' diags' : List ℕ) → Leaves (Err reason) rows' names diags'
-      lists-11 h z g rows' diags' =
-          let s : length rows < length (each pair_block the_pairs) = rows-used.spills (omega (arith, h, rows-used.same)) in
-          refused-for 11 z (answer-is ∙ within-11 _ _ the_list (omega (arith, s, pairs-length the_pairs short, row_count))) g
+      pub lists-11 : (x : Told) → r₂ ≡ Err x → (z : Result Listed Told) → IsErrAnd z (λ y. y ≡ x) → s₂ ≡ told (refusal 11 nowhere) → (rows' diags' : List ℕ) → Leaves z rows' names diags'
+      lists-11 x g z i j rows' diags' =
+          let h = none-told t.used s₂ x (sym e₂ ∙ g) in
+          refused-for 11 z (answer-is ∙ within-11 _ _ the_list (omega (arith, printed-none rows_printed h.0, pairs-length the_pairs short, row_count))) (passed z x i ∙ ap Err (h.1 ∙ j))
           rows' names diags' (untouched z)
 
-      module _ (h : t.used ≤ length rows₁) where
-        rows_fit : (length (each pair_block the_pairs) ≤ length rows) × (t.used ≡ length (each pair_block the_pairs)) × (rows₁ ≡ sets rows 0 (each pair_block the_pairs))
-        rows_fit = rows-used.fits (omega (arith, h, rows-used.same))
+      module _ (used : ℕ) (f₂ : r₂ ≡ Ok used) where
+        rows_fit : (length blocks ≤ length rows) × (used ≡ length blocks) × (rows₁ ≡ sets rows 0 blocks)
+        rows_fit = printed-some rows_printed (some-told t.used s₂ used (sym e₂ ∙ f₂))
 
-        pair-count : t.used / row_numbers ≡ length the_pairs
+        -- the matches are the first of the rows
+        pub used_within : used ≤ length rows₁
+        used_within = omega (arith, rows_fit.0, rows_fit.1, rows_printed.size)
+
+        pub used_front : used ≡ length (take used rows₁)
+        used_front = sym (length-take-le used rows₁ used_within)
+
+        pair-count : used / row_numbers ≡ length the_pairs
         pair-count = omega (arith, rows_fit.1, pairs-length the_pairs short)
 
         row_room : length the_list.rows ≤ length rows / row_numbers
         row_room = omega (arith, rows_fit.0, pairs-length the_pairs short, row_count)
 
-        -- composing has room
-        pub composing-room : t.used / row_numbers * row_numbers ≤ length rows₁
-        composing-room = omega (arith, h)
+        front : take used rows₁ ≡ blocks
+        front =
+            ap₂ take rows_fit.1 (rows_fit.2 ∙ sets-eq blocks rows 0 (omega (arith, rows_fit.0)))
+            ∙ take_at blocks (drop (0 + length blocks) rows) (length blocks) refl
 
-        -- the matches are read back from their blocks
-        pairs-are : pairs_back (t.used / row_numbers) rows₁ ≡ the_pairs
-        pairs-are =
-            ap₂ pairs_back pair-count (rows_fit.2 ∙ sets-eq (each pair_block the_pairs) rows 0 (omega (arith, rows_fit.0)))
-            ∙ pairs-back the_pairs short (drop (0 + length (each pair_block the_pairs)) rows)
+        -- and are read back from their blocks
+        pairs-are : pairs_back (length blocks / row_numbers) blocks ≡ the_pairs
+        pairs-are = ap₂ pairs_back (omega (arith, pairs-length the_pairs short)) (sym (append-nil blocks)) ∙ pairs-back the_pairs short []
 
-        -- composing left rows₂ and names₂
-        module _ (names₂ rows₂ : List ℕ) (used : ℕ)
-            (w : Composed m (pairs_back (t.used / row_numbers) rows₁) rows₁ names used rows₂ names₂) where
+        -- composing left part and names₂, and answered y: r₃ and s₃ are of that
+        module _ (part names₂ : List ℕ) (y : Option ℕ) (w : Composed m (pairs_back (length (take used rows₁) / row_numbers) (take used rows₁)) (take used rows₁) names y part names₂)
+            (s₃ : Told) (r₃ : Result ℕ Told) (e₃ : r₃ ≡ ok_or y s₃) where
           name-bytes : total (λ (r : Row). length (row_names r)) the_list.rows ≡ length (each row_names the_rows)
           unfolding group_list_of
           name-bytes = sym (each-length row_names the_rows)
 
-          composed : Composed m the_pairs rows₁ names used rows₂ names₂
-          composed = subst (λ (ps : List Pair). Composed m ps rows₁ names used rows₂ names₂) pairs-are w
+          composed : Composed m the_pairs blocks names y part names₂
+          composed =
+              subst (λ (ps : List Pair). Composed m ps blocks names y part names₂) pairs-are
+              (subst (λ (l : List ℕ). Composed m (pairs_back (length l / row_numbers) l) l names y part names₂) front w)
 
-          names-put : Used names names₂ used (each row_names the_rows)
+          names-put : Printed (each row_names the_rows) names y names₂
           names-put =
-              subst (λ (rs : List Row). Used names names₂ used (each row_names rs)) (rows-of-pairs m the_matches)
-              (names-used m the_pairs rows₁ names used rows₂ names₂ composed)
+              subst (λ (rs : List Row). Printed (each row_names rs) names y names₂) (rows-of-pairs m the_matches) (names-printed m the_pairs blocks names y part names₂ composed)
 
           -- 14
-          pub lists-14 : length names₂ < used → (reason : Told) → reason ≡ told (refusal 14 nowhere) → (rows' names' diags' : List ℕ) → Leaves (Err reason) rows' names' diags'
-          lists-14 i z g rows' names' diags' =
-              refused-for 14 z (answer-is ∙ within-14 _ _ the_list row_room (rw name-bytes (names-put.spills (omega (arith, i, names-put.same))))) g
-              rows' names' diags' (composed-before 14 z g (λ e. omega (arith, e)) (λ e. omega (arith, e)) names')
+          pub lists-14 : (x : Told) → r₃ ≡ Err x → (z : Result Listed Told) → IsErrAnd z (λ y. y ≡ x) → s₃ ≡ told (refusal 14 nowhere) → (rows' names' diags' : List ℕ) → Leaves z rows' names' diags'
+          lists-14 x g z i j rows' names' diags' =
+              let h = none-told y s₃ x (sym e₃ ∙ g) in
+              let r : z ≡ Err (told (refusal 14 nowhere)) = passed z x i ∙ ap Err (h.1 ∙ j) in
+              refused-for 14 z (answer-is ∙ within-14 _ _ the_list row_room (rw name-bytes (printed-none names-put h.0))) r
+              rows' names' diags' (composed-before 14 z r (λ e. omega (arith, e)) (λ e. omega (arith, e)) names')
 
-          module _ (i : used ≤ length names₂) where
-            names-fit : (length (each row_names the_rows) ≤ length names) × (used ≡ length (each row_names the_rows)) × (names₂ ≡ sets names 0 (each row_names the_rows))
-            names-fit = names-put.fits (omega (arith, i, names-put.same))
-
-            rows_are : rows₂ ≡ sets rows₁ 0 (each group_block the_rows)
-            rows_are =
-                all-rows m the_pairs rows₁ names used rows₂ names₂ composed (omega (arith, i, names-put.same))
-                ∙ ap (λ (rs : List Row). sets rows₁ 0 (each group_block rs)) (rows-of-pairs m the_matches)
+          -- r₄ and s₄ are of how much of the diagnostics is used
+          module _ (k : ℕ) (f₃ : r₃ ≡ Ok k) (s₄ : Told) (r₄ : Result ℕ Told) (e₄ : r₄ ≡ ok_or t.noted s₄) where
+            names-fit : (length (each row_names the_rows) ≤ length names) × (k ≡ length (each row_names the_rows)) × (names₂ ≡ sets names 0 (each row_names the_rows))
+            names-fit = printed-some names-put (some-told y s₃ k (sym e₃ ∙ f₃))
 
             -- 12
-            pub lists-12 : length diags₁ < t.noted → (reason : Told) → reason ≡ told (refusal 12 nowhere) → (rows' names' diags' : List ℕ) → Leaves (Err reason) rows' names' diags'
+            pub lists-12 : (x : Told) → r₄ ≡ Err x → (z : Result Listed Told) → IsErrAnd z (λ y. y ≡ x) → s₄ ≡ told (refusal 12 nowhere) → (rows' names' diags' : List ℕ) → Leaves z rows' names' diags'
             unfolding group_list_of
-            lists-12 j z g rows' names' diags' =
-                let s : length diags < length (each diag_block (diags_matched the_matches)) = notes-used.spills (omega (arith, j, notes-used.same)) in
-                refused-for 12 z (answer-is ∙ within-12 _ _ the_list row_room (rw name-bytes names-fit.0) (omega (arith, s, notes-length (diags_matched the_matches)))) g
-                rows' names' diags' (composed-before 12 z g (λ e. omega (arith, e)) (λ e. omega (arith, e)) names')
+            lists-12 x g z i j rows' names' diags' =
+                let h = none-told t.noted s₄ x (sym e₄ ∙ g) in
+                let r : z ≡ Err (told (refusal 12 nowhere)) = passed z x i ∙ ap Err (h.1 ∙ j) in
+                refused-for 12 z (answer-is ∙ within-12 _ _ the_list row_room (rw name-bytes names-fit.0) (omega (arith, printed-none notes-printed h.0, notes-length (diags_matched the_matches)))) r
+                rows' names' diags' (composed-before 12 z r (λ e. omega (arith, e)) (λ e. omega (arith, e)) names')
+
+            size : length (each group_block the_rows) ≡ length blocks
+            size = omega (arith, rows-length m the_matches, pairs-length the_pairs short, rows-number m the_matches)
+
+            -- the rows stand in place of their matches
+            part-is : part ≡ each group_block the_rows
+            part-is =
+                all-rows m the_pairs blocks names y part names₂ composed (rw (rows-of-pairs m the_matches) names-fit.0)
+                ∙ ap (λ (rs : List Row). sets blocks 0 (each group_block rs)) (rows-of-pairs m the_matches)
+                ∙ sets-whole (each group_block the_rows) blocks size
+
+            rows_are : part ++ drop used rows₁ ≡ sets rows 0 (each group_block the_rows)
+            rows_are =
+                let ends : used ≡ 0 + length (each group_block the_rows) = omega (arith, rows_fit.1, size) in
+                ap₂ ◌++◌ part-is (ap (drop used) rows_fit.2 ∙ sets_behind blocks rows used 0 (omega (arith, rows_fit.1)) ∙ ap (λ (j : ℕ). drop j rows) ends)
+                ∙ sym (sets-eq (each group_block the_rows) rows 0 (omega (arith, size, rows_fit.0)))
 
             -- all fit
-            pub lists-all : t.noted ≤ length diags₁ → Leaves (Ok (record { rows = t.used / row_numbers; diagnostics = t.noted / diag_numbers })) rows₂ names₂ diags₁
+            pub lists-all : (n : ℕ) → r₄ ≡ Ok n → Leaves (Ok (record { rows = used / row_numbers; diagnostics = n / diag_numbers })) (part ++ drop used rows₁) names₂ diags₁
             unfolding group_list_of group_row_numbers composed_names group_diag_numbers NamesStay
-            lists-all j =
-                let d = notes-used.fits (omega (arith, j, notes-used.same)) in
-                let size : length (each group_block the_rows) ≡ length (each pair_block the_pairs) = omega (arith, rows-length m the_matches, pairs-length the_pairs short, rows-number m the_matches) in
+            lists-all n f₄ =
+                let d = printed-some notes-printed (some-told t.noted s₄ n (sym e₄ ∙ f₄)) in
                 let a : the_answer ≡ given the_list = answer-is ∙ within-given _ _ the_list row_room (rw name-bytes names-fit.0) (omega (arith, d.0, notes-length (diags_matched the_matches))) in
-                let n : t.noted / diag_numbers ≡ length (diags_matched the_matches) = omega (arith, d.1, notes-length (diags_matched the_matches)) in
+                let c : n / diag_numbers ≡ length (diags_matched the_matches) = omega (arith, d.1, notes-length (diags_matched the_matches)) in
                 record {
-                  answer = ap₂ (λ (k l : ℕ). Ok (record { rows = k; diagnostics = l })) (pair-count ∙ sym row_count) n ∙ sym (ap (handed listed) a);
-                  in_rows =
-                      given-in group_row_numbers the_answer rows rows₂ the_list a (omega (arith, size, rows_fit.0))
-                      (rows_are ∙ ap (λ (l : List ℕ). sets l 0 (each group_block the_rows)) rows_fit.2 ∙ sets-again (each pair_block the_pairs) (each group_block the_rows) rows (sym size) (omega (arith, size, rows_fit.0)));
+                  answer = ap₂ (λ (k l : ℕ). Ok (record { rows = k; diagnostics = l })) (pair-count ∙ sym row_count) c ∙ sym (ap (handed listed) a);
+                  in_rows = given-in group_row_numbers the_answer rows (part ++ drop used rows₁) the_list a (omega (arith, size, rows_fit.0)) rows_are;
                   in_names = given-in composed_names the_answer names names₂ the_list a names-fit.0 names-fit.2;
                   in_diagnostics = given-in group_diag_numbers the_answer diags diags₁ the_list a d.0 d.2;
                   stay = tt;
@@ -253,7 +278,7 @@ module _ (m : Tables) (rows names diags rows₁ names₁ diags₁ : List ℕ) (e
   whole = answer_for m rows names diags
 
   -- a refusal, with zeros in the outputs
-  refused-into : (z : Result GroupListed Told) → z ≡ handed listed whole → T (not (is_given whole)) → (rows' names' diags' : List ℕ) → rows' ≡ zeros (length rows)
+  refused-into : (z : Result Listed Told) → z ≡ handed listed whole → T (not (is_given whole)) → (rows' names' diags' : List ℕ) → rows' ≡ zeros (length rows)
       → names' ≡ zeros (length names) → diags' ≡ zeros (length diags) → GroupListedInto m rows names diags z rows' names' diags'
   refused-into z e t rows' names' diags' u v w =
       record {
@@ -264,14 +289,14 @@ module _ (m : Tables) (rows names diags rows₁ names₁ diags₁ : List ℕ) (e
       }
 
   -- the tables are not accepted
-  pub tables-refused : (r : Told) → q ≡ Err r → (z : Result GroupListed Told) → IsErrAnd z (λ y. y ≡ r) → GroupListedInto m rows names diags z rows₁ names₁ diags₁
+  pub tables-refused : (r : Told) → q ≡ Err r → (z : Result Listed Told) → IsErrAnd z (λ y. y ≡ r) → GroupListedInto m rows names diags z rows₁ names₁ diags₁
   tables-refused r i z j =
       let fs = refused-is m q h r i in
       let a : whole ≡ refused fs.0 = refused-answer (room_in (length rows) (length diags)) (length names) m fs.0 fs.1 fs.2 in
       refused-into z (hands-refused listed z whole fs.0 a r (passed z r j) fs.3) (subst (λ (b : Answer GroupList). T (not (is_given b))) (sym a) tt) rows₁ names₁ diags₁ e f g
 
   -- they are: rows₂, names₂ and diags₂ are what was written into the cleared outputs
-  module _ (i : q ≡ Ok tt) (z : Result GroupListed Told) (rows₂ names₂ diags₂ : List ℕ) (w : Lists (answer_of m rows₁ names₁ diags₁) rows₁ names₁ diags₁ z rows₂ names₂ diags₂) where
+  module _ (i : q ≡ Ok tt) (z : Result Listed Told) (rows₂ names₂ diags₂ : List ℕ) (w : Lists (answer_of m rows₁ names₁ diags₁) rows₁ names₁ diags₁ z rows₂ names₂ diags₂) where
     same_answer : answer_of m rows₁ names₁ diags₁ ≡ whole
     same_answer =
         ap₂ (λ (n l : ℕ). group_of (room_in n l) (length names₁) m (group_connections m)) (zeros-length rows₁ (length rows) e) (zeros-length diags₁ (length diags) g)
@@ -287,7 +312,7 @@ module _ (m : Tables) (rows names diags rows₁ names₁ diags₁ : List ℕ) (e
 
     pub given-call : is_err z ≡ false → GroupListedInto m rows names diags z rows₂ names₂ diags₂
     given-call j =
-        let t : T (is_given whole) = came-given whole (ap is_err (sym told-whole) ∙ j) in
+        let t : T (is_given whole) = came-given listed whole (ap is_err (sym told-whole) ∙ j) in
         record {
           answer = told-whole;
           written-rows = written group_row_numbers rows₁ rows₂ (length rows) t e w.in_rows;
@@ -298,5 +323,5 @@ module _ (m : Tables) (rows names diags rows₁ names₁ diags₁ : List ℕ) (e
     pub refused-call : is_err z ≡ true → length rows₂ ≡ length rows₁ → length names₂ ≡ length names₁ → length diags₂ ≡ length diags₁
         → (rows₃ names₃ diags₃ : List ℕ) → rows₃ ≡ zeros (length rows₂) → names₃ ≡ zeros (length names₂) → diags₃ ≡ zeros (length diags₂) → GroupListedInto m rows names diags z rows₃ names₃ diags₃
     refused-call j k l n rows₃ names₃ diags₃ u v w =
-        refused-into z told-whole (came-refused whole (ap is_err (sym told-whole) ∙ j)) rows₃ names₃ diags₃
+        refused-into z told-whole (came-refused listed whole (ap is_err (sym told-whole) ∙ j)) rows₃ names₃ diags₃
         (u ∙ ap zeros (k ∙ zeros-length rows₁ (length rows) e)) (v ∙ ap zeros (l ∙ zeros-length names₁ (length names) f)) (w ∙ ap zeros (n ∙ zeros-length diags₁ (length diags) g))

@@ -1,6 +1,5 @@
 -- The lengths that composing relies on: no feature of a match has a prefix of more than ten names, and no name more than 63 bytes. Assumes nothing.
 use mathlib.Core.Bool.{Bool, true, false, ◌&&◌}
-use mathlib.Core.Option.{Option, none, some}
 use mathlib.Core.Path.{◌≡◌, sym, subst}
 use mathlib.Core.List.{List, [], ◌∷◌}
 use Prim.Native.Nat.{ℕ, suc, ◌+◌, ◌*◌, ◌/◌, ◌≤◌, ◌<◌}
@@ -8,6 +7,7 @@ use native.Mathlib.Omega.{arith}
 use native.Mathlib.Decide.{dec_lt}
 use lib.Dec.{T, leb, leb→le}
 use lib.ListN.{length, take, drop, get_or-eq_default}
+use Rattle.std.specs.Prelude.{Option, Some, None}
 use Rattle.as5506.specs.Lists.{keep, first_of, up_to, all_of, same_bytes}
 use Rattle.as5506.specs.Tables.{Tables, missing, present, Ref, ref, letter_n, letter_u, letter_e, count, n_start, n_length, name_in, x_count, source, destination, e_classifier, x_feat}
 use Rattle.as5506.specs.Names.{name_byte, good_name, key}
@@ -30,8 +30,8 @@ abbrev ShortFeature : Feature → Type 0
 ShortFeature f = length f.prefix ≤ depth_limit
 
 abbrev ShortGroup : Option Expansion → Type 0
-ShortGroup none = Unit {0}
-ShortGroup (some x) = All ShortFeature x.features
+ShortGroup None = Unit {0}
+ShortGroup (Some x) = All ShortFeature x.features
 
 abbrev ShortEnds : GroupConnection → Type 0
 ShortEnds b = ShortGroup b.src_group × ShortGroup b.dst_group
@@ -64,8 +64,8 @@ module _ (m : Tables) (ok : T (accepted m)) where
 
   declared-short : (c : ℕ) (e : Option ℕ) → ShortGroup (declared_by m c e)
   unfolding declared_by
-  declared-short c none = tt
-  declared-short c (some e) = classifier-short (present (e_classifier m e).type) c (e_classifier m e)
+  declared-short c None = tt
+  declared-short c (Some e) = classifier-short (present (e_classifier m e).type) c (e_classifier m e)
 
   typed-short : (c : ℕ) (name : List ℕ) (d : Resolved) → ShortGroup (typed_by m c name d)
   unfolding typed_by
@@ -85,9 +85,9 @@ module _ (m : Tables) (ok : T (accepted m)) where
 
   connection-short : (x : ℕ) (a b : Option ℕ) → All ShortEnds (group_connection m x a b)
   unfolding group_connection
-  connection-short x none b = tt
-  connection-short x (some a) none = tt
-  connection-short x (some a) (some b) = ((endpoint-short a (x_feat m source x), endpoint-short b (x_feat m destination x)), tt)
+  connection-short x None b = tt
+  connection-short x (Some a) None = tt
+  connection-short x (Some a) (Some b) = ((endpoint-short a (x_feat m source x), endpoint-short b (x_feat m destination x)), tt)
 
   connections-short : All ShortEnds (group_connections m)
   unfolding group_connections
@@ -99,8 +99,8 @@ module _ (m : Tables) (ok : T (accepted m)) where
 -- ---- their matches
 
 abbrev ShortPartner : Option Feature → Type 0
-ShortPartner none = Unit {0}
-ShortPartner (some d) = ShortFeature d
+ShortPartner None = Unit {0}
+ShortPartner (Some d) = ShortFeature d
 
 abbrev ShortMatch : Match → Type 0
 ShortMatch p = ShortFeature p.feature × ShortPartner p.partner
@@ -118,9 +118,9 @@ module _ (m : Tables) where
 
   matches-by-short : (b : GroupConnection) (s d : Option Expansion) → ShortGroup s → ShortGroup d → All ShortMatch (matches_by m b s d)
   unfolding matches_by
-  matches-by-short b none d t u = tt
-  matches-by-short b (some s) none t u = tt
-  matches-by-short b (some s) (some d) t u =
+  matches-by-short b None d t u = tt
+  matches-by-short b (Some s) None t u = tt
+  matches-by-short b (Some s) (Some d) t u =
       all-mapped ShortFeature ShortMatch (λ (f : Feature). record { connection = b; feature = f; partner = partner m f d.features })
       (λ f h. (h, partner-short f d.features u)) s.features t
 
@@ -133,8 +133,8 @@ module _ (m : Tables) where
 
 pair-short : (b : GroupConnection) (s : Feature) (d : Option Feature) → ShortFeature s → ShortPartner d → All Short (pair_by b s d)
 unfolding pair_by
-pair-short b s none h u = tt
-pair-short b s (some d) h u = ((h, u), tt)
+pair-short b s None h u = tt
+pair-short b s (Some d) h u = ((h, u), tt)
 
 pub pairs-short : (m : Tables) → T (accepted m) → All Short (pairs_of (matches m (group_connections m)))
 unfolding pairs_of

@@ -3,14 +3,14 @@ use Rattle.std.specs.Prelude.{◌⊎◌, ◌≡◌, List, ℕ, length, Result, O
 use Rattle.as5506.specs.Tables.{Tables}
 use Rattle.as5506.specs.Answers.{Answer, handed}
 use Rattle.as5506.specs.declared.Refusal.{Refusal as Told}
+use Rattle.as5506.specs.declared.Listed.{Listed}
 use Rattle.as5506.specs.GroupList.{group_connections}
 use Rattle.as5506.specs.Listing.{GroupList, group_of, group_answer}
 use Rattle.as5506.specs.Layout.{room_in, group_row_numbers, group_diag_numbers, composed_names, output}
 use Rattle.lent.specs.Answered.{AnswerIn}
-use Rattle.group_list.specs.declared.GroupListed.{GroupListed}
 
 -- how many rows and diagnostics a list has
-abbrev pub listed : GroupList → GroupListed
+abbrev pub listed : GroupList → Listed
 listed g = record { rows = length g.rows; diagnostics = length g.diags }
 
 -- the definition's answer for the tables m and outputs of these lengths
@@ -19,14 +19,14 @@ answer_for m rows names diags = group_answer (room_in (length rows) (length diag
 
 -- THE CONTRACT: a call with the outputs `rows`, `names` and `diags`, for which the definition's answer is `wanted`, answers z and leaves rows', names' and
 -- diags' in them
-pub record GroupListedAs (wanted : Answer GroupList) (rows names diags : List ℕ) (z : Result GroupListed Told) (rows' names' diags' : List ℕ) : Type 0 where
+pub record GroupListedAs (wanted : Answer GroupList) (rows names diags : List ℕ) (z : Result Listed Told) (rows' names' diags' : List ℕ) : Type 0 where
   pub answer : z ≡ handed listed wanted
   pub written-rows : rows' ≡ output (length rows) group_row_numbers wanted
   pub written-names : names' ≡ output (length names) composed_names wanted
   pub written-diagnostics : diags' ≡ output (length diags) group_diag_numbers wanted
 
 -- of the call over numbers: the room is what the outputs hold
-abbrev pub GroupListedInto : Tables → List ℕ → List ℕ → List ℕ → Result GroupListed Told → List ℕ → List ℕ → List ℕ → Type 0
+abbrev pub GroupListedInto : Tables → List ℕ → List ℕ → List ℕ → Result Listed Told → List ℕ → List ℕ → List ℕ → Type 0
 GroupListedInto m rows names diags z rows' names' diags' = GroupListedAs (answer_for m rows names diags) rows names diags z rows' names' diags'
 
 -- ---- accepted tables, before a refusal clears the outputs
@@ -35,12 +35,12 @@ abbrev pub answer_of : Tables → List ℕ → List ℕ → List ℕ → Answer 
 answer_of m rows names diags = group_of (room_in (length rows) (length diags)) (length names) m (group_connections m)
 
 -- names are composed once all rows are known to find room: on 13 and 11 their output is as it was
-unfoldable pub NamesStay : Result GroupListed Told → List ℕ → List ℕ → Type 0
+unfoldable pub NamesStay : Result Listed Told → List ℕ → List ℕ → Type 0
 NamesStay (Ok l) names names' = Unit {0}
 NamesStay (Err r) names names' = (r.number ≡ 13) ⊎ (r.number ≡ 11) → names' ≡ names
 
 -- a call for which the definition's answer is `wanted` answers z and leaves rows', names' and diags' in the outputs
-pub record Lists (wanted : Answer GroupList) (rows names diags : List ℕ) (z : Result GroupListed Told) (rows' names' diags' : List ℕ) : Type 0 where
+pub record Lists (wanted : Answer GroupList) (rows names diags : List ℕ) (z : Result Listed Told) (rows' names' diags' : List ℕ) : Type 0 where
   pub answer : z ≡ handed listed wanted
   pub in_rows : AnswerIn group_row_numbers wanted rows rows'
   pub in_names : AnswerIn composed_names wanted names names'

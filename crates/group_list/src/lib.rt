@@ -10,8 +10,8 @@ ghost use Rattle.group_list.specs.Answer.{answer_of, Lists, GroupListedInto};
 ghost use Rattle.group_list.specs.Ready.{MatchRoom};
 
 use as5506::{
-    DIAGNOSTIC_NUMBERS, E_NUMBERS, FEATURE_NUMBERS, N_NUMBERS, ROW_NUMBERS, Reason, Refusal,
-    TABLE_ROWS, U_NUMBERS,
+    DIAGNOSTIC_NUMBERS, E_NUMBERS, FEATURE_NUMBERS, Listed, N_NUMBERS, ROW_NUMBERS, Reason,
+    Refusal, TABLE_ROWS, U_NUMBERS,
 };
 use group_match::CALM_NUMBERS;
 use lent::Tables;
@@ -31,13 +31,6 @@ const SMALL_CALM: usize = SMALL_ROWS * CALM_NUMBERS;
 const LARGE_KEPT: usize = TABLE_ROWS * FEATURE_NUMBERS;
 
 const LARGE_CALM: usize = TABLE_ROWS * CALM_NUMBERS;
-
-// How many rows and diagnostics were written.
-#[derive(Clone, Copy)]
-pub struct GroupListed {
-    pub rows: usize,
-    pub diagnostics: usize,
-}
 
 // Matches the groups of all connections of accepted tables, in room for the links of E and U rows, for a feature and a number of each name, and for
 // what is known of visits. The last two are cleared for each walk, so no more of them is handed on than the tables have use for. KEPT and CALM are
@@ -96,29 +89,19 @@ pub fn list_accepted(
     rows: &mut [u32],
     names: &mut [u8],
     diagnostics: &mut [u32],
-) -> Result<GroupListed, Refusal>
+) -> Result<Listed, Refusal>
     requires { T (accepted (model m.now)) }
     ensures { Lists
         (answer_of (model m.now) rows.old names.old diagnostics.old)
         rows.old names.old diagnostics.old result rows.new names.new diagnostics.new }
 {
-    let Some(tally) = match_all(m, rows, diagnostics) else {
-        return Err(Refusal::from(Reason::Visits));
-    };
-    if rows.len() < tally.used {
-        return Err(Refusal::from(Reason::Rows));
-    }
-    let count = tally.used / ROW_NUMBERS;
-    let used = group_names::compose_names(m, rows, count, names);
-    if names.len() < used {
-        return Err(Refusal::from(Reason::Names));
-    }
-    if diagnostics.len() < tally.noted {
-        return Err(Refusal::from(Reason::Diagnostics));
-    }
-    Ok(GroupListed {
-        rows: count,
-        diagnostics: tally.noted / DIAGNOSTIC_NUMBERS,
+    let tally = match_all(m, rows, diagnostics).ok_or(Refusal::from(Reason::Visits))?;
+    let used = tally.used.ok_or(Refusal::from(Reason::Rows))?;
+    group_names::compose_names(m, &mut rows[..used], names).ok_or(Refusal::from(Reason::Names))?;
+    let noted = tally.noted.ok_or(Refusal::from(Reason::Diagnostics))?;
+    Ok(Listed {
+        rows: used / ROW_NUMBERS,
+        diagnostics: noted / DIAGNOSTIC_NUMBERS,
     })
 }
 
@@ -129,7 +112,7 @@ pub fn expand_feature_group_connections(
     rows: &mut [u32],
     names: &mut [u8],
     diagnostics: &mut [u32],
-) -> Result<GroupListed, Refusal>
+) -> Result<Listed, Refusal>
     ensures { GroupListedInto (model m.now) rows.old names.old diagnostics.old result rows.new names.new diagnostics.new }
 {
     clear(rows, names, diagnostics);

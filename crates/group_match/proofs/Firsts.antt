@@ -1,13 +1,13 @@
 -- First appearances: what a walk keeps of a destination, that it finds room, and that the first feature of a name is among them. Assumes nothing.
 use mathlib.Core.Bool.{Bool, true, false}
 use mathlib.Core.Path.{◌≡◌, refl}
-use mathlib.Core.Option.{Option}
 use mathlib.Core.List.{List, [], ◌∷◌, map}
 use Prim.Native.Nat.{ℕ, zero, suc, ◌+◌, ◌≤◌, ◌<◌}
 use native.Mathlib.Omega.{arith}
 use lib.Dec.{eqb}
 use lib.ListN.{length, get_or, set, length-set}
 use borrow.Author.Tests.{eqb-true, eqb-false}
+use Rattle.std.specs.Prelude.{Option}
 use Rattle.as5506.specs.Lists.{keep, put_if, first_of}
 use Rattle.as5506.specs.Tables.{Tables}
 use Rattle.as5506.specs.Groups.{Feature}

@@ -15,11 +15,11 @@ use Rattle.tables.proofs.Facts.{facts}
 use Rattle.links.specs.declared.Links.{Links}
 use Rattle.sink.specs.declared.Sink.{Sink}
 use Rattle.sink.specs.declared.Tally.{Tally}
-use Rattle.sink.specs.Take.{Held, held}
-use Rattle.sink.specs.Dull.{Bounded}
-use Rattle.group_match.specs.Matching.{Lists, over, after, after_all, connection_at, connections_at, lists_of}
+use Rattle.sink.specs.Take.{nothing_used, Held, held}
+use Rattle.lent.specs.Append.{filled}
+use Rattle.group_match.specs.Matching.{Lists, over, lists, after, after_all, connection_at, connections_at, lists_of}
 use Rattle.group_match.specs.Walked.{lists_in, listed}
-use Rattle.group_match.specs.Ready.{RoomReady, Fits, MatchReady}
+use Rattle.group_match.specs.Ready.{RoomReady, MatchReady}
 
 module _ (m : Tables) where
   -- ---- connections, one after the other
@@ -56,12 +56,11 @@ module _ (m : Tables) where
 
   pub record Goes (h₀ h : Held) (i : ℕ) : Type 0 where
     pub names : length h.memo ≡ length h₀.memo
-    pub bounded : Bounded h
     pub left : after_all m (connections_from i) (lists_in h) ≡ all h₀
 
-  pub goes_start : (h : Held) → Bounded h → Goes h h 0
+  pub goes_start : (h : Held) → Goes h h 0
   unfolding group_connections connection_at
-  goes_start h b = record { names = refl; bounded = b; left = ap (λ (bs : List GroupConnection). after_all m bs (lists_in h)) (rw sub-zero) }
+  goes_start h = record { names = refl; left = ap (λ (bs : List GroupConnection). after_all m bs (lists_in h)) (rw sub-zero) }
 
   module _ (h₀ h : Held) (i : ℕ) (k : Goes h₀ h i) where
     pub goes_end : x_count m ≤ i → lists_in h ≡ all h₀
@@ -75,7 +74,7 @@ module _ (m : Tables) where
       -- the row gives no connection
       pub goes_past : [] ≡ connections_at m i → Goes h₀ h (i + 1)
       unfolding after_all
-      goes_past n = record { names = k.names; bounded = k.bounded; left = ap (λ (bs : List GroupConnection). after_all m (connections_from (i + 1)) (after_all m bs (lists_in h))) n ∙ one_more }
+      goes_past n = record { names = k.names; left = ap (λ (bs : List GroupConnection). after_all m (connections_from (i + 1)) (after_all m bs (lists_in h))) n ∙ one_more }
 
       -- it gives one: z is the answer for it
       module _ (b : GroupConnection) (one : b ∷ [] ≡ connections_at m i) (t : Held) (z : Option ℕ) (f : listed z t ≡ after m b (lists_in h)) where
@@ -87,11 +86,16 @@ module _ (m : Tables) where
         unfolding listed
         goes_over q = sym (all-over (connections_from (i + 1))) ∙ (rw q at after-one)
 
-        pub goes_on : (v : ℕ) → z ≡ Some v → Fits (Some v) h t → Goes h₀ t (i + 1)
+        pub goes_on : (v : ℕ) → z ≡ Some v → length t.memo ≡ length h.memo → Goes h₀ t (i + 1)
         unfolding listed
-        goes_on v q s = record { names = s.0 ∙ k.names; bounded = s.1; left = rw q at after-one }
+        goes_on v q s = record { names = s ∙ k.names; left = rw q at after-one }
 
 -- ---- the answer, with what the lent slices hold then
+
+-- nothing is used of the outputs at first
+pub all_new : (m : Tables) (bs : List GroupConnection) (rows notes : List ℕ) (y : Tally) → y ≡ nothing_used
+    → after_all m bs (lists (filled rows y.used) (filled notes y.noted)) ≡ after_all m bs (lists (filled rows (Some 0)) (filled notes (Some 0)))
+all_new m bs rows notes y e = ap (λ (t : Tally). after_all m bs (lists (filled rows t.used) (filled notes t.noted))) e
 
 pub into_over : (r : Option Tally) (rows notes : List ℕ) (l : Lists) → r ≡ None → over ≡ l → lists_of r rows notes ≡ l
 unfolding lists_of

@@ -1,14 +1,13 @@
 -- A search of what was kept finds the definition's partner, and a walk of a source leaves its matches. Assumes nothing.
 use mathlib.Core.Bool.{Bool, true, false}
 use mathlib.Core.Path.{◌≡◌, refl, sym, ap, subst, ◌∙◌}
-use mathlib.Core.Option.{Option, none, some}
 use mathlib.Core.List.{List, [], ◌∷◌, ◌++◌, map, append_assoc, append-nil}
 use Prim.Native.Nat.{ℕ, suc, ◌+◌, ◌*◌, ◌≤◌}
 use native.Mathlib.Omega.{arith}
 use native.Mathlib.Nat.{add-zero}
 use lib.ListN.{length, get_or, take, drop, length-replicate}
 use lib.Seq.{get_or-drop, drop-drop, take_at, drop_at}
-use Rattle.std.specs.Prelude.{Option as Answer, Some, None}
+use Rattle.std.specs.Prelude.{Option, Some, None}
 use Rattle.as5506.specs.Lists.{span, keep, put_if, first_of, up_to, each, zeros, same_bytes}
 use Rattle.as5506.specs.Tables.{Tables}
 use Rattle.as5506.specs.Names.{key}
@@ -33,11 +32,11 @@ use Rattle.group_match.proofs.Firsts.{named, firsts-few, all_firsts, first-of-fi
 
 module _ (kept : List ℕ) where
   -- the place that is found holds the feature that is found
-  abbrev pub Agrees : Answer ℕ → Option Feature → Type 0
-  Agrees None none = Unit {0}
-  Agrees None (some d) = ⊥
-  Agrees (Some i) none = ⊥
-  Agrees (Some i) (some d) = take feature_numbers (drop (i * feature_numbers) kept) ≡ feature_block d
+  abbrev pub Agrees : Option ℕ → Option Feature → Type 0
+  Agrees None None = Unit {0}
+  Agrees None (Some d) = ⊥
+  Agrees (Some i) None = ⊥
+  Agrees (Some i) (Some d) = take feature_numbers (drop (i * feature_numbers) kept) ≡ feature_block d
 
   module _ (p : ℕ → Bool) where
     abbrev test : ℕ → Bool
@@ -107,12 +106,12 @@ module _ (m : Tables) (size : ℕ) (x : Expansion) (fine : All (Fine size) x.fea
 unfoldable pub Leaves : Tables → ℕ → ℕ → ℕ → Option Expansion → Take → Type 0
 Leaves m conn src dst d take =
     (a : Option Expansion) (s : Expansion) (h : Held) →
-    let ms : List Match = matches_by m (between conn src dst a d) (some s) d in
+    let ms : List Match = matches_by m (between conn src dst a d) (Some s) d in
     ((take_all take s.features h).out ≡ append_all (match_pieces ms) h.out) × ((take_all take s.features h).notes ≡ append_all (note_pieces ms) h.notes)
 
 module _ (m : Tables) (q : Matching) (d : Expansion) (agrees : (f : Feature) → Agrees q.kept.now (partner_of m q.kept.now f.name) (partner m f d.features)) (a : Option Expansion) where
   abbrev b : GroupConnection
-  b = between q.connection q.source q.destination a (some d)
+  b = between q.connection q.source q.destination a (Some d)
 
   abbrev ms : List Feature → List Match
   ms fs = map (λ f. record { connection = b; feature = f; partner = partner m f d.features }) fs
@@ -121,21 +120,21 @@ module _ (m : Tables) (q : Matching) (d : Expansion) (agrees : (f : Feature) →
   doing = taken (Matches q) m
 
   module _ (f : Feature) (h : Held) where
-    row-by : (i : Answer ℕ) (o : Option Feature) → Agrees q.kept.now i o → (rest : List (List ℕ))
+    row-by : (i : Option ℕ) (o : Option Feature) → Agrees q.kept.now i o → (rest : List (List ℕ))
         → append_all rest (match_by i q f h).out ≡ append_all (match_piece b f o ++ rest) h.out
     unfolding match_by match_piece append_all
-    row-by None none t rest = refl
-    row-by None (some g) t rest = absurd t
-    row-by (Some i) none t rest = absurd t
-    row-by (Some i) (some g) t rest = ap (λ (l : List ℕ). append_all rest (append (match_block q.connection q.source q.destination (feature_block f) l) h.out)) t
+    row-by None None t rest = refl
+    row-by None (Some g) t rest = absurd t
+    row-by (Some i) None t rest = absurd t
+    row-by (Some i) (Some g) t rest = ap (λ (l : List ℕ). append_all rest (append (match_block q.connection q.source q.destination (feature_block f) l) h.out)) t
 
-    note-by : (i : Answer ℕ) (o : Option Feature) → Agrees q.kept.now i o → (rest : List Diag)
+    note-by : (i : Option ℕ) (o : Option Feature) → Agrees q.kept.now i o → (rest : List Diag)
         → append_all (map diag_block rest) (match_by i q f h).notes ≡ append_all (map diag_block (match_diag b f o ++ rest)) h.notes
     unfolding match_by match_diag append_all
-    note-by None none t rest = refl
-    note-by None (some g) t rest = absurd t
-    note-by (Some i) none t rest = absurd t
-    note-by (Some i) (some g) t rest = refl
+    note-by None None t rest = refl
+    note-by None (Some g) t rest = absurd t
+    note-by (Some i) None t rest = absurd t
+    note-by (Some i) (Some g) t rest = refl
 
   rows_left : (fs : List Feature) (h : Held) → (take_all doing fs h).out ≡ append_all (match_pieces (ms fs)) h.out
   unfolding take_all taken match_pieces append_all
@@ -158,14 +157,14 @@ counted m [] h = refl
 counted m (f ∷ fs) h = counted m fs h
 
 -- WHAT A PURPOSE LEAVES of a source: nothing where the destination has no group
-pub leaves_none : (m : Tables) (conn src dst : ℕ) → Leaves m conn src dst none (taken Count m)
+pub leaves_none : (m : Tables) (conn src dst : ℕ) → Leaves m conn src dst None (taken Count m)
 unfolding Leaves matches_by match_pieces note_pieces diags_matched append_all
 leaves_none m conn src dst a s h =
     (ap (λ (h : Held). h.out) (counted m s.features h), ap (λ (h : Held). h.notes) (counted m s.features h))
 
 -- and its matches with the features that were kept of it
 pub leaves-matches : (m : Tables) (q : Matching) (d : Expansion) → ((f : Feature) → Agrees q.kept.now (partner_of m q.kept.now f.name) (partner m f d.features))
-    → Leaves m q.connection q.source q.destination (some d) (taken (Matches q) m)
+    → Leaves m q.connection q.source q.destination (Some d) (taken (Matches q) m)
 unfolding Leaves matches_by
 leaves-matches m q d agrees a s h = (rows_left m q d agrees a s.features h, notes-left m q d agrees a s.features h)
 

@@ -1,14 +1,12 @@
 -- The walks of both ends of a connection: what each function of the code leaves. Assumes nothing.
 use mathlib.Core.Bool.{Bool, true, false, ◌||◌}
-use mathlib.Core.Path.{◌≡◌, refl, sym, ap, ap₂, subst, ◌∙◌}
-use mathlib.Core.Option.{none, some}
-use mathlib.Core.Option.{Option as Maybe}
-use mathlib.Core.List.{List, [], ◌∷◌, ◌++◌, map}
+use mathlib.Core.Path.{◌≡◌, refl, sym, ap, ap₂, ◌∙◌}
+use mathlib.Core.List.{List, [], ◌++◌, map}
 use Prim.Native.Nat.{ℕ, suc, ◌+◌, ◌≤◌}
 use native.Mathlib.Nat.{zero-add}
 use native.Mathlib.Omega.{arith}
 use borrow.Author.Tests.{lt-ltb, le-ltb}
-use lib.ListN.{length, take, drop, length-set, length-append, length-replicate}
+use lib.ListN.{length, take, drop, length-append}
 use lib.Seq.{sets, sets-eq, take_at}
 use Rattle.std.specs.Prelude.{Option, Some, None}
 use Rattle.as5506.specs.Lists.{zeros}
@@ -19,28 +17,27 @@ use Rattle.as5506.specs.Layout.{feature_block}
 use Rattle.as5506.proofs.Laws.{All, each_map}
 use Rattle.lent.specs.Append.{Filled, filled, append_all, together}
 use Rattle.lent.specs.Model.{model}
-use Rattle.lent.proofs.Append.{all_fit}
+use Rattle.lent.proofs.Pieces.{all_fit}
 use Rattle.links.specs.declared.Links.{Links}
 use Rattle.links.specs.Links.{link_of, LinkedBy}
 use Rattle.links.specs.Walk.{Groups, groups_of, visit_link}
 use Rattle.links.proofs.Walk.{linked}
 use Rattle.sink.specs.declared.Matching.{Matching}
-use Rattle.sink.specs.declared.Purpose.{Purpose}
-use Rattle.sink.specs.declared.Purpose.TheVariants.{Count, All as Every, First, Match as Matches}
-use Rattle.sink.specs.Take.{Held, partner_of, first_by, match_by, taken, Ready}
+use Rattle.sink.specs.declared.Purpose.TheVariants.{Count, First, Match as Matches}
+use Rattle.sink.specs.declared.Tally.{Tally}
+use Rattle.sink.specs.Take.{nothing_used, Held, taken, Ready}
 use Rattle.group_walk.specs.declared.Walk.{Walk}
-use Rattle.group_walk.specs.Run.{Take, take_all, going, run, state_of}
-use Rattle.group_walk.specs.Calm.{Passable, CalmAfter}
-use Rattle.group_walk.specs.Walks.{groups, does, dulls, VisitReady}
+use Rattle.group_walk.specs.Run.{Take, going, run, state_of}
+use Rattle.group_walk.specs.Walks.{groups, dulls, VisitReady}
 use Rattle.group_walk.proofs.Laws.{run-done, run-over}
-use Rattle.group_walk.proofs.Calm.{passable-zeros}
+use Rattle.group_walk.proofs.Calm.{calm-zeros}
 use Rattle.endpoint.specs.declared.Group.{Group}
-use Rattle.endpoint.specs.Ends.{expanded_at}
+use Rattle.endpoint.specs.Ends.{expanded}
 use Rattle.group_match.specs.declared.GroupConnection.{GroupConnection as Pair}
 use Rattle.group_match.specs.Matching.{group_at, between, match_pieces, note_pieces, Lists, over, lists, after_by, after}
 use Rattle.group_match.specs.Firsts.{firsts, first_blocks, KeepsFirsts}
 use Rattle.group_match.specs.Walked.{cleared, walked_from, lists_in, listed, connection_of}
-use Rattle.group_match.specs.Ready.{WalkReady, RoomReady, Fits}
+use Rattle.group_match.specs.Ready.{RoomReady}
 use Rattle.group_match.proofs.Range.{Fine, expansion-fine}
 use Rattle.group_match.proofs.Firsts.{wrote-firsts}
 use Rattle.group_match.proofs.Partners.{few-firsts, blocks-firsts, few-kept, partner-kept, Leaves, leaves_none, leaves-matches, ready-zeros}
@@ -52,59 +49,22 @@ expansion g to = visit_link g (suc depth_limit) to false []
 
 -- the link of an end: z is what `endpoint` gave
 module _ (m : Tables) (component feature : ℕ) (few : count m letter_u ≤ 4096) where
-  pub link_missing : (r : Option ℕ) → r ≡ None → none ≡ endpoint m component feature → (l : Links) → LinkedBy m l → group_at (groups_of m l) r ≡ endpoint m component feature
+  pub link_missing : (r : Option ℕ) → r ≡ None → None ≡ endpoint m component feature → (l : Links) → LinkedBy m l → group_at (groups_of m l) r ≡ endpoint m component feature
   unfolding group_at
   link_missing r q e l k = rw q e
 
-  pub link_found : (z : Group) (v : ℕ) → expanded_at m (Some z) ≡ endpoint m component feature → v ≡ link_of m z.package (ref missing z.type_name missing) → (l : Links) → LinkedBy m l → group_at (groups_of m l) (Some v) ≡ endpoint m component feature
+  pub link_found : (z : Group) (v : ℕ) → Some (expanded m z) ≡ endpoint m component feature → v ≡ link_of m z.package (ref missing z.type_name missing) → (l : Links) → LinkedBy m l → group_at (groups_of m l) (Some v) ≡ endpoint m component feature
   unfolding expand expand_feature_group group_at
   link_found z v e f l k =
-      ap (λ (v : ℕ). some (expansion (groups_of m l) v)) f
-      ∙ ap some (linked m l.nested.now l.extends.now l.inverse.now k few (suc depth_limit) z.package (ref missing z.type_name missing) false [])
+      ap (λ (v : ℕ). Some (expansion (groups_of m l) v)) f
+      ∙ ap Some (linked m l.nested.now l.extends.now l.inverse.now k few (suc depth_limit) z.package (ref missing z.type_name missing) false [])
       ∙ e
 
 -- ---- `walk_group`: it clears before it visits
 
-memory-by : (b : Bool) (f : Feature) (h : Held) → length (first_by b f h).memo ≡ length h.memo
-unfolding first_by
-memory-by true f h = length-set h.memo f.name 1
-memory-by false f h = refl
-
-memory-match : (i : Option ℕ) (q : Matching) (f : Feature) (h : Held) → length (match_by i q f h).memo ≡ length h.memo
-unfolding match_by
-memory-match None q f h = length-set h.memo f.name 1
-memory-match (Some i) q f h = length-set h.memo f.name (i + 2)
-
-memory-size : (p : Purpose) (m : Tables) (f : Feature) (h : Held) → length (taken p m f h).memo ≡ length h.memo
-unfolding taken
-memory-size Count m f h = refl
-memory-size Every m f h = refl
-memory-size First m f h = memory-by _ f h
-memory-size (Matches q) m f h = memory-match (partner_of m q.kept.now f.name) q f h
-
-memory-all : (p : Purpose) (m : Tables) (fs : List Feature) (h : Held) → length (take_all (taken p m) fs h).memo ≡ length h.memo
-unfolding take_all
-memory-all p m [] h = refl
-memory-all p m (f ∷ fs) h = memory-all p m fs (taken p m f h) ∙ memory-size p m f h
-
-module _ (w : Walk) (h : Held) (memo : List ℕ) (e : memo ≡ zeros (length h.memo)) where
-  abbrev start : Held
-  start = record { memo = memo; out = h.out; notes = h.notes }
-
-  pub visit_ready : WalkReady w.purpose (model w.tables.now) h → (calm names : List ℕ) (n : ℕ) → calm ≡ zeros n → names ≡ [] → VisitReady w start calm names 11
-  visit_ready r calm names n f g =
-      record {
-        ready = subst (Ready w.purpose (model w.tables.now)) (sym e) r.0;
-        deep = rw g (omega arith);
-        passable = subst (Passable (groups w) (dulls w) start) (sym f) (passable-zeros (groups w) (dulls w) start n r.1);
-      }
-
-  pub walk_fits : (z : Option ℕ) (t : Held) (x : Expansion) (calm : List ℕ) → state_of z t ≡ run (does w) (going start 0) x → CalmAfter z (groups w) (dulls w) t calm → Fits z h t
-  unfolding CalmAfter Passable
-  walk_fits None t x calm f c = tt
-  walk_fits (Some v) t x calm f c =
-      let d = run-done (does w) v t start 0 x f in
-      (ap (λ (a : Held). length a.memo) d.0 ∙ memory-all w.purpose (model w.tables.now) x.features start ∙ ap length e ∙ length-replicate (length h.memo) 0, c.0)
+pub visit_ready : (w : Walk) (h : Held) (memo : List ℕ) → memo ≡ zeros (length h.memo) → Ready w.purpose (model w.tables.now) (cleared h).memo
+    → (calm : List ℕ) (n : ℕ) → calm ≡ zeros n → VisitReady w (record { memo = memo; out = h.out; notes = h.notes }) calm
+visit_ready w h memo e r calm n f = record { ready = rw e r; known = rw f (calm-zeros (groups w) (dulls w) _ n) }
 
 -- ---- `keep_firsts`
 
@@ -116,12 +76,12 @@ pub ready_count : (m : Tables) (memo : List ℕ) → Ready Count m memo
 unfolding Ready
 ready_count m memo = tt
 
-module _ (m : Tables) (g : Groups) (own : g.e ≡ m.e) (to : ℕ) (memo kept : List ℕ) (room : RoomReady m memo kept) (t : Held) where
+module _ (m : Tables) (g : Groups) (own : g.e ≡ m.e) (to : ℕ) (memo kept : List ℕ) (room : RoomReady m memo kept) (t : Held) (y : Tally) (new : y ≡ nothing_used) where
   abbrev x : Expansion
   x = expansion g to
 
   abbrev begun : Held
-  begun = record { memo = memo; out = filled kept 0; notes = filled [] 0 }
+  begun = record { memo = memo; out = filled kept y.used; notes = filled [] y.noted }
 
   pub firsts_over : state_of None t ≡ run (taken First m) (going (cleared begun) 0) x → too_many_visits x ≡ true
   firsts_over e = lt-ltb 65536 x.visits (omega (arith, run-over (taken First m) t (cleared begun) 0 x e))
@@ -133,25 +93,29 @@ module _ (m : Tables) (g : Groups) (own : g.e ≡ m.e) (to : ℕ) (memo kept : L
     abbrev blocks : List ℕ
     blocks = first_blocks (length memo) x
 
-    whole : t.out ≡ filled (sets kept 0 blocks) (0 + length blocks)
+    fits : length blocks ≤ length kept
+    fits = omega (arith, blocks-firsts m (length memo) x fine, few-firsts m (length memo) x fine, room.room)
+
+    -- there is room for all blocks
+    whole : t.out ≡ filled (sets kept 0 blocks) (Some (0 + length blocks))
     whole =
         let gs : List Feature = firsts (zeros (length memo)) x.features in
         let one : together (map feature_block gs) ≡ blocks = each_map (λ (p : List ℕ). p) feature_block gs in
-        let fits : length blocks ≤ length kept = omega (arith, blocks-firsts m (length memo) x fine, few-firsts m (length memo) x fine, room.room) in
         ap (λ (h : Held). h.out) (run-done (taken First m) v t (cleared begun) 0 x e).0
         ∙ wrote-firsts m x.features (cleared begun)
-        ∙ all_fit (map feature_block gs) (filled kept 0) (omega (arith, fits, ap length one))
-        ∙ ap (λ (l : List ℕ). filled (sets kept 0 l) (0 + length l)) one
+        ∙ ap (λ (z : Tally). append_all (map feature_block gs) (filled kept z.used)) new
+        ∙ all_fit (map feature_block gs) kept 0 (omega (arith, fits, ap length one))
+        ∙ ap (λ (l : List ℕ). filled (sets kept 0 l) (Some (0 + length l))) one
 
-    -- `out` is what the slice holds then
-    pub firsts_kept : (out : List ℕ) → out ≡ t.out.holds → KeepsFirsts x (Some t.out.used) (length memo) out
-    firsts_kept out f =
-        let used : t.out.used ≡ length blocks = ap (λ (o : Filled). o.used) whole ∙ zero-add (length blocks) in
-        let fits : length blocks ≤ length kept = omega (arith, blocks-firsts m (length memo) x fine, few-firsts m (length memo) x fine, room.room) in
-        let front : out ≡ blocks ++ drop (0 + length blocks) kept = f ∙ ap (λ (o : Filled). o.holds) whole ∙ sets-eq blocks kept 0 (omega (arith, fits)) in (
+    -- z tells what is used, and `out` is what the slice holds then
+    pub firsts_kept : (z : Option ℕ) → z ≡ t.out.used → (out : List ℕ) → out ≡ t.out.holds → KeepsFirsts x z (length memo) out
+    firsts_kept z q out f =
+        let used : z ≡ Some (length blocks) = q ∙ ap (λ (o : Filled ℕ). o.used) whole ∙ ap (λ (n : ℕ). Some n) (zero-add (length blocks)) in
+        let front : out ≡ blocks ++ drop (0 + length blocks) kept = f ∙ ap (λ (o : Filled ℕ). o.holds) whole ∙ sets-eq blocks kept 0 (omega (arith, fits)) in
+        rw (used, front) (
           le-ltb 65536 x.visits (omega (arith, (run-done (taken First m) v t (cleared begun) 0 x e).2)),
-          rw (used, front) (omega (arith, length-append blocks (drop (0 + length blocks) kept))),
-          rw (used, front) (take_at blocks (drop (0 + length blocks) kept) (length blocks) refl),
+          omega (arith, length-append blocks (drop (0 + length blocks) kept)),
+          take_at blocks (drop (0 + length blocks) kept) (length blocks) refl,
         )
 
 -- ---- `walk_source`
@@ -171,32 +135,32 @@ or-true : (a : Bool) → a || true ≡ true
 or-true true = refl
 or-true false = refl
 
-module _ (m : Tables) (conn src dst : ℕ) (d : Maybe Expansion) where
-  abbrev b : Maybe Expansion → GroupConnection
+module _ (m : Tables) (conn src dst : ℕ) (d : Option Expansion) where
+  abbrev b : Option Expansion → GroupConnection
   b a = between conn src dst a d
 
-  over-destination : group_overrun d ≡ true → (a : Maybe Expansion) (rows notes : Filled) → over ≡ after m (b a) (lists rows notes)
+  over-destination : group_overrun d ≡ true → (a : Option Expansion) (rows notes : Filled ℕ) → over ≡ after m (b a) (lists rows notes)
   unfolding after after_by
   over-destination e a rows notes = sym (ap (λ (y : Bool). after_by y (matches_by m (b a) a d) rows notes) (ap (λ (y : Bool). group_overrun a || y) e ∙ or-true (group_overrun a)))
 
-  within : (a : Maybe Expansion) → group_overrun a ≡ false → group_overrun d ≡ false → (rows notes : Filled)
+  within : (a : Option Expansion) → group_overrun a ≡ false → group_overrun d ≡ false → (rows notes : Filled ℕ)
       → after m (b a) (lists rows notes) ≡ lists (append_all (match_pieces (matches_by m (b a) a d)) rows) (append_all (note_pieces (matches_by m (b a) a d)) notes)
   unfolding after after_by
   within a s e rows notes = ap₂ (λ (y z : Bool). after_by (y || z) (matches_by m (b a) a d) rows notes) s e
 
   module _ (f : Take) (few : group_overrun d ≡ false) (leaves : Leaves m conn src dst d f) (h t : Held) where
-    matched-by : (a : Maybe Expansion) (z : Option ℕ) → state_of z t ≡ walked_from f a h → listed z t ≡ after m (b a) (lists_in h)
+    matched-by : (a : Option Expansion) (z : Option ℕ) → state_of z t ≡ walked_from f a h → listed z t ≡ after m (b a) (lists_in h)
     unfolding walked_from state_of listed matches_by match_pieces note_pieces diags_matched append_all after_by after Leaves
-    matched-by none None e = cc
-    matched-by none (Some v) e = let q : t ≡ h = cc in ap lists_in q ∙ sym (within none refl few h.out h.notes)
-    matched-by (some s) None e =
-        sym (ap (λ (y : Bool). after_by (y || group_overrun d) (matches_by m (b (some s)) (some s) d) h.out h.notes)
+    matched-by None None e = cc
+    matched-by None (Some v) e = let q : t ≡ h = cc in ap lists_in q ∙ sym (within None refl few h.out h.notes)
+    matched-by (Some s) None e =
+        sym (ap (λ (y : Bool). after_by (y || group_overrun d) (matches_by m (b (Some s)) (Some s) d) h.out h.notes)
         (lt-ltb 65536 s.visits (omega (arith, run-over f t (cleared h) 0 s e))))
-    matched-by (some s) (Some v) e =
+    matched-by (Some s) (Some v) e =
         let r = run-done f v t (cleared h) 0 s e in
-        let left = leaves (some s) s (cleared h) in
+        let left = leaves (Some s) s (cleared h) in
         ap₂ lists (ap (λ (a : Held). a.out) r.0 ∙ left.0) (ap (λ (a : Held). a.notes) r.0 ∙ left.1)
-        ∙ sym (within (some s) (le-ltb 65536 s.visits (omega (arith, r.2))) few h.out h.notes)
+        ∙ sym (within (Some s) (le-ltb 65536 s.visits (omega (arith, r.2))) few h.out h.notes)
 
 module _ (m : Tables) (g : Groups) (own : g.e ≡ m.e) (pair : Pair) (h t : Held) where
   abbrev gives : Lists
@@ -205,14 +169,14 @@ module _ (m : Tables) (g : Groups) (own : g.e ≡ m.e) (pair : Pair) (h t : Held
   -- the destination has no group
   pub matched_none : pair.to ≡ None → (z : Option ℕ) → state_of z t ≡ walked_from (taken Count m) (group_at g pair.from) h → listed z t ≡ gives
   unfolding group_at
-  matched_none q z f = rw q (matched-by m pair.connection pair.source pair.destination none (taken Count m) refl (leaves_none m pair.connection pair.source pair.destination) h t (group_at g pair.from) z f)
+  matched_none q z f = rw q (matched-by m pair.connection pair.source pair.destination None (taken Count m) refl (leaves_none m pair.connection pair.source pair.destination) h t (group_at g pair.from) z f)
 
   module _ (to : ℕ) (there : pair.to ≡ Some to) (memo kept : List ℕ) (room : RoomReady m memo kept) (kept' : List ℕ) where
     pub matched_over : (r z : Option ℕ) → r ≡ None → z ≡ None → KeepsFirsts (expansion g to) r (length memo) kept' → listed z t ≡ gives
     unfolding listed group_at
     matched_over r z e f k =
         let over-many : too_many_visits (expansion g to) ≡ true = rw e at k in
-        rw (f, there) (over-destination m pair.connection pair.source pair.destination (some (expansion g to)) over-many (group_at g pair.from) h.out h.notes)
+        rw (f, there) (over-destination m pair.connection pair.source pair.destination (Some (expansion g to)) over-many (group_at g pair.from) h.out h.notes)
 
     -- so many numbers are kept
     module _ (used : ℕ) (k : KeepsFirsts (expansion g to) (Some used) (length memo) kept') where
@@ -228,7 +192,7 @@ module _ (m : Tables) (g : Groups) (own : g.e ≡ m.e) (pair : Pair) (h t : Held
       matched_both q ec es ed e z f =
           let kept-is : q.kept.now ≡ first_blocks (length memo) (expansion g to) = e ∙ k.2 in
           rw (there, ← ec, ← es, ← ed)
-          (matched-by m q.connection q.source q.destination (some (expansion g to)) (taken (Matches q) m) k.0
+          (matched-by m q.connection q.source q.destination (Some (expansion g to)) (taken (Matches q) m) k.0
           (leaves-matches m q (expansion g to) (rw kept-is (partner-kept m (length memo) (expansion g to) sound))) h t (group_at g pair.from) z f)
 
 -- what `walk_source` goes by

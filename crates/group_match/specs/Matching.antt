@@ -1,7 +1,5 @@
 -- What group connections leave in the outputs of matches and of diagnostics. Assumes nothing.
-use Rattle.std.specs.Prelude.{Bool, true, false, ◌||◌, ◌≡◌, List, [], ◌∷◌, map, ℕ, suc, Some, None}
-use Rattle.std.specs.Prelude.{Option as Answer}
-use Rattle.std.proofs.Math.Option.{Option, none, some}
+use Rattle.std.specs.Prelude.{Bool, true, false, ◌||◌, ◌≡◌, List, [], ◌∷◌, map, ℕ, suc, Some, None, Option}
 use Rattle.as5506.specs.Lists.{each, when}
 use Rattle.as5506.specs.Tables.{Tables, source, destination}
 use Rattle.as5506.specs.Groups.{Feature, Expansion, depth_limit}
@@ -13,9 +11,9 @@ use Rattle.sink.specs.declared.Tally.{Tally}
 use Rattle.sink.specs.Take.{match_block}
 
 -- the expansion of the group that a link means, if there is one
-unfoldable pub group_at : Groups → Answer ℕ → Option Expansion
-group_at g (Some to) = some (visit_link g (suc depth_limit) to false [])
-group_at g None = none
+unfoldable pub group_at : Groups → Option ℕ → Option Expansion
+group_at g (Some to) = Some (visit_link g (suc depth_limit) to false [])
+group_at g None = None
 
 -- a group connection, by its X row, its components and their groups
 abbrev pub between : ℕ → ℕ → ℕ → Option Expansion → Option Expansion → GroupConnection
@@ -23,8 +21,8 @@ between conn src dst s d = record { conn = conn; src = src; dst = dst; src_group
 
 -- a match, until its names are composed
 unfoldable pub match_piece : GroupConnection → Feature → Option Feature → List (List ℕ)
-match_piece b s none = []
-match_piece b s (some d) = match_block b.conn b.src b.dst (feature_block s) (feature_block d) ∷ []
+match_piece b s None = []
+match_piece b s (Some d) = match_block b.conn b.src b.dst (feature_block s) (feature_block d) ∷ []
 
 unfoldable pub match_pieces : List Match → List (List ℕ)
 match_pieces ms = each (λ p. match_piece p.connection p.feature p.partner) ms
@@ -35,9 +33,9 @@ note_pieces ms = map diag_block (diags_matched ms)
 -- both outputs; or an end has too many visits, whatever they hold
 pub data Lists : Type 0 where
   over : Lists
-  lists : Filled → Filled → Lists
+  lists : Filled ℕ → Filled ℕ → Lists
 
-unfoldable pub after_by : Bool → List Match → Filled → Filled → Lists
+unfoldable pub after_by : Bool → List Match → Filled ℕ → Filled ℕ → Lists
 after_by true ms rows notes = over
 after_by false ms rows notes = lists (append_all (match_pieces ms) rows) (append_all (note_pieces ms) notes)
 
@@ -59,10 +57,10 @@ unfoldable pub connections_at : Tables → ℕ → List GroupConnection
 connections_at m x = each (connection_at m) (when (is_group_connection m x) x)
 
 -- what an answer tells, with what the slices hold
-unfoldable pub lists_of : Answer Tally → List ℕ → List ℕ → Lists
+unfoldable pub lists_of : Option Tally → List ℕ → List ℕ → Lists
 lists_of None rows notes = over
 lists_of (Some t) rows notes = lists (filled rows t.used) (filled notes t.noted)
 
 -- what matching the groups of all connections of the tables m answers, and leaves in the outputs
-abbrev pub MatchedInto : Tables → List ℕ → List ℕ → Answer Tally → List ℕ → List ℕ → Type 0
-MatchedInto m rows notes z rows' notes' = lists_of z rows' notes' ≡ after_all m (group_connections m) (lists (filled rows 0) (filled notes 0))
+abbrev pub MatchedInto : Tables → List ℕ → List ℕ → Option Tally → List ℕ → List ℕ → Type 0
+MatchedInto m rows notes z rows' notes' = lists_of z rows' notes' ≡ after_all m (group_connections m) (lists (filled rows (Some 0)) (filled notes (Some 0)))

@@ -1,28 +1,16 @@
--- What matching asks for: of the tables and their links, of the slices that it works with, and of what a walk carries. Assumes nothing.
-use Rattle.std.specs.Prelude.{◌≡◌, List, ℕ, ◌*◌, ◌≤◌, ◌<◌, T, length, Option, IfSome}
-use Rattle.as5506.specs.Lists.{zeros}
+-- What matching asks for: of the tables and their links, and of the slices that it works with. Assumes nothing.
+use Rattle.std.specs.Prelude.{List, ℕ, ◌*◌, ◌≤◌, ◌<◌, T, length}
 use Rattle.as5506.specs.Tables.{Tables, letter_n, letter_e, count, e_name}
 use Rattle.as5506.specs.Refusals.{accepted}
 use Rattle.as5506.specs.Layout.{feature_numbers}
 use Rattle.links.specs.declared.Links.{Links}
 use Rattle.links.specs.Links.{LinkedBy}
-use Rattle.sink.specs.declared.Purpose.{Purpose}
-use Rattle.sink.specs.Take.{Held, Ready}
-use Rattle.sink.specs.Dull.{Bounded}
-
--- a walk that remembers nothing
-abbrev pub WalkReady : Purpose → Tables → Held → Type 0
-WalkReady p m h = Ready p m (zeros (length h.memo)) × Bounded h
 
 -- the slices that matching works with: a number for each name, and room for a feature of each name
 pub record RoomReady (m : Tables) (memo kept : List ℕ) : Type 0 where
   pub names : (i : ℕ) → i < count m letter_e → e_name m i < length memo
   pub few : length memo ≤ 4096
   pub room : length memo * feature_numbers ≤ length kept
-
--- what is carried goes on fitting them, and the outputs
-abbrev pub Fits : Option ℕ → Held → Held → Type 0
-Fits z h h' = IfSome z (λ visits. (length h'.memo ≡ length h.memo) × Bounded h')
 
 -- all connections: names have a number each, and room for a feature each
 pub record MatchReady (m : Tables) (links : Links) (memo kept : List ℕ) : Type 0 where

@@ -1,6 +1,5 @@
 -- What a walk of a source leaves, and what a connection of the code stands for. Assumes nothing.
 use Rattle.std.specs.Prelude.{List, [], ◌∷◌, ℕ, length, Option, Some, None}
-use Rattle.std.proofs.Math.Option as maybe
 use Rattle.as5506.specs.Lists.{zeros}
 use Rattle.as5506.specs.Groups.{Expansion}
 use Rattle.as5506.specs.GroupList.{GroupConnection as Meant}
@@ -15,9 +14,9 @@ abbrev pub cleared : Held → Held
 cleared h = record { memo = zeros (length h.memo); out = h.out; notes = h.notes }
 
 -- a source that is walked, if there is one
-unfoldable pub walked_from : Take → maybe.Option Expansion → Held → State
-walked_from does maybe.none h = going h 0
-walked_from does (maybe.some x) h = run does (going (cleared h) 0) x
+unfoldable pub walked_from : Take → Option Expansion → Held → State
+walked_from does None h = going h 0
+walked_from does (Some x) h = run does (going (cleared h) 0) x
 
 -- both outputs of what is carried, and what an answer tells of them
 abbrev pub lists_in : Held → Lists

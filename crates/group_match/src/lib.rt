@@ -11,18 +11,17 @@ ghost use Rattle.lent.specs.Model.{model};
 ghost use Rattle.links.specs.declared.Links.{Links};
 ghost use Rattle.links.specs.Links.{LinkedBy};
 ghost use Rattle.links.specs.Walk.{groups_of, visit_link};
-ghost use Rattle.sink.specs.Dull.{Bounded};
-ghost use Rattle.sink.specs.Take.{held, taken, SameBuffers};
+ghost use Rattle.sink.specs.Take.{held, taken, Ready, SameBuffers};
 ghost use Rattle.group_walk.specs.Run.{going, run, state_of};
 ghost use Rattle.group_walk.specs.Walks.{groups, does};
-ghost use Rattle.group_match.specs.Matching.{group_at, after, after_all, connections_at, MatchedInto};
+ghost use Rattle.group_match.specs.Matching.{group_at, after, connections_at, MatchedInto};
 ghost use Rattle.group_match.specs.Walked.{cleared, walked_from, lists_in, listed, connection_of, connection_list};
 ghost use Rattle.group_match.specs.Firsts.{KeepsFirsts};
-ghost use Rattle.group_match.specs.Ready.{WalkReady, RoomReady, Fits, MatchReady};
+ghost use Rattle.group_match.specs.Ready.{RoomReady, MatchReady};
 
 use as5506::{MISSING, X_NUMBERS};
 use columns::{Reference, Side, connection};
-use group_walk::{LEVELS, Walk};
+use group_walk::{LEVELS, Position, Walk};
 use lent::Tables;
 use links::Links;
 use sink::{Matching, Path, Purpose, Sink, Tally};
@@ -43,17 +42,23 @@ struct GroupConnection {
 // Walks the group that a link means, and how many visits that takes; `None` where they are too many. Nothing is remembered of a walk before; the
 // outputs go on behind what is used.
 fn walk_group(walk: &Walk, sink: &mut Sink, calm: &mut [u32], to: u32) -> Option<u32>
-    requires { WalkReady walk.now.purpose (model walk.now.tables.now) (held sink.old) }
+    requires { Ready walk.now.purpose (model walk.now.tables.now) (cleared (held sink.old)).memo }
     ensures walked { state_of result (held sink.new) ≡ run (does walk.now) (going (cleared (held sink.old)) 0) (visit_link (groups walk.now) 11 to false []) }
-    ensures fits { Fits result (held sink.old) (held sink.new) }
+    ensures names { length sink.new.memo.now ≡ length sink.old.memo.now }
     ensures same { SameBuffers sink.old sink.new }
 {
     sink.memo.fill(0);
     calm.fill(0);
-    walk.visit(sink, calm, to, false, &Path::new(), LEVELS, 0)
+    let start = Position {
+        inverse: false,
+        prefix: Path::new(),
+        left: LEVELS,
+    };
+    walk.visit(sink, calm, to, &start, 0)
 }
 
 // Keeps the first appearance of each name of a destination's group: how many numbers these take; `None` where it has too many visits.
+#[tactic(auto, using(crate::proofs::Walks::ready_first))]
 fn keep_firsts<'a>(
     m: &'a Tables<'a>,
     links: &'a Links<'a>,
@@ -74,10 +79,10 @@ fn keep_firsts<'a>(
         memo,
         out: kept,
         notes: &mut [],
-        tally: Tally { used: 0, noted: 0 },
+        tally: Tally::new(),
     };
     walk_group(&walk, &mut sink, calm, to)?;
-    Some(sink.tally.used)
+    sink.tally.used
 }
 
 // Walks the group of a source, if there is one, for a purpose: how many visits that takes; `None` where they are too many.
@@ -90,9 +95,9 @@ fn walk_source<'a>(
     calm: &mut [u32],
     from: Option<u32>,
 ) -> Option<u32>
-    requires { WalkReady purpose (model m.now) (held sink.old) }
+    requires { Ready purpose (model m.now) (cleared (held sink.old)).memo }
     ensures walked { state_of result (held sink.new) ≡ walked_from (taken purpose.entry (model m.now)) (group_at (groups_of (model m.now) links.now) from) (held sink.old) }
-    ensures fits { Fits result (held sink.old) (held sink.new) }
+    ensures names { length sink.new.memo.now ≡ length sink.old.memo.now }
     ensures same { SameBuffers sink.old sink.new }
 {
     let Some(from) = from else {
@@ -117,9 +122,9 @@ fn match_groups<'a>(
     sink: &mut Sink,
     calm: &mut [u32],
 ) -> Option<u32>
-    requires { (RoomReady (model m.now) (held sink.old).memo kept.old) × Bounded (held sink.old) }
+    requires { RoomReady (model m.now) sink.old.memo.now kept.old }
     ensures matched { listed result (held sink.new) ≡ after (model m.now) (connection_of (groups_of (model m.now) links.now) pair) (lists_in (held sink.old)) }
-    ensures fits { Fits result (held sink.old) (held sink.new) }
+    ensures names { length sink.new.memo.now ≡ length sink.old.memo.now }
     ensures same { SameBuffers sink.old sink.new }
 {
     let Some(to) = pair.to else {
@@ -193,7 +198,7 @@ pub fn match_connections(
         memo,
         out: rows,
         notes,
-        tally: Tally { used: 0, noted: 0 },
+        tally: Tally::new(),
     };
     for row in 0..m.x.len() / X_NUMBERS {
         let Some(pair) = group_connection(m, row) else {

@@ -1,135 +1,75 @@
 -- What is left to compose of the matches, with a law for a row's three names, for a turn, for each way out of the loop. Assumes nothing.
-use mathlib.Core.Path.{◌≡◌, sym, ap, ap₂, subst, ◌∙◌}
-use mathlib.Core.List.{List, [], ◌∷◌, ◌++◌}
+use mathlib.Core.Bool.{true, false, false≢true}
+use mathlib.Core.Path.{◌≡◌, refl, sym, ap, ap₂, subst, ◌∙◌}
+use mathlib.Core.List.{List, [], ◌∷◌, ◌++◌, append_assoc}
 use Prim.Native.Nat.{ℕ, suc, ◌+◌, ◌-◌, ◌*◌, ◌≤◌, ◌<◌}
-use native.Mathlib.Nat.{add-zero, sub-zero}
+use native.Mathlib.Decide.{dec_le}
 use native.Mathlib.Omega.{arith}
-use lib.ListN.{length, drop, get_or, length-append}
-use lib.Seq.{sets, get_or-drop, drop-drop}
+use lib.ListN.{length, take, drop, get_or}
+use lib.Seq.{sets, sets-eq, length-sets, get_or-drop, drop-drop}
+use borrow.Rule.Slice.PartMut.{put_mid}
+use Rattle.std.specs.Prelude.{Option, Some, None, IfSome}
+use Rattle.std.specs.Option.{is_some}
+use Rattle.std.proofs.lemmas.List.{take-append-drop, take_rest}
+use Rattle.std.proofs.lemmas.Option.{none-some, same_Some}
 use Rattle.as5506.specs.Lists.{each}
-use Rattle.as5506.specs.Tables.{Tables, source, destination, name_of, x_name, x_feat}
-use Rattle.as5506.specs.Groups.{Feature}
+use Rattle.as5506.specs.Tables.{Tables, source, destination, x_name, x_feat}
 use Rattle.as5506.specs.Layout.{row_numbers, group_block}
 use Rattle.as5506.proofs.Laws.{each_append}
-use Rattle.lent.specs.Append.{Filled, filled, append, append_all, together}
+use Rattle.lent.specs.Append.{Filled, filled, append_all, together, Within}
 use Rattle.lent.proofs.Sets.{sets-append, sets_behind}
-use Rattle.lent.proofs.Append.{all-length, all-bound, all_append, all_fit, all-kept, all-spilt, all_past}
-use Rattle.group_names.specs.Pairs.{Pair, pair_rows, rows_of_pairs, ShortNames}
-use Rattle.group_names.specs.Pieces.{dot_pieces, joined_pieces, feature_names, own_pieces, source_pieces, partner_pieces, pair_pieces, feature_back, pair_back, pairs_back, block_with}
-use Rattle.group_names.specs.Compose.{named, Composed}
-use Rattle.group_names.proofs.Names.{joined-short, pair-block}
-use Rattle.group_names.proofs.Blocks.{prefix-short, row-numbers}
+use Rattle.lent.proofs.Pieces.{all-length, all-within, all_append, all_fit}
+use Rattle.group_names.specs.Pairs.{Pair, pair_rows, rows_of_pairs}
+use Rattle.group_names.specs.Pieces.{length_by, joined_pieces, feature_names, own_pieces, source_pieces, partner_pieces, pair_pieces, feature_back, pair_back, pairs_back, block_with}
+use Rattle.group_names.specs.Compose.{row_by, named, Composed}
+use Rattle.group_names.proofs.Names.{pair-block}
+use Rattle.group_names.proofs.Blocks.{row-numbers}
 use Rattle.group_names.proofs.Named.{bytes_of, named-fits, named-full}
-
--- ---- pieces that are all written
-
-record Written (ps : List (List ℕ)) (o o' : Filled) : Type 0 where
-  pub same : length o'.holds ≡ length o.holds
-  pub bound : o'.used ≤ length o.holds + 1
-  pub spills : length o.holds < o'.used → length o.holds < o.used + length (together ps)
-  pub fits : o'.used ≤ length o.holds → (o.used ≤ length o.holds) × (o'.used ≡ o.used + length (together ps))
-
-written : (ps : List (List ℕ)) (o o' : Filled) → o.used ≤ length o.holds + 1 → o' ≡ append_all ps o → Written ps o o'
-written ps o o' b e =
-    let u : o'.used ≡ (append_all ps o).used = ap (λ (x : Filled). x.used) e in
-    record {
-      same = ap (λ (x : Filled). length x.holds) e ∙ all-length ps o;
-      bound = rw u (all-bound ps o b);
-      spills = λ h. all-spilt ps o (subst (λ (k : ℕ). length o.holds < k) u h);
-      fits = λ h.
-          let room : o.used + length (together ps) ≤ length o.holds = all-kept ps o b (subst (λ (k : ℕ). k ≤ length o.holds) u h) in
-          (omega (arith, room), u ∙ ap (λ (x : Filled). x.used) (all_fit ps o room));
-    }
+use Rattle.group_names.proofs.Joining.{past_is, all_used}
 
 -- ---- the three names of a row: o is the output before them, a, b and c behind each
 
--- how far the output is used behind each of them, where it is not full
-pub record Ends (m : Tables) (p : Pair) (o a b c : Filled) : Type 0 where
-  pub own : a.used ≡ o.used + length (together (own_pieces m p))
-  pub source : b.used ≡ a.used + length (together (source_pieces m p))
-  pub partner : c.used ≡ b.used + length (together (partner_pieces m p))
-
-pub record Puts (m : Tables) (p : Pair) (o a b c : Filled) : Type 0 where
-  pub own : a ≡ append_all (own_pieces m p) o
-  pub source : b ≡ append_all (source_pieces m p) a
-  pub partner : c ≡ append_all (partner_pieces m p) b
-
--- v is the connection that the match begins with, k₁ its name, j the feature's, k₂ and k₃ those of the groups of its source and destination
-module _ (m : Tables) (rows : List ℕ) (place v : ℕ) (e : v ≡ get_or rows place 0) where
-  conn-is : v ≡ (pair_back (drop place rows)).conn
-  unfolding pair_back
-  conn-is = e ∙ ap (λ (j : ℕ). get_or rows j 0) (sym (add-zero place)) ∙ sym (get_or-drop place rows 0 0)
-
-  pub puts-names : (k₁ j k₂ k₃ : ℕ) (o s a b c : Filled) → k₁ ≡ x_name m v → s ≡ append (name_of m k₁) o → j ≡ get_or rows (place + 3) 0
-      → a ≡ append_all (dot_pieces m j) s → k₂ ≡ x_feat m source v → b ≡ append_all (joined_pieces m k₂ (feature_names (feature_back (drop (place + 3) rows)))) a
-      → k₃ ≡ x_feat m destination v → c ≡ append_all (joined_pieces m k₃ (feature_names (feature_back (drop (place + 17) rows)))) b
-      → Puts m (pair_back (drop place rows)) o a b c
-  unfolding own_pieces source_pieces partner_pieces joined_pieces pair_back feature_back append_all
-  puts-names k₁ j k₂ k₃ o s a b c p f q g r h t w =
-      let n : j ≡ get_or (drop 3 (drop place rows)) 0 0 = q ∙ sym (get_or-drop 3 (drop place rows) 0 0 ∙ get_or-drop place rows 3 0) in
-      record {
-        own = g ∙ ap₂ (λ (i : ℕ) (x : Filled). append_all (dot_pieces m i) x) n (f ∙ ap (λ (i : ℕ). append (name_of m i) o) (p ∙ ap (x_name m) conn-is));
-        source = h ∙ ap₂ (λ (i : ℕ) (l : List ℕ). append_all (joined_pieces m i (feature_names (feature_back l))) a) (r ∙ ap (x_feat m source) conn-is) (sym (drop-drop 3 place rows));
-        partner = w ∙ ap₂ (λ (i : ℕ) (l : List ℕ). append_all (joined_pieces m i (feature_names (feature_back l))) b) (t ∙ ap (x_feat m destination) conn-is) (sym (drop-drop 17 place rows));
-      }
-
-module _ {m : Tables} {p : Pair} {o a b c : Filled} (t : Puts m p o a b c) where
-  pub names-are : c ≡ append_all (pair_pieces m p) o
+module _ (m : Tables) (p : Pair) (o : Filled ℕ) where
+  pub names_three : (a b c : Filled ℕ) → c ≡ append_all (partner_pieces m p) b → b ≡ append_all (source_pieces m p) a → a ≡ append_all (own_pieces m p) o
+      → c ≡ append_all (pair_pieces m p) o
   unfolding pair_pieces
-  names-are =
-      t.partner ∙ ap (append_all (partner_pieces m p)) (t.source ∙ ap (append_all (source_pieces m p)) t.own)
+  names_three a b c e f g =
+      e ∙ ap (append_all (partner_pieces m p)) (f ∙ ap (append_all (source_pieces m p)) g)
       ∙ sym (all_append (source_pieces m p) (partner_pieces m p) (append_all (own_pieces m p) o))
       ∙ sym (all_append (own_pieces m p) (source_pieces m p ++ partner_pieces m p) o)
 
-  pub names-same : length c.holds ≡ length o.holds
-  names-same = ap (λ (x : Filled). length x.holds) names-are ∙ all-length (pair_pieces m p) o
+  -- where the output is full those that are not tried change nothing
+  pub names_two : (a b : Filled ℕ) → b ≡ append_all (source_pieces m p) a → b.used ≡ None → a ≡ append_all (own_pieces m p) o → b ≡ append_all (pair_pieces m p) o
+  names_two a b f n g = names_three a b b (past_is (partner_pieces m p) b n) f g
 
-  pub names-end : o.used ≤ length o.holds → c.used ≤ length c.holds → Ends m p o a b c
-  names-end h k =
-      let u = written (own_pieces m p) o a (omega (arith, h)) t.own in
-      let v = written (source_pieces m p) a b (omega (arith, u.bound, u.same)) t.source in
-      let w = written (partner_pieces m p) b c (omega (arith, v.bound, v.same)) t.partner in
-      let w' = w.fits (omega (arith, k, w.same)) in
-      let v' = v.fits (omega (arith, w'.0, v.same)) in
-      let u' = u.fits (omega (arith, v'.0, u.same)) in
-      record { own = u'.1; source = v'.1; partner = w'.1 }
+  pub names_one : (a : Filled ℕ) → a ≡ append_all (own_pieces m p) o → a.used ≡ None → a ≡ append_all (pair_pieces m p) o
+  names_one a g n = names_two a a (past_is (source_pieces m p) a n) n g
 
--- the row
-pub row_named :
-    (m : Tables) (p : Pair) (o a b c : Filled) → Ends m p o a b c → (rows : List ℕ) (place : ℕ) (rows' : List ℕ)
-    → rows' ≡ sets rows place (block_with p (a.used - o.used) (b.used - a.used) (c.used - b.used)) → rows' ≡ sets rows place (each group_block (pair_rows m p))
-row_named m p o a b c e rows place rows' h =
-    let i : a.used - o.used ≡ length (together (own_pieces m p)) = omega (arith, e.own) in
-    let j : b.used - a.used ≡ length (together (source_pieces m p)) = omega (arith, e.source) in
-    let k : c.used - b.used ≡ length (together (partner_pieces m p)) = omega (arith, e.partner) in
-    h ∙ rw (i, j, k) (ap (sets rows place) (sym (pair-block m p)))
+-- the row, of which v is the connection: k is its name, j the feature's
+module _ (m : Tables) (row : List ℕ) (v : ℕ) (e : v ≡ get_or row 0 0) where
+  pub own_is : (k j : ℕ) → k ≡ x_name m v → j ≡ get_or row 3 0 → joined_pieces m k (j ∷ []) ≡ own_pieces m (pair_back row)
+  unfolding own_pieces pair_back feature_back
+  own_is k j f g = rw (f, e, g, ← get_or-drop 3 row 0 0) refl
 
--- no name of a match read back from the rows is longer than its 12 names of 63 bytes and the dots between them
-pub record Steps (o a b c : Filled) : Type 0 where
-  pub own : (o.used ≤ a.used) × (a.used - o.used ≤ 767)
-  pub source : (a.used ≤ b.used) × (b.used - a.used ≤ 767)
-  pub partner : (b.used ≤ c.used) × (c.used - b.used ≤ 767)
+  -- k is the group of its source, and of its destination
+  pub source_is : (k : ℕ) → k ≡ x_feat m source v → joined_pieces m k (feature_names (feature_back (take (length row - 3) (drop 3 row)))) ≡ source_pieces m (pair_back row)
+  unfolding source_pieces pair_back
+  source_is k f = rw (f, e, take_rest row 3) refl
 
-module _ (m : Tables) (rows : List ℕ) (place : ℕ) (h : ShortNames m) where
-  abbrev here : Pair
-  here = pair_back (drop place rows)
+  pub partner_is : (k : ℕ) → k ≡ x_feat m destination v → joined_pieces m k (feature_names (feature_back (take (length row - 17) (drop 17 row)))) ≡ partner_pieces m (pair_back row)
+  unfolding partner_pieces pair_back
+  partner_is k f = rw (f, e, take_rest row 17) refl
 
-  few-names : (k : ℕ) → length (feature_names (feature_back (drop k (drop place rows)))) ≤ 11
-  few-names k =
-      let f : Feature = feature_back (drop k (drop place rows)) in
-      omega (arith, length-append f.prefix (f.name ∷ []), prefix-short (drop place rows) k)
-
-  pub steps : {o a b c : Filled} → Ends m here o a b c → Steps o a b c
-  unfolding own_pieces source_pieces partner_pieces pair_back
-  steps e =
-      let own = joined-short m h (x_name m here.conn) (here.feature.name ∷ []) in
-      let source = joined-short m h (x_feat m source here.conn) (feature_names (feature_back (drop 3 (drop place rows)))) in
-      let partner = joined-short m h (x_feat m destination here.conn) (feature_names (feature_back (drop 17 (drop place rows)))) in
-      record {
-        own = (omega (arith, e.own), omega (arith, e.own, own));
-        source = (omega (arith, e.source), omega (arith, e.source, source, few-names 3));
-        partner = (omega (arith, e.partner), omega (arith, e.partner, partner, few-names 17));
-      }
+-- all three found room
+module _ (m : Tables) (row row' : List ℕ) (a b c : ℕ) (e : row' ≡ block_with (pair_back row) a b c) where
+  pub row_told : (u v w : Option ℕ) → Some a ≡ length_by u (own_pieces m (pair_back row)) → Some b ≡ length_by v (source_pieces m (pair_back row))
+      → Some c ≡ length_by w (partner_pieces m (pair_back row)) → row' ≡ row_by w m row
+  unfolding length_by row_by
+  row_told None v w f g h = absurd (none-some a (sym f))
+  row_told (Some i) None w f g h = absurd (none-some b (sym g))
+  row_told (Some i) (Some j) None f g h = absurd (none-some c (sym h))
+  row_told (Some i) (Some j) (Some k) f g h =
+      e ∙ rw (same_Some _ _ f, same_Some _ _ g, same_Some _ _ h) (sym (pair-block m (pair_back row)))
 
 -- ---- the loop over the matches
 
@@ -141,106 +81,136 @@ abbrev pub left_at : ℕ → ℕ → List ℕ → List Pair
 left_at count i rows = pairs_back (count - i) (drop (i * row_numbers) rows)
 
 -- with the names of matches behind what is used, and with their rows from a place on
-abbrev pub with_names : Tables → List Pair → Filled → Filled
+abbrev pub with_names : Tables → List Pair → Filled ℕ → Filled ℕ
 with_names m ps o = append_all (each (pair_pieces m) ps) o
 
 abbrev pub with_rows : Tables → List Pair → List ℕ → ℕ → List ℕ
 with_rows m ps rows place = sets rows place (each group_block (rows_of_pairs m ps))
 
--- composing what is left, as things are now, leaves what composing all leaves
-pub record Left (m : Tables) (rows₀ names₀ : List ℕ) (count : ℕ) (rows : List ℕ) (o : Filled) (i : ℕ) : Type 0 where
-  pub within : o.used ≤ length o.holds
-  pub to-names : with_names m (left_at count i rows) o ≡ with_names m (pairs_back count rows₀) (filled names₀ 0)
-  pub to-rows : with_rows m (named m (length o.holds - o.used) (left_at count i rows)) rows (i * row_numbers) ≡ with_rows m (named m (length names₀) (pairs_back count rows₀)) rows₀ 0
+-- composing what is left, as things are now, leaves what composing all leaves; so much of the output is used
+pub record Left (m : Tables) (rows₀ names₀ : List ℕ) (count : ℕ) (rows : List ℕ) (o : Filled ℕ) (i : ℕ) : Type 0 where
+  pub used : ℕ
+  pub is_used : o.used ≡ Some used
+  pub within : used ≤ length o.holds
+  pub size : length rows ≡ length rows₀
+  pub to-names : with_names m (left_at count i rows) o ≡ with_names m (pairs_back count rows₀) (filled names₀ (Some 0))
+  pub to-rows : with_rows m (named m (length o.holds - used) (left_at count i rows)) rows (i * row_numbers) ≡ with_rows m (named m (length names₀) (pairs_back count rows₀)) rows₀ 0
+
+-- the same, by what the output and the rows are known to be
+pub composed_as : {m : Tables} {ps : List Pair} {rows₀ names₀ rows rows' : List ℕ} {o o' : Filled ℕ} → Composed m ps rows₀ names₀ o.used rows o.holds
+    → o' ≡ o → rows' ≡ rows → Composed m ps rows₀ names₀ o'.used rows' o'.holds
+composed_as w e f = record { in-names = e ∙ w.in-names; in_rows = f ∙ w.in_rows }
 
 module _ (m : Tables) (rows₀ names₀ : List ℕ) (count : ℕ) where
-  pub left-start : Left m rows₀ names₀ count rows₀ (filled names₀ 0) 0
-  left-start =
-      record {
-        within = omega arith;
-        to-names = ap (λ (k : ℕ). with_names m (pairs_back k rows₀) (filled names₀ 0)) (sub-zero count);
-        to-rows = ap₂ (λ (k l : ℕ). with_rows m (named m k (pairs_back l rows₀)) rows₀ 0) (sub-zero (length names₀)) (sub-zero count);
-      }
-
-  module _ (rows : List ℕ) (o : Filled) (i : ℕ) (l : Left m rows₀ names₀ count rows o i) where
+  module _ (rows : List ℕ) (o : Filled ℕ) (i : ℕ) (l : Left m rows₀ names₀ count rows o i) where
     -- nothing is left
-    pub left_end : count ≤ i → (names : List ℕ) → names ≡ o.holds → Composed m (pairs_back count rows₀) rows₀ names₀ o.used rows names
+    pub left_end : count ≤ i → Composed m (pairs_back count rows₀) rows₀ names₀ o.used rows o.holds
     unfolding pairs_back append_all named rows_of_pairs
-    left_end h names s =
+    left_end h =
         let e : count - i ≡ 0 = omega (arith, h) in
         let none : left_at count i rows ≡ [] = ap (λ (k : ℕ). pairs_back k (drop (i * row_numbers) rows)) e in
         record {
-          in-names = ap (λ (x : List ℕ). filled x o.used) s ∙ ap (λ (ps : List Pair). with_names m ps o) (sym none) ∙ l.to-names;
-          in_rows = ap (λ (ps : List Pair). with_rows m (named m (length o.holds - o.used) ps) rows (i * row_numbers)) (sym none) ∙ l.to-rows;
+          in-names = ap (λ (ps : List Pair). with_names m ps o) (sym none) ∙ l.to-names;
+          in_rows = ap (λ (ps : List Pair). with_rows m (named m (length o.holds - l.used) ps) rows (i * row_numbers)) (sym none) ∙ l.to-rows;
         }
 
-    module _ (h : i < count) (rows' : List ℕ) (z : Filled) where
-      -- the match at place i, and those behind it
-      abbrev first : Pair
-      first = pair_back (drop (i * row_numbers) rows)
+    -- the match at place i is tried: z is the output of names then, and row' what stands in its place
+    module _ (h : i < count) (fits : count * row_numbers ≤ length rows₀) (n : ℕ) (s : n ≡ row_numbers) (row' : List ℕ) (z : Filled ℕ) where
+      abbrev row : List ℕ
+      row = take n (drop (i * row_numbers) rows)
+
+      abbrev rows' : List ℕ
+      rows' = put_mid (i * row_numbers) n rows row'
 
       abbrev others : List Pair
       others = left_at count (i + 1) rows
 
-      next : left_at count i rows ≡ first ∷ others
+      next : left_at count i rows ≡ pair_back row ∷ others
       unfolding pairs_back
       next =
           let e : count - i ≡ suc (count - (i + 1)) = omega (arith, h) in
           let f : i * row_numbers + row_numbers ≡ (i + 1) * row_numbers = omega arith in
           ap (λ (k : ℕ). pairs_back k (drop (i * row_numbers) rows)) e
-          ∙ ap (λ (q : List ℕ). first ∷ pairs_back (count - (i + 1)) q) (drop-drop row_numbers (i * row_numbers) rows ∙ ap (λ (k : ℕ). drop k rows) f)
+          ∙ ap₂ (λ (k : ℕ) (q : List ℕ). pair_back (take k (drop (i * row_numbers) rows)) ∷ pairs_back (count - (i + 1)) q) (sym s)
+          (drop-drop row_numbers (i * row_numbers) rows ∙ ap (λ (k : ℕ). drop k rows) f)
 
-      module _ (e : z ≡ append_all (pair_pieces m first) o) where
-        put : Written (pair_pieces m first) o z
-        put = written (pair_pieces m first) o z (omega (arith, l.within)) e
-
-        pub left-size : length z.holds ≡ length o.holds
-        left-size = put.same
+      module _ (e : z ≡ append_all (pair_pieces m (pair_back row)) o) where
+        from_used : z ≡ append_all (pair_pieces m (pair_back row)) (filled o.holds (Some l.used))
+        from_used = subst (λ (u : Option ℕ). z ≡ append_all (pair_pieces m (pair_back row)) (filled o.holds u)) l.is_used e
 
         -- its names are put
-        names-turn : with_names m others z ≡ with_names m (pairs_back count rows₀) (filled names₀ 0)
+        names-turn : with_names m others z ≡ with_names m (pairs_back count rows₀) (filled names₀ (Some 0))
         names-turn =
             ap (with_names m others) e
-            ∙ sym (all_append (pair_pieces m first) (each (pair_pieces m) others) o)
+            ∙ sym (all_append (pair_pieces m (pair_back row)) (each (pair_pieces m) others) o)
             ∙ ap (λ (ps : List Pair). with_names m ps o) (sym next)
             ∙ l.to-names
 
         -- there is no room for them, and so for none behind them
-        pub left-full : length o.holds < z.used → rows' ≡ rows → (names : List ℕ) → names ≡ z.holds → Composed m (pairs_back count rows₀) rows₀ names₀ z.used rows' names
+        left-full : z.used ≡ None → row' ≡ row → Composed m (pairs_back count rows₀) rows₀ names₀ z.used rows' z.holds
         unfolding rows_of_pairs
-        left-full k r names s =
-            let full : z.used ≡ length z.holds + 1 = omega (arith, k, put.bound, put.same) in
-            let past : length o.holds < o.used + bytes_of m first = put.spills k in
-            let none : named m (length o.holds - o.used) (left_at count i rows) ≡ []
-            = ap (named m (length o.holds - o.used)) next ∙ named-full m (length o.holds - o.used) first others (omega (arith, past, l.within)) in
+        left-full k r =
+            let past : length o.holds - l.used < bytes_of m (pair_back row) = go (dec_le (l.used + bytes_of m (pair_back row)) (length o.holds)) in
+            let none : named m (length o.holds - l.used) (left_at count i rows) ≡ [] = ap (named m (length o.holds - l.used)) next ∙ named-full m (length o.holds - l.used) (pair_back row) others past in
+            let same : rows' ≡ rows
+            = ap (λ (q : List ℕ). take (i * row_numbers) rows ++ (q ++ drop n (drop (i * row_numbers) rows))) r
+            ∙ ap (λ (q : List ℕ). take (i * row_numbers) rows ++ q) (take-append-drop n (drop (i * row_numbers) rows))
+            ∙ take-append-drop (i * row_numbers) rows in
             record {
-              in-names = ap₂ filled s full
-                  ∙ sym (all_past (each (pair_pieces m) others) z.holds)
-                  ∙ ap (λ (k : ℕ). with_names m others (filled z.holds k)) (sym full)
-                  ∙ names-turn;
-              in_rows = r ∙ ap (λ (ps : List Pair). with_rows m ps rows (i * row_numbers)) (sym none) ∙ l.to-rows;
+              in-names = past_is (each (pair_pieces m) others) z k ∙ names-turn;
+              in_rows = same ∙ ap (λ (ps : List Pair). with_rows m ps rows (i * row_numbers)) (sym none) ∙ l.to-rows;
             }
+          where
+            go : Dec (l.used + bytes_of m (pair_back row) ≤ length o.holds) → length o.holds - l.used < bytes_of m (pair_back row)
+            go (no f) = omega (arith, f, l.within)
+            go (yes f) =
+                let all = all_fit (pair_pieces m (pair_back row)) o.holds l.used f in
+                absurd (none-some (l.used + bytes_of m (pair_back row)) (sym k ∙ ap (λ (x : Filled ℕ). x.used) (from_used ∙ all)))
 
         -- the row is in its place
-        pub left-turn : z.used ≤ length o.holds → rows' ≡ sets rows (i * row_numbers) (each group_block (pair_rows m first)) → Left m rows₀ names₀ count rows' z (i + 1)
+        left-turn : (k : ℕ) → z.used ≡ Some k → row' ≡ each group_block (pair_rows m (pair_back row)) → Left m rows₀ names₀ count rows' z (i + 1)
         unfolding rows_of_pairs
-        left-turn k r =
-            let block : List ℕ = each group_block (pair_rows m first) in
-            let n : i * row_numbers + length block ≡ (i + 1) * row_numbers = omega (arith, row-length m first) in
+        left-turn k u r =
+            let block : List ℕ = each group_block (pair_rows m (pair_back row)) in
+            let long : length block ≡ row_numbers = row-length m (pair_back row) in
+            let places : i * row_numbers + length block ≡ (i + 1) * row_numbers = omega (arith, long) in
+            let room : i * row_numbers + length block ≤ length rows = omega (arith, h, fits, long, l.size) in
+            let put : rows' ≡ sets rows (i * row_numbers) block
+            = ap₂ (λ (q : List ℕ) (j : ℕ). take (i * row_numbers) rows ++ (q ++ drop j (drop (i * row_numbers) rows))) r (s ∙ sym long)
+            ∙ ap (λ (q : List ℕ). take (i * row_numbers) rows ++ (block ++ q)) (drop-drop (length block) (i * row_numbers) rows)
+            ∙ sym (append_assoc (take (i * row_numbers) rows) block (drop (i * row_numbers + length block) rows))
+            ∙ sym (sets-eq block rows (i * row_numbers) room) in
             let same : left_at count (i + 1) rows' ≡ others
-            = ap (left_at count (i + 1)) r ∙ ap (pairs_back (count - (i + 1))) (sets_behind block rows ((i + 1) * row_numbers) (i * row_numbers) (omega (arith, n))) in
-            let ends : z.used ≡ o.used + bytes_of m first = (put.fits k).1 in
-            let room : length z.holds - z.used ≡ length o.holds - o.used - bytes_of m first = omega (arith, ends, put.same) in
-            let rest : List Pair = named m (length o.holds - o.used - bytes_of m first) others in
-            let all : named m (length o.holds - o.used) (left_at count i rows) ≡ first ∷ rest
-            = ap (named m (length o.holds - o.used)) next ∙ named-fits m (length o.holds - o.used) first others (omega (arith, k, ends)) in
+            = ap (left_at count (i + 1)) put ∙ ap (pairs_back (count - (i + 1))) (sets_behind block rows ((i + 1) * row_numbers) (i * row_numbers) (omega (arith, places))) in
+            let ends : k ≡ l.used + bytes_of m (pair_back row)
+            = all_used (pair_pieces m (pair_back row)) o.holds l.used k (sym (ap (λ (x : Filled ℕ). x.used) from_used) ∙ u) in
+            let size : length z.holds ≡ length o.holds = ap (λ (x : Filled ℕ). length x.holds) e ∙ all-length (pair_pieces m (pair_back row)) o in
+            let within : k ≤ length z.holds = subst (λ (v : Option ℕ). IfSome v (λ j. j ≤ length z.holds)) u (subst Within (sym from_used) (all-within (pair_pieces m (pair_back row)) (filled o.holds (Some l.used)) l.within)) in
+            let left : length z.holds - k ≡ length o.holds - l.used - bytes_of m (pair_back row) = omega (arith, ends, size) in
+            let rest : List Pair = named m (length o.holds - l.used - bytes_of m (pair_back row)) others in
+            let all : named m (length o.holds - l.used) (left_at count i rows) ≡ pair_back row ∷ rest
+            = ap (named m (length o.holds - l.used)) next ∙ named-fits m (length o.holds - l.used) (pair_back row) others (omega (arith, within, size, ends)) in
             record {
-              within = omega (arith, k, put.same);
+              used = k;
+              is_used = u;
+              within = within;
+              size = ap length put ∙ length-sets rows (i * row_numbers) block ∙ l.size;
               to-names = ap (λ (ps : List Pair). with_names m ps z) same ∙ names-turn;
-              to-rows = ap₂ (λ (k : ℕ) (ps : List Pair). with_rows m (named m k ps) rows' ((i + 1) * row_numbers)) room same
-                  ∙ ap₂ (with_rows m rest) r (sym n)
+              to-rows = ap₂ (λ (j : ℕ) (ps : List Pair). with_rows m (named m j ps) rows' ((i + 1) * row_numbers)) left same
+                  ∙ ap₂ (with_rows m rest) put (sym places)
                   ∙ sym (sets-append block (each group_block (rows_of_pairs m rest)) rows (i * row_numbers))
-                  ∙ ap (sets rows (i * row_numbers)) (sym (each_append group_block (pair_rows m first) (rows_of_pairs m rest)))
+                  ∙ ap (sets rows (i * row_numbers)) (sym (each_append group_block (pair_rows m (pair_back row)) (rows_of_pairs m rest)))
                   ∙ ap (λ (ps : List Pair). with_rows m ps rows (i * row_numbers)) (sym all)
                   ∙ l.to-rows;
             }
+
+        -- by what is told: r is how much is used then
+        pub left_stops : (r : Option ℕ) → is_some r ≡ false → r ≡ z.used → row' ≡ row_by r m row → Composed m (pairs_back count rows₀) rows₀ names₀ z.used rows' z.holds
+        unfolding row_by
+        left_stops None b u e = left-full (sym u) e
+        left_stops (Some k) b u e = absurd (false≢true (sym b))
+
+        pub left_goes : (r : Option ℕ) → is_some r ≡ true → r ≡ z.used → row' ≡ row_by r m row → Left m rows₀ names₀ count rows' z (i + 1)
+        unfolding row_by
+        left_goes None b u e = absurd (false≢true b)
+        left_goes (Some k) b u e = left-turn k (sym u) e

@@ -7,12 +7,14 @@ use native.Mathlib.Omega.{arith}
 use borrow.Author.Tests.{le-leb, lt-leb}
 use lib.ListN.{length, length-append}
 use lib.Seq.{sets}
+use Rattle.std.specs.Prelude.{Option}
 use Rattle.as5506.specs.Lists.{each}
 use Rattle.as5506.specs.Tables.{Tables}
 use Rattle.as5506.specs.Listing.{row_names}
 use Rattle.as5506.specs.Layout.{group_block}
 use Rattle.lent.specs.Append.{together}
-use Rattle.lent.proofs.Append.{together-append, Used, used-by}
+use Rattle.lent.specs.Printed.{Printed}
+use Rattle.lent.proofs.Pieces.{together-append, printed-by}
 use Rattle.group_names.specs.Pairs.{Pair, rows_of_pairs}
 use Rattle.group_names.specs.Pieces.{pair_pieces}
 use Rattle.group_names.specs.Compose.{named_by, named, Composed}
@@ -43,13 +45,11 @@ module _ (m : Tables) where
 
 -- ---- for callers
 
-module _ (m : Tables) (ps : List Pair) (rows names : List ℕ) (z : ℕ) (rows' names' : List ℕ) (w : Composed m ps rows names z rows' names') where
+module _ (m : Tables) (ps : List Pair) (rows names : List ℕ) (z : Option ℕ) (rows' names' : List ℕ) (w : Composed m ps rows names z rows' names') where
   -- the names lie one behind the other, if there is room for all
-  pub names-used : Used names names' z (each row_names (rows_of_pairs m ps))
-  names-used = used-by (each (pair_pieces m) ps) names names' z (each row_names (rows_of_pairs m ps)) (pairs-names m ps) w.in-names
+  pub names-printed : Printed (each row_names (rows_of_pairs m ps)) names z names'
+  names-printed = printed-by (each (pair_pieces m) ps) names names' z (each row_names (rows_of_pairs m ps)) (pairs-names m ps) w.in-names
 
   -- then every match is its row
-  pub all-rows : z ≤ length names → rows' ≡ sets rows 0 (each group_block (rows_of_pairs m ps))
-  all-rows h =
-      let k : length (together (each (pair_pieces m) ps)) ≤ length names = rw (pairs-names m ps) (names-used.fits h).0 in
-      w.in_rows ∙ ap (λ (qs : List Pair). sets rows 0 (each group_block (rows_of_pairs m qs))) (named-all m (length names) ps k)
+  pub all-rows : length (each row_names (rows_of_pairs m ps)) ≤ length names → rows' ≡ sets rows 0 (each group_block (rows_of_pairs m ps))
+  all-rows h = w.in_rows ∙ ap (λ (qs : List Pair). sets rows 0 (each group_block (rows_of_pairs m qs))) (named-all m (length names) ps (rw (pairs-names m ps) h))

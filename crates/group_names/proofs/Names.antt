@@ -12,7 +12,7 @@ use Rattle.as5506.specs.Listing.{row_names}
 use Rattle.as5506.specs.Layout.{group_block}
 use Rattle.as5506.proofs.Laws.{each_append}
 use Rattle.lent.specs.Append.{together}
-use Rattle.lent.proofs.Append.{together-append}
+use Rattle.lent.proofs.Pieces.{together-append}
 use Rattle.group_names.specs.Pairs.{Pair, pair_rows, rows_of_pairs, ShortNames}
 use Rattle.group_names.specs.Pieces.{joined_pieces, feature_names, own_pieces, source_pieces, partner_pieces, pair_pieces, block_with}
 

@@ -3,8 +3,6 @@
 --     Pairs     matches and their rows
 --     Pieces    the pieces that names are written in, and a match read back from its block
 --     Compose   what composing leaves in the outputs of rows and of names
---     Outputs   the output of names, and what is used of it
 pub mod Pairs
 pub mod Pieces
 pub mod Compose
-pub mod Outputs

@@ -1,6 +1,5 @@
 -- Matches and their rows. Assumes nothing.
-use Rattle.std.proofs.Math.Option.{none, some}
-use Rattle.std.specs.Prelude.{List, ℕ, ◌≤◌, length}
+use Rattle.std.specs.Prelude.{List, ℕ, ◌≤◌, length, Some, None}
 use Rattle.as5506.specs.Lists.{each}
 use Rattle.as5506.specs.Tables.{Tables, name_of}
 use Rattle.as5506.specs.Groups.{Feature}
@@ -17,7 +16,7 @@ pub record Pair : Type 0 where
 
 -- its row; the ends' expansions are no part of it
 unfoldable pub pair_rows : Tables → Pair → List Row
-pair_rows m p = match_row m (record { conn = p.conn; src = p.src; dst = p.dst; src_group = none; dst_group = none }) p.feature (some p.partner)
+pair_rows m p = match_row m (record { conn = p.conn; src = p.src; dst = p.dst; src_group = None; dst_group = None }) p.feature (Some p.partner)
 
 unfoldable pub rows_of_pairs : Tables → List Pair → List Row
 rows_of_pairs m ps = each (pair_rows m) ps

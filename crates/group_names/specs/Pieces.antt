@@ -1,10 +1,11 @@
 -- The pieces that the names of a row are written in, and a match read back from its block. Assumes nothing.
-use Rattle.std.specs.Prelude.{List, [], ◌∷◌, ◌++◌, ℕ, zero, suc, min, get_or, take, drop}
+use Rattle.std.specs.Prelude.{List, [], ◌∷◌, ◌++◌, ℕ, zero, suc, min, length, get_or, take, drop, Option, Some, None}
 use Rattle.as5506.specs.Lists.{each}
 use Rattle.as5506.specs.Tables.{Tables, name_of, source, destination, x_name, x_feat}
 use Rattle.as5506.specs.Groups.{Feature}
 use Rattle.as5506.specs.GroupList.{connection_kind}
 use Rattle.as5506.specs.Layout.{row_numbers, row_block}
+use Rattle.lent.specs.Append.{together}
 use Rattle.group_names.specs.Pairs.{Pair}
 
 -- a dot and name k
@@ -33,6 +34,11 @@ partner_pieces m p = joined_pieces m (x_feat m destination p.conn) (feature_name
 unfoldable pub pair_pieces : Tables → Pair → List (List ℕ)
 pair_pieces m p = own_pieces m p ++ (source_pieces m p ++ partner_pieces m p)
 
+-- how long pieces are together, told where all found room: by how much of their output is used then
+unfoldable pub length_by : Option ℕ → List (List ℕ) → Option ℕ
+length_by None ps = None
+length_by (Some k) ps = Some (length (together ps))
+
 -- ---- read back from numbers that begin with the block
 
 -- how many names of the prefix there are, at most its ten places
@@ -53,4 +59,4 @@ block_with p a b c = row_block p.conn (connection_kind p.feature.kind) p.src p.d
 -- the matches that the first `count` rows of an output are read as
 unfoldable pub pairs_back : ℕ → List ℕ → List Pair
 pairs_back zero rows = []
-pairs_back (suc count) rows = pair_back rows ∷ pairs_back count (drop row_numbers rows)
+pairs_back (suc count) rows = pair_back (take row_numbers rows) ∷ pairs_back count (drop row_numbers rows)

@@ -2,25 +2,24 @@
 // into the output of composed names.
 #![tactic(auto)]
 
-ghost use Rattle.std.specs.Prelude.{◌≡◌, ◌+◌, ◌*◌, ◌≤◌, ◌<◌, length, drop};
-ghost use Rattle.std.proofs.lemmas.List.Edits.{sets};
-ghost use Rattle.as5506.specs.Lists.{each};
+ghost use Rattle.std.specs.Prelude.{◌≡◌, [], ◌∷◌, ◌++◌, ◌/◌, ◌≤◌, length};
 ghost use Rattle.as5506.specs.Tables.{name_of};
 ghost use Rattle.as5506.specs.GroupList.{connection_kind};
-ghost use Rattle.as5506.specs.Layout.{row_numbers, feature_numbers, group_block};
+ghost use Rattle.as5506.specs.Layout.{row_numbers};
 ghost use Rattle.lent.specs.Append.{append, append_all};
 ghost use Rattle.lent.specs.Model.{model};
-ghost use Rattle.group_names.specs.Pairs.{pair_rows, ShortNames};
-ghost use Rattle.group_names.specs.Pieces.{dot_pieces, joined_pieces, feature_names, pair_pieces, prefix_length, feature_back, pair_back, block_with, pairs_back};
-ghost use Rattle.group_names.specs.Compose.{Composed};
-ghost use Rattle.group_names.specs.Outputs.{output_of};
+ghost use Rattle.output.specs.Put.{output_of};
+ghost use Rattle.group_names.specs.Pairs.{ShortNames};
+ghost use Rattle.group_names.specs.Pieces.{length_by, dot_pieces, joined_pieces, feature_names, pair_pieces, prefix_length, feature_back, pair_back, block_with, pairs_back};
+ghost use Rattle.group_names.specs.Compose.{row_by, Composed};
 
 use as5506::{PREFIX_PLACES, ROW_NUMBERS};
 use columns::{Side, connection};
-use lent::{Tables, append_bytes, get_or};
+use lent::{Tables, get_or};
+use output::Output;
 use sink::{KIND, PARTNER, PREFIX, PREFIX_LENGTH, SOURCE};
 
-// `feature_kind_to_connection_kind`, both kinds in the order of the Rust's.
+// `feature_kind_to_connection_kind`, both kinds in the order of the Rust's: numbers, as the tables and the rows hold them.
 #[tactic(auto, unfolding(as5506::specs::GroupList::connection_kind))]
 fn connection_kind(kind: u32) -> u32
     ensures { result ≡ connection_kind kind }
@@ -29,123 +28,117 @@ fn connection_kind(kind: u32) -> u32
     get_or(&kinds, kind as usize, 0)
 }
 
-// How many names the prefix has of the feature whose block stands at a place of the rows: at most as many as it has places.
-fn prefix_length(rows: &[u32], place: usize) -> usize
-    requires { place + feature_numbers ≤ length rows.now }
-    ensures { result ≡ prefix_length (drop place rows.now) }
+// How many names the prefix has of the feature whose block these numbers begin with: at most as many as it has places.
+fn prefix_length(block: &[u32]) -> usize
+    ensures { result ≡ prefix_length block.now }
 {
-    let len = get_or(rows, place + PREFIX_LENGTH, 0) as usize;
+    let len = get_or(block, PREFIX_LENGTH, 0) as usize;
     PREFIX_PLACES.min(len)
 }
 
-// Writes the row in place of the match at a place of the rows, given the lengths of its names.
+// Writes the row in place of its match, given the lengths of its names.
 #[tactic(auto, using(crate::proofs::Blocks::row_put))]
-fn put_row(rows: &mut [u32], place: usize, own: u32, source: u32, partner: u32)
-    requires { place + row_numbers ≤ length rows.old }
-    ensures { rows.new ≡ sets rows.old place (block_with (pair_back (drop place rows.old)) own source partner) }
+fn put_row(row: &mut [u32], own: u32, source: u32, partner: u32)
+    requires { length row.old ≡ row_numbers }
+    ensures { row.new ≡ block_with (pair_back row.old) own source partner }
 {
-    let connection = get_or(rows, place, 0);
+    let connection = get_or(row, 0, 0);
     let head = [
         connection,
-        connection_kind(get_or(rows, place + SOURCE + KIND, 0)),
-        get_or(rows, place + 1, 0),
-        get_or(rows, place + 2, 0),
+        connection_kind(get_or(row, SOURCE + KIND, 0)),
+        get_or(row, 1, 0),
+        get_or(row, 2, 0),
         own,
         source,
         partner,
         1,
         connection,
     ];
-    let mut row = [0u32; ROW_NUMBERS];
-    lent::put_all(&mut row, 0, &head);
-    lent::put_all(rows, place, &row);
+    let mut block = [0u32; ROW_NUMBERS];
+    lent::put_all(&mut block, 0, &head);
+    row.copy_from_slice(&block);
 }
 
-// The output of composed names and how many bytes of it are used, one more than there are where a name found no room.
-// It tells of each name by itself whether it found room, and `output::Output` only of a text as a whole.
-#[derive(Drop)]
-struct Output<'a> {
-    bytes: &'a mut [u8],
-    used: usize,
-}
-
-impl Output<'_> {
-    // Appends name k.
-    fn put(&mut self, m: &Tables, k: u32)
-        ensures put { output_of self.new ≡ append (name_of (model m.now) k) (output_of self.old) }
-        ensures same { self.new.bytes.ghost_name ≡ self.old.bytes.ghost_name }
-    {
-        self.used = append_bytes(self.bytes, self.used, name::name_of(m, k));
-    }
-
-    // Appends a dot and name k.
-    fn put_dotted(&mut self, m: &Tables, k: u32)
-        ensures put { output_of self.new ≡ append_all (dot_pieces (model m.now) k) (output_of self.old) }
-        ensures same { self.new.bytes.ghost_name ≡ self.old.bytes.ghost_name }
-    {
-        self.used = append_bytes(self.bytes, self.used, b".");
-        self.put(m, k);
-    }
-
-    // Appends "group.prefix.feature" of the feature whose block stands at a place of the rows.
-    fn put_feature(&mut self, m: &Tables, rows: &[u32], place: usize, group: u32)
-        requires { place + feature_numbers ≤ length rows.now }
-        ensures put { output_of self.new ≡ append_all (joined_pieces (model m.now) group (feature_names (feature_back (drop place rows.now)))) (output_of self.old) }
-        ensures same { self.new.bytes.ghost_name ≡ self.old.bytes.ghost_name }
-    {
-        self.put(m, group);
-        for k in 0..prefix_length(rows, place) {
-            self.put_dotted(m, get_or(rows, place + PREFIX + k, 0));
-        }
-        self.put_dotted(m, get_or(rows, place, 0));
-    }
-
-    // Turns the match at a place of the rows into its row, if its names find room behind what is used.
-    fn put_match(&mut self, m: &Tables, rows: &mut [u32], place: usize)
-        requires { ShortNames (model m.now) × (place + row_numbers ≤ length rows.old) × (self.old.used ≤ length self.old.bytes.now) }
-        ensures put { output_of self.new ≡ append_all (pair_pieces (model m.now) (pair_back (drop place rows.old))) (output_of self.old) }
-        ensures rows_after { self.new.used ≤ length self.old.bytes.now → rows.new ≡ sets rows.old place (each group_block (pair_rows (model m.now) (pair_back (drop place rows.old)))) }
-        ensures rows_unchanged { length self.old.bytes.now < self.new.used → rows.new ≡ rows.old }
-        ensures same { self.new.bytes.ghost_name ≡ self.old.bytes.ghost_name }
-    {
-        let i = get_or(rows, place, 0) as usize;
-        let start = self.used;
-        self.put(m, connection::name_of(m, i));
-        self.put_dotted(m, get_or(rows, place + SOURCE, 0));
-        let own = self.used;
-        let group = connection::feature_of(m, Side::Source, i);
-        self.put_feature(m, rows, place + SOURCE, group);
-        let source = self.used;
-        let group = connection::feature_of(m, Side::Destination, i);
-        self.put_feature(m, rows, place + PARTNER, group);
-        let end = self.used;
-        if self.bytes.len() < end {
-            return;
-        }
-        put_row(
-            rows,
-            place,
-            (own - start) as u32,
-            (source - own) as u32,
-            (end - source) as u32,
-        );
-    }
-}
-
-// Turns the first `count` matches into their rows, as long as their names find room: how many bytes these take, one more than there are where not all do.
-pub fn compose_names(m: &Tables, rows: &mut [u32], count: usize, names: &mut [u8]) -> usize
-    requires { ShortNames (model m.now) × (count * row_numbers ≤ length rows.old) }
-    ensures { Composed (model m.now) (pairs_back count rows.old) rows.old names.old result rows.new names.new }
+// Appends name k.
+fn put(m: &Tables, k: u32, out: &mut Output)
+    ensures put { output_of out.new ≡ append (name_of (model m.now) k) (output_of out.old) }
+    ensures same { out.new.bytes.ghost_name ≡ out.old.bytes.ghost_name }
 {
-    let mut composed = Output {
-        bytes: names,
-        used: 0,
-    };
-    for i in 0..count {
-        composed.put_match(m, rows, i * ROW_NUMBERS);
-        if composed.bytes.len() < composed.used {
-            return composed.used;
+    out.put(name::name_of(m, k));
+}
+
+// Appends a dot and name k.
+fn put_dotted(m: &Tables, k: u32, out: &mut Output)
+    ensures put { output_of out.new ≡ append_all (dot_pieces (model m.now) k) (output_of out.old) }
+    ensures same { out.new.bytes.ghost_name ≡ out.old.bytes.ghost_name }
+{
+    out.put(b".");
+    put(m, k, out);
+}
+
+// Appends names joined by dots: how long they are together, none where one found no room. (That names are short is asked by each function that tells a
+// length, up to the public one: a struct of the tables for it would be taken apart at each call.)
+#[tactic(auto, using(crate::proofs::Joining::past_is, crate::proofs::Joining::told_none))]
+fn put_joined(m: &Tables, first: u32, middle: &[u32], last: u32, out: &mut Output) -> Option<u32>
+    requires { ShortNames (model m.now) × (length middle.now ≤ 10) }
+    ensures put { output_of out.new ≡ append_all (joined_pieces (model m.now) first (middle.now ++ (last ∷ []))) (output_of out.old) }
+    ensures told { result ≡ length_by out.new.used (joined_pieces (model m.now) first (middle.now ++ (last ∷ []))) }
+    ensures same { out.new.bytes.ghost_name ≡ out.old.bytes.ghost_name }
+{
+    let start = out.used()?;
+    put(m, first, out);
+    for &k in middle {
+        put_dotted(m, k, out);
+    }
+    put_dotted(m, last, out);
+    let end = out.used()?;
+    Some((end - start) as u32)
+}
+
+// Appends "group.prefix.feature" of the feature whose block these numbers begin with: how long that is, none where it found no room.
+#[tactic(auto, unfolding(crate::specs::Pieces::feature_back))]
+fn put_feature(m: &Tables, group: u32, block: &[u32], out: &mut Output) -> Option<u32>
+    requires { ShortNames (model m.now) }
+    ensures put { output_of out.new ≡ append_all (joined_pieces (model m.now) group (feature_names (feature_back block.now))) (output_of out.old) }
+    ensures told { result ≡ length_by out.new.used (joined_pieces (model m.now) group (feature_names (feature_back block.now))) }
+    ensures same { out.new.bytes.ghost_name ≡ out.old.bytes.ghost_name }
+{
+    let prefix = lent::part(block, PREFIX, prefix_length(block));
+    put_joined(m, group, prefix, get_or(block, 0, 0), out)
+}
+
+// Appends the names of a match, and turns it into its row if they find room: how much of the output is used then, none where it is full.
+#[tactic(auto, unfolding(crate::specs::Compose::row_by), using(crate::proofs::Joining::full_told))]
+fn put_match(m: &Tables, row: &mut [u32], out: &mut Output) -> Option<usize>
+    requires { ShortNames (model m.now) × (length row.old ≡ row_numbers) }
+    ensures put { output_of out.new ≡ append_all (pair_pieces (model m.now) (pair_back row.old)) (output_of out.old) }
+    ensures used { result ≡ out.new.used }
+    ensures row_after { row.new ≡ row_by result (model m.now) row.old }
+    ensures same { out.new.bytes.ghost_name ≡ out.old.bytes.ghost_name }
+{
+    let i = get_or(row, 0, 0) as usize;
+    let name = connection::name_of(m, i);
+    let feature = get_or(row, SOURCE, 0);
+    let own = put_joined(m, name, &[], feature, out)?;
+    let group = connection::feature_of(m, Side::Source, i);
+    let source = put_feature(m, group, &row[SOURCE..], out)?;
+    let group = connection::feature_of(m, Side::Destination, i);
+    let partner = put_feature(m, group, &row[PARTNER..], out)?;
+    put_row(row, own, source, partner);
+    out.used()
+}
+
+// Turns matches into their rows, as long as their names find room: how many bytes these take, none where not all do.
+pub fn compose_names(m: &Tables, rows: &mut [u32], names: &mut [u8]) -> Option<usize>
+    requires { ShortNames (model m.now) }
+    ensures { Composed (model m.now) (pairs_back (length rows.old / row_numbers) rows.old) rows.old names.old result rows.new names.new }
+{
+    let mut out = Output::new(names);
+    for i in 0..rows.len() / ROW_NUMBERS {
+        let place = i * ROW_NUMBERS;
+        if put_match(m, &mut rows[place..place + ROW_NUMBERS], &mut out).is_none() {
+            break;
         }
     }
-    composed.used
+    out.done()
 }

@@ -1,5 +1,5 @@
 -- Laws of what a walk knows already, for any doing with a feature that keeps to `Passing`: a visit that is known changes nothing, what is known stays
--- true, and a visit that left the use of both outputs as it was may be known from then on. Callers start by `passable-zeros`. Assumes nothing.
+-- true, and a visit that left the use of both outputs as it was may be known from then on. Callers start by `calm-zeros`. Assumes nothing.
 use mathlib.Core.Bool.{Bool, true, false, not}
 use mathlib.Core.Logic.{inl, inr}
 use mathlib.Core.Path.{◌≡◌, refl, sym, ap, ap₂, ◌∙◌, subst}
@@ -14,16 +14,19 @@ use Rattle.as5506.specs.Followed.{In}
 use Rattle.as5506.specs.Tables.{Tables, present}
 use Rattle.as5506.specs.Groups.{Feature, Expansion, joined, one_visit}
 use Rattle.as5506.proofs.Laws.{All, all_in, in_all, all-mapped, mapped-all}
+use Rattle.lent.specs.Append.{Filled}
 use Rattle.lent.proofs.Sets.{get_or-zeros, placed}
+use Rattle.lent.proofs.Pieces.{NoLess, Extended}
 use Rattle.links.specs.Links.{unfound}
 use Rattle.links.specs.Walk.{Groups, Visit, row_by, walk, rows_in, extended_by, type_by, found_by, visit_link}
 use Rattle.sink.specs.declared.Purpose.{Purpose}
 use Rattle.sink.specs.Take.{Held, taken}
-use Rattle.sink.specs.Dull.{Bounded, Dull}
+use Rattle.sink.specs.Dull.{Dull}
 use Rattle.sink.proofs.Dull.{Grown, same, stays, quiet, grows}
-use Rattle.std.specs.Prelude.{Option, Some}
+use Rattle.std.specs.Prelude.{Option, Some, None}
+use Rattle.std.proofs.lemmas.Option.{same_Some}
 use Rattle.group_walk.specs.Run.{Take, take_all, visit_limit, over, going, going_by, run, state_of}
-use Rattle.group_walk.specs.Calm.{Dullness, AllDull, CalmAt, levels, Calm, Passable, CalmAfter}
+use Rattle.group_walk.specs.Calm.{Dullness, AllDull, CalmAt, levels, Calm, CalmAfter}
 use Rattle.group_walk.proofs.Laws.{run-done, all-grow}
 
 -- ---- what a visit makes, whatever the inverse flag and the prefix
@@ -102,15 +105,26 @@ pub record Passing (does : Take) (dull : Dullness) : Type 0 where
   pub same : (f : Feature) (h : Held) → dull f.name h → does f h ≡ h
   pub stays : (f : Feature) (k : ℕ) (h : Held) → dull k h → dull k (does f h)
   pub quiet : (f : Feature) (h : Held) → (does f h).out.used ≡ h.out.used → (does f h).notes.used ≡ h.notes.used → dull f.name (does f h)
-  pub grows : (f : Feature) (h : Held) → Bounded h → Grown h (does f h)
+  pub grows : (f : Feature) (h : Held) → Grown h (does f h)
+
+-- between two states of an output of which as much is used, no more is
+used-between : (o n m : Filled ℕ) → Extended o n → Extended n m → m.used ≡ o.used → n.used ≡ o.used
+used-between o n m a b = go o.used n.used m.used a.more b.more
+  where
+    go : (u v w : Option ℕ) → NoLess u v → NoLess v w → w ≡ u → v ≡ u
+    go u None None a b e = e
+    go u None (Some j) a b e = absurd (b.1 refl)
+    go u (Some k) None a b e = absurd (a.1 (sym e))
+    go None (Some k) (Some j) a b e = absurd (a.1 refl)
+    go (Some i) (Some k) (Some j) a b e = ap Some (omega (arith, a.0, b.0, same_Some _ _ e))
 
 pub passing : (p : Purpose) (m : Tables) → Passing (taken p m) (Dull p m)
 passing p m = record { same = same m p; stays = stays m p; quiet = quiet m p; grows = grows m p }
 
 -- with nothing known yet: for callers
-pub passable-zeros : (g : Groups) (dull : Dullness) (h : Held) (n : ℕ) → Bounded h → Passable g dull h (zeros n)
-unfolding Passable Calm CalmAt
-passable-zeros g dull h n w = (w, λ u b l. rw (get_or-zeros n (u * levels + b)) tt)
+pub calm-zeros : (g : Groups) (dull : Dullness) (h : Held) (n : ℕ) → Calm g dull h (zeros n)
+unfolding Calm CalmAt
+calm-zeros g dull h n u b l = rw (get_or-zeros n (u * levels + b)) tt
 
 module _ (does : Take) (dull : Dullness) (law : Passing does dull) where
   all_same : (fs : List Feature) (h : Held) → ((f : Feature) → In f fs → dull f.name h) → take_all does fs h ≡ h
@@ -124,16 +138,16 @@ module _ (does : Take) (dull : Dullness) (law : Passing does dull) where
   all_stay (f ∷ fs) k h d = all_stay fs k (does f h) (law.stays f k h d)
 
   -- what leaves the use of both outputs as it was does nothing from then on
-  all_quiet : (fs : List Feature) (h : Held) → Bounded h → (take_all does fs h).out.used ≡ h.out.used → (take_all does fs h).notes.used ≡ h.notes.used
+  all_quiet : (fs : List Feature) (h : Held) → (take_all does fs h).out.used ≡ h.out.used → (take_all does fs h).notes.used ≡ h.notes.used
       → All (λ f. dull f.name (take_all does fs h)) fs
   unfolding take_all
-  all_quiet [] h b x y = tt
-  all_quiet (f ∷ fs) h b x y =
-      let one : Grown h (does f h) = law.grows f h b in
-      let rest : Grown (does f h) (take_all does fs (does f h)) = all-grow does law.grows fs (does f h) one.bounded in (
-        all_stay fs f.name (does f h) (law.quiet f h (omega (arith, one.added-out.more, rest.added-out.more, x)) (omega (arith, one.added-notes.more, rest.added-notes.more, y))),
-        all_quiet fs (does f h) one.bounded (omega (arith, one.added-out.more, rest.added-out.more, x)) (omega (arith, one.added-notes.more, rest.added-notes.more, y)),
-      )
+  all_quiet [] h x y = tt
+  all_quiet (f ∷ fs) h x y =
+      let one : Grown h (does f h) = law.grows f h in
+      let rest : Grown (does f h) (take_all does fs (does f h)) = all-grow does law.grows fs (does f h) in
+      let out : (does f h).out.used ≡ h.out.used = used-between h.out (does f h).out _ one.added-out rest.added-out x in
+      let notes : (does f h).notes.used ≡ h.notes.used = used-between h.notes (does f h).notes _ one.added-notes rest.added-notes y in
+      (all_stay fs f.name (does f h) (law.quiet f h out notes), all_quiet fs (does f h) (x ∙ sym out) (y ∙ sym notes))
 
   -- ---- the table
 
@@ -144,9 +158,9 @@ module _ (does : Take) (dull : Dullness) (law : Passing does dull) where
     at-stays f h u b (suc k) c = λ i p. ((c i p).0, λ a z. law.stays f a.name h ((c i p).1 a z))
 
     -- a feature keeps what is known
-    pub passable-stays : (f : Feature) (h : Held) (calm : List ℕ) → Passable g dull h calm → Passable g dull (does f h) calm
-    unfolding Passable Calm
-    passable-stays f h calm c = ((law.grows f h c.0).bounded, λ u b l. at-stays f h u b (get_or calm (u * levels + b) 0) (c.1 u b l))
+    pub calm-stays : (f : Feature) (h : Held) (calm : List ℕ) → Calm g dull h calm → Calm g dull (does f h) calm
+    unfolding Calm
+    calm-stays f h calm c u b l = at-stays f h u b (get_or calm (u * levels + b) 0) (c u b l)
 
     -- ---- a visit that is known
 
@@ -163,13 +177,13 @@ module _ (does : Take) (dull : Dullness) (law : Passing does dull) where
     makes-at h u b zero m = tt
     makes-at h u b (suc k) m = m
 
-    module _ (h : Held) (calm : List ℕ) (c : Passable g dull h calm) (u k : ℕ) (q : k ≡ 0 → ⊥) where
+    module _ (h : Held) (calm : List ℕ) (c : Calm g dull h calm) (u k : ℕ) (q : k ≡ 0 → ⊥) where
       known-makes : (left : ℕ) → (left ≡ 0 → ⊥) → left ≤ levels → k ≡ get_or calm (u * levels + (left - 1)) 0 → Makes h left u k
-      unfolding Passable Calm
+      unfolding Calm
       known-makes zero z l e = absurd (z refl)
       known-makes (suc b) z l e =
           let o : suc b - 1 ≡ b = omega arith in
-          at-makes h u b k q (subst (CalmAt g dull h u b) (sym (e ∙ ap (λ (d : ℕ). get_or calm (u * levels + d) 0) o)) (c.1 u b (omega (arith, l))))
+          at-makes h u b k q (subst (CalmAt g dull h u b) (sym (e ∙ ap (λ (d : ℕ). get_or calm (u * levels + d) 0) o)) (c u b (omega (arith, l))))
 
       module _ (left : ℕ) (z : left ≡ 0 → ⊥) (l : left ≤ levels) (e : k ≡ get_or calm (u * levels + (left - 1)) 0) (i : Bool) (p : List ℕ) (visits : ℕ) where
         pub known_over : visit_limit < visits + k → over ≡ run does (going h visits) (visit_link g left u i p)
@@ -201,30 +215,29 @@ module _ (does : Take) (dull : Dullness) (law : Passing does dull) where
       abbrev visited : Expansion
       visited = visit_link g left u i p
 
-      quiet-makes : Bounded h → after.out.used ≡ h.out.used → after.notes.used ≡ h.notes.used → Makes after left u (v - k)
-      quiet-makes b a n j q =
+      quiet-makes : after.out.used ≡ h.out.used → after.notes.used ≡ h.notes.used → Makes after left u (v - k)
+      quiet-makes a n j q =
           let d : (after ≡ take_all does visited.features h) × (v ≡ k + visited.visits) × (k + visited.visits ≤ visit_limit) = run-done does v after h k visited e in
           let all : All (λ f. dull f.name (take_all does visited.features h)) visited.features =
-          all_quiet visited.features h b (ap (λ (w : Held). w.out.used) (sym d.0) ∙ a) (ap (λ (w : Held). w.notes.used) (sym d.0) ∙ n) in
+          all_quiet visited.features h (ap (λ (w : Held). w.out.used) (sym d.0) ∙ a) (ap (λ (w : Held). w.notes.used) (sym d.0) ∙ n) in
           let dulls : AllDull dull after visited =
           all_in (λ f. dull f.name after) visited.features (subst (λ (w : Held). All (λ f. dull f.name w) visited.features) (sym d.0) all) in
           let like : Alike visited (visit_link g left u j q) = visit-alike g left u i j p q in
           (omega (arith, like.count, d.1), dull-alike dull after visited (visit_link g left u j q) like dulls)
 
-      made-put : (n : ℕ) → (n ≡ 0 → ⊥) → n ≤ levels → (calm : List ℕ) → Makes after n u (v - k) → Passable g dull after calm
-          → Passable g dull after (set calm (u * levels + (n - 1)) (v - k))
-      unfolding Passable
+      made-put : (n : ℕ) → (n ≡ 0 → ⊥) → n ≤ levels → (calm : List ℕ) → Makes after n u (v - k) → Calm g dull after calm
+          → Calm g dull after (set calm (u * levels + (n - 1)) (v - k))
       made-put zero z l calm m c = absurd (z refl)
       made-put (suc b) z l calm m c =
           let o : suc b - 1 ≡ b = omega arith in
-          (c.0, rw o (calm_put after calm u b (v - k) (omega (arith, l)) (makes-at after u b (v - k) m) c.1))
+          rw o (calm_put after calm u b (v - k) (omega (arith, l)) (makes-at after u b (v - k) m) c)
 
-      pub passable-put : (calm : List ℕ) → Bounded h → after.out.used ≡ h.out.used → after.notes.used ≡ h.notes.used → Passable g dull after calm
-          → Passable g dull after (set calm (u * levels + (left - 1)) (v - k))
-      passable-put calm b a n c = made-put left z l calm (quiet-makes b a n) c
+      pub quiet-put : (calm : List ℕ) → after.out.used ≡ h.out.used → after.notes.used ≡ h.notes.used → Calm g dull after calm
+          → Calm g dull after (set calm (u * levels + (left - 1)) (v - k))
+      quiet-put calm a n c = made-put left z l calm (quiet-makes a n) c
 
 -- ---- an answer and what is known after it
 
-pub after-done : (g : Groups) (dull : Dullness) (r : Option ℕ) (h : Held) (calm : List ℕ) (v : ℕ) → r ≡ Some v → CalmAfter r g dull h calm → Passable g dull h calm
+pub after-done : (g : Groups) (dull : Dullness) (r : Option ℕ) (h : Held) (calm : List ℕ) (v : ℕ) → r ≡ Some v → CalmAfter r g dull h calm → Calm g dull h calm
 unfolding CalmAfter
 after-done g dull r h calm v e c = subst (λ (w : Option ℕ). CalmAfter w g dull h calm) e c

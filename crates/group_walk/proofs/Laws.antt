@@ -9,15 +9,14 @@ use borrow.Author.Tests.{le-leb, lt-leb, leb-true, leb-false, lt-ltb, le-ltb}
 use lib.Dec.{eqb, leb, ltb}
 use lib.ListN.{length, get_or}
 use Rattle.as5506.specs.Lists.{span, keep}
-use Rattle.as5506.specs.Tables.{missing, present, width, letter_e, e_holder, e_holder_kind, e_name, e_kind, e_direction, rows_naming}
-use Rattle.as5506.specs.Groups.{Feature, Expansion, joined, one_visit, one_feature, turned}
+use Rattle.as5506.specs.Tables.{missing, present, width, letter_e, e_holder, e_holder_kind, e_name, rows_naming}
+use Rattle.as5506.specs.Groups.{Feature, Expansion, joined, one_visit, one_feature}
 use Rattle.as5506.proofs.Laws.{missing-is, present-is}
 use Rattle.as5506.proofs.Scans.{keep-hit, keep-miss, keep-done, keep-both}
-use Rattle.lent.proofs.Append.{front-then}
+use Rattle.lent.proofs.Pieces.{stays_then}
 use Rattle.links.specs.Links.{unfound}
 use Rattle.links.specs.Walk.{declared_in, Groups, Visit, feature_at, row_by, walk, rows_in, extended_by, type_by, found_by, visit_link}
 use Rattle.sink.specs.Take.{Held}
-use Rattle.sink.specs.Dull.{Bounded}
 use Rattle.sink.proofs.Dull.{Grown, grown-nothing, grown-then}
 use Rattle.std.specs.Prelude.{Option, Some, None}
 use Rattle.group_walk.specs.Run.{Take, take_all, visit_limit, State, over, going, going_by, run, state_of, Behind}
@@ -121,16 +120,16 @@ module _ (does : Take) where
 
   -- ---- where every feature only adds to the outputs, a walk does
 
-  module _ (grows : (f : Feature) (h : Held) → Bounded h → Grown h (does f h)) where
-    pub all-grow : (fs : List Feature) (h : Held) → Bounded h → Grown h (take_all does fs h)
+  module _ (grows : (f : Feature) (h : Held) → Grown h (does f h)) where
+    pub all-grow : (fs : List Feature) (h : Held) → Grown h (take_all does fs h)
     unfolding take_all
-    all-grow [] h b = grown-nothing h b
-    all-grow (f ∷ fs) h b = grown-then h (does f h) (take_all does fs (does f h)) (grows f h b) (all-grow fs (does f h) (grows f h b).bounded)
+    all-grow [] h = grown-nothing h
+    all-grow (f ∷ fs) h = grown-then h (does f h) (take_all does fs (does f h)) (grows f h) (all-grow fs (does f h))
 
-    pub done-grown : (r : Option ℕ) (t h : Held) (k : ℕ) (x : Expansion) (v : ℕ) → state_of r t ≡ run does (going h k) x → r ≡ Some v → Bounded h → Grown h t
-    done-grown r t h k x v e q b =
+    pub done-grown : (r : Option ℕ) (t h : Held) (k : ℕ) (x : Expansion) (v : ℕ) → state_of r t ≡ run does (going h k) x → r ≡ Some v → Grown h t
+    done-grown r t h k x v e q =
         let d = run-done v t h k x (ap (λ (w : Option ℕ). state_of w t) (sym q) ∙ e) in
-        subst (Grown h) (sym d.0) (all-grow x.features h b)
+        subst (Grown h) (sym d.0) (all-grow x.features h)
 
   -- ---- the answer of a part, and what follows it
 
@@ -152,15 +151,14 @@ module _ (does : Take) where
 
 -- ---- what stood in the outputs
 
-pub behind-nothing : (h : Held) → Behind h h
-behind-nothing h = record { in-out = refl; in-notes = refl; length-memo = refl; length-out = refl; length-notes = refl }
-
 -- what is written behind what was added is behind what stood there
 pub behind-then : (h t u : Held) → Grown h t → Behind t u → Behind h u
 behind-then h t u a b =
     record {
-      in-out = front-then h.out t.out u.out.holds a.added-out b.in-out;
-      in-notes = front-then h.notes t.notes u.notes.holds a.added-notes b.in-notes;
+      in-out = stays_then h.out t.out u.out a.added-out b.in-out;
+      in-notes = stays_then h.notes t.notes u.notes a.added-notes b.in-notes;
+      within-out = λ w. b.within-out (a.within-out w);
+      within-notes = λ w. b.within-notes (a.within-notes w);
       length-memo = b.length-memo ∙ a.length-memo;
       length-out = b.length-out ∙ a.length-out;
       length-notes = b.length-notes ∙ a.length-notes;
@@ -275,11 +273,6 @@ rows_start g u = rw sub-zero (sym (keep-both (λ i. eqb (e_holder_kind (declared
 
 -- ---- a walk over them, row by row
 
--- the feature of a row, from the numbers that the code reads
-pub feature-is : (e : List ℕ) (inverse : Bool) (prefix : List ℕ) (i name kind direction now : ℕ) → name ≡ e_name (declared_in e) i → kind ≡ e_kind (declared_in e) i
-    → direction ≡ e_direction (declared_in e) i → now ≡ turned inverse direction → record { name = name; kind = kind; direction = now; prefix = prefix } ≡ feature_at e inverse prefix i
-feature-is e inverse prefix i name kind direction now a b c d = rw (a, b, d, c)
-
 module _ (does : Take) (g : Groups) (visit : Visit) (inverse : Bool) (prefix : List ℕ) (u : ℕ) where
   abbrev part : ℕ → Expansion
   part j = row_by (present (get_or g.nested j 0)) g visit inverse prefix j
@@ -293,31 +286,31 @@ module _ (does : Take) (g : Groups) (visit : Visit) (inverse : Bool) (prefix : L
     unfolding walk rows_from
     walk_end h k p l = rw (keep-done (of_group g.e u) i (length g.e / width letter_e) p) (run-nothing does h k l)
 
-    module _ (p : i < length g.e / width letter_e) (h : Held) (k : ℕ) (b : Bool) (is : b ≡ of_group g.e u i) where
+    module _ (p : i < length g.e / width letter_e) (h : Held) (k : ℕ) where
       abbrev here : State
       here = on_from (going h k) i
 
-      pub row-passed : b ≡ false → on_from (going h k) (i + 1) ≡ here
+      pub row-passed : of_group g.e u i ≡ false → on_from (going h k) (i + 1) ≡ here
       unfolding rows_from
-      row-passed q = rw (keep-miss (of_group g.e u) i (length g.e / width letter_e) p (sym is ∙ q))
+      row-passed q = rw (keep-miss (of_group g.e u) i (length g.e / width letter_e) p q)
 
-      module _ (q : b ≡ true) (to : ℕ) (n : to ≡ get_or g.nested i 0) where
-        row-taken : here ≡ on_from (run does (going h k) (row_by (present to) g visit inverse prefix i)) (i + 1)
+      module _ (q : of_group g.e u i ≡ true) where
+        row-taken : here ≡ on_from (run does (going h k) (part i)) (i + 1)
         unfolding walk rows_from
-        row-taken = rw (keep-hit (of_group g.e u) i (length g.e / width letter_e) p (sym is ∙ q), n) (run-joined does (going h k) (part i) (map part (rows_from g.e u (i + 1))))
+        row-taken = rw (keep-hit (of_group g.e u) i (length g.e / width letter_e) p q) (run-joined does (going h k) (part i) (map part (rows_from g.e u (i + 1))))
 
-        pub row_listed : to ≡ missing → k ≤ visit_limit → (a : Held) → a ≡ does (feature_at g.e inverse prefix i) h → on_from (going a k) (i + 1) ≡ here
+        pub row_listed : get_or g.nested i 0 ≡ missing → k ≤ visit_limit → (a : Held) → a ≡ does (feature_at g.e inverse prefix i) h → on_from (going a k) (i + 1) ≡ here
         unfolding row_by
-        row_listed m l a d = sym (row-taken ∙ rw (missing-is to to refl m, run-feature does (feature_at g.e inverse prefix i) h k l, ← d))
+        row_listed m l a d = sym (row-taken ∙ rw (missing-is _ _ refl m, run-feature does (feature_at g.e inverse prefix i) h k l, ← d))
 
-        module _ (m : to ≡ missing → ⊥) (longer : List ℕ) (more : longer ≡ prefix ++ e_name (declared_in g.e) i ∷ [])
-            (r : Option ℕ) (t : Held) (e : state_of r t ≡ run does (going h k) (visit to inverse longer)) where
-          row-nested : here ≡ on_from (run does (going h k) (visit to inverse longer)) (i + 1)
+        module _ (m : get_or g.nested i 0 ≡ missing → ⊥) (r : Option ℕ) (t : Held)
+            (e : state_of r t ≡ run does (going h k) (visit (get_or g.nested i 0) inverse (prefix ++ e_name (declared_in g.e) i ∷ []))) where
+          row-nested : here ≡ on_from (run does (going h k) (visit (get_or g.nested i 0) inverse (prefix ++ e_name (declared_in g.e) i ∷ []))) (i + 1)
           unfolding row_by
-          row-nested = row-taken ∙ rw (present-is to to refl m, more, n)
+          row-nested = row-taken ∙ rw (present-is _ _ refl m)
 
           pub row-over : r ≡ None → over ≡ here
-          row-over z = over-then does r t (going h k) (visit to inverse longer) e z _ ∙ sym row-nested
+          row-over z = over-then does r t (going h k) _ e z _ ∙ sym row-nested
 
           pub row_done : (v : ℕ) → r ≡ Some v → on_from (going t v) (i + 1) ≡ here
-          row_done v z = sym (row-nested ∙ done-then does r t (going h k) (visit to inverse longer) e v z _)
+          row_done v z = sym (row-nested ∙ done-then does r t (going h k) _ e v z _)

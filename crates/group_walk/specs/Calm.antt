@@ -4,7 +4,6 @@ use Rattle.as5506.specs.Followed.{In}
 use Rattle.as5506.specs.Groups.{Feature, Expansion, depth_limit}
 use Rattle.links.specs.Walk.{Groups, visit_link}
 use Rattle.sink.specs.Take.{Held}
-use Rattle.sink.specs.Dull.{Bounded}
 
 -- a test of names, by what a walk carries
 abbrev pub Dullness : Type 1
@@ -24,15 +23,11 @@ CalmAt g dull h u b (suc k) =
 abbrev pub levels : ℕ
 levels = suc depth_limit
 
--- a number for each group type and level
+-- a number for each group type and level: what a walk relies on, and keeps unless it is over
 unfoldable pub Calm : Groups → Dullness → Held → List ℕ → Type 0
 Calm g dull h calm = (u b : ℕ) → b < levels → CalmAt g dull h u b (get_or calm (u * levels + b) 0)
-
--- what a walk relies on, and keeps unless it is over
-unfoldable pub Passable : Groups → Dullness → Held → List ℕ → Type 0
-Passable g dull h calm = Bounded h × Calm g dull h calm
 
 -- what an answer leaves, with what is carried then
 unfoldable pub CalmAfter : Option ℕ → Groups → Dullness → Held → List ℕ → Type 0
 CalmAfter None g dull h calm = Unit {0}
-CalmAfter (Some visits) g dull h calm = Passable g dull h calm
+CalmAfter (Some visits) g dull h calm = Calm g dull h calm

@@ -1,6 +1,7 @@
 -- What an expansion does to what a walk carries, feature by feature, unless it has too many visits. Assumes nothing.
-use Rattle.std.specs.Prelude.{Bool, true, false, ◌≡◌, List, [], ◌∷◌, ℕ, ◌+◌, leb, length, take, Option, Some, None}
+use Rattle.std.specs.Prelude.{Bool, true, false, ◌≡◌, List, [], ◌∷◌, ℕ, ◌+◌, leb, length, Option, Some, None}
 use Rattle.as5506.specs.Groups.{Feature, Expansion}
+use Rattle.lent.specs.Append.{Stays, Within}
 use Rattle.sink.specs.Take.{Held}
 
 -- what a feature does
@@ -35,11 +36,13 @@ unfoldable pub state_of : Option ℕ → Held → State
 state_of None h = over
 state_of (Some visits) h = going h visits
 
--- whatever the answer, what stood in the outputs before a walk stays there: it writes behind what is used; and the memory and the outputs stay as
--- long as they were
+-- whatever the answer, what stood in the outputs before a walk stays there: it writes behind what is used; what is used of each output stays within
+-- it; and the memory and the outputs stay as long as they were
 pub record Behind (h t : Held) : Type 0 where
-  pub in-out : take h.out.used t.out.holds ≡ take h.out.used h.out.holds
-  pub in-notes : take h.notes.used t.notes.holds ≡ take h.notes.used h.notes.holds
+  pub in-out : Stays h.out t.out
+  pub in-notes : Stays h.notes t.notes
+  pub within-out : Within h.out → Within t.out
+  pub within-notes : Within h.notes → Within t.notes
   pub length-memo : length t.memo ≡ length h.memo
   pub length-out : length t.out.holds ≡ length h.out.holds
   pub length-notes : length t.notes.holds ≡ length h.notes.holds

@@ -1,5 +1,5 @@
 -- The call's answer and outputs, case by case. Assumes nothing.
-use mathlib.Core.Bool.{true, false, not}
+use mathlib.Core.Bool.{false}
 use mathlib.Core.Logic.{◌↔◌}
 use mathlib.Core.Path.{◌≡◌, refl, sym, ap, ap₂, ◌∙◌, subst}
 use mathlib.Core.List.{List, [], ◌∷◌}
@@ -9,11 +9,11 @@ use lib.Dec.{T}
 use lib.ListN.{length}
 use lib.Seq.{sets}
 use borrow.Author.Tests.{lt-ltb, le-ltb}
-use Rattle.std.specs.Prelude.{Option, Some, None, Result, Ok, Err, is_err, IsErrAnd}
+use Rattle.std.specs.Prelude.{Option, Some, Result, Ok, Err, is_err, IsErrAnd}
 use Rattle.std.specs.Option.{ok_or}
-use Rattle.std.proofs.lemmas.Result.{err_from_is_err_and}
 use Rattle.as5506.specs.Lists.{is_nil, each, zeros}
 use Rattle.as5506.specs.declared.Refusal.{Refusal as Told}
+use Rattle.as5506.specs.declared.Listed.{Listed}
 use Rattle.as5506.specs.Tables.{Tables, letter_c, letter_x}
 use Rattle.as5506.specs.Answers.{Refusal, Answer, given, refused, refusal, nowhere, told, handed}
 use Rattle.as5506.specs.Refusals.{faults, accepted}
@@ -22,24 +22,18 @@ use Rattle.as5506.specs.Followed.{NoneHasNext}
 use Rattle.as5506.specs.Listing.{TracedList, Room, traced_list, traced_within, traced_on, traced_answer}
 use Rattle.as5506.specs.Layout.{row_numbers, diag_numbers, room_in, traced_block, diag_block, traced_row_numbers, traced_diag_numbers, output, rows_back}
 use Rattle.as5506.proofs.Laws.{zeros-length}
-use Rattle.as5506.proofs.Answers.{is_given, handed-ok, hands-refused, ok-not-err, ok-same, err-same}
+use Rattle.as5506.proofs.Answers.{handed-ok, hands-refused, came-given, passed, none-told, some-told}
 use Rattle.as5506.proofs.Output.{demand-three-output}
 use Rattle.lent.specs.Answered.{AnswerIn}
-use Rattle.lent.proofs.Answered.{given-in, refused-in, keeps, clears}
+use Rattle.lent.proofs.Answered.{given-in, refused-in, keeps}
 use Rattle.tables.specs.Answer.{Checked, checked}
 use Rattle.tables.proofs.Answers.{accepted-is, refused-is}
 use Rattle.tables.proofs.Facts.{facts}
-use Rattle.trace.specs.Writing.{Written}
-use Rattle.trace.proofs.Writing.{overs, counts, whole-all, holds-all}
+use Rattle.output.specs.Blocks.{Written}
+use Rattle.output.proofs.Writing.{overs, counts, whole-all, holds-all}
 use Rattle.trace.specs.Ready.{Traceable}
-use Rattle.instance.specs.declared.Listed.{Listed}
 use Rattle.instance.specs.Answer.{listed, answer_for, TracedInto}
 use Rattle.instance.specs.Outputs.{Lists}
-
--- ---- what a `?` hands on
-
-pub passed : {A : Type 0} (z : Result A Told) (r : Told) → IsErrAnd z (λ y. y ≡ r) → z ≡ Err r
-passed z r h = let s = err_from_is_err_and z h in s.1 ∙ ap Err s.2
 
 -- ---- THE ORDER 11, 12
 
@@ -61,27 +55,21 @@ module _ (room : Room) (l : TracedList) where
 module _ {A : Type 0} (w : ℕ) (block : A → List ℕ) (l : List A) (out : List ℕ) (q : Option ℕ) (out' : List ℕ) (v : Written w block l out 0 q out')
     (t : Told) (z : Result ℕ Told) (e : z ≡ ok_or q t) where
   over : (r : Told) → z ≡ Err r → (r ≡ t) × (length out / w < length l)
-  over r f = go q v (sym f ∙ e)
-    where
-      go : (q : Option ℕ) → Written w block l out 0 q out' → ◌≡◌ {A = Result ℕ Told} (Err r) (ok_or q t) → (r ≡ t) × (length out / w < length l)
-      go None v g = (err-same r t g, subst (λ (n : ℕ). length out / w < n) (zero-add (length l)) (overs w block l out 0 out' v))
-      go (Some k) v g = absurd (ok-not-err k r (sym g))
+  over r f =
+      let n = none-told q t r (sym e ∙ f) in
+      (n.1, subst (λ (k : ℕ). length out / w < k) (zero-add (length l)) (overs (subst (λ (p : Option ℕ). Written w block l out 0 p out') n.0 v)))
 
   fit : (k : ℕ) → z ≡ Ok k → (k ≡ length l) × (length l ≤ length out / w) × (length (each block l) ≤ length out) × (out' ≡ sets out 0 (each block l))
-  fit k f = go q v (sym f ∙ e)
-    where
-      go : (q : Option ℕ) → Written w block l out 0 q out' → ◌≡◌ {A = Result ℕ Told} (Ok k) (ok_or q t)
-          → (k ≡ length l) × (length l ≤ length out / w) × (length (each block l) ≤ length out) × (out' ≡ sets out 0 (each block l))
-      go None v g = absurd (ok-not-err k t g)
-      go (Some n) v g =
-          let c = counts w block l out 0 n out' v in
-          let number : n ≡ length l = c.0 ∙ zero-add (length l) in
-          let room : length l ≤ length out / w = subst (λ (n : ℕ). n ≤ length out / w) number c.1 in (
-            ok-same k n g ∙ number,
-            room,
-            rw (whole-all w block l out 0 n out' v) (le_trans (mul-le-mul_right w room) (div-mul-le_self (length out) w)),
-            holds-all w block l out 0 n out' v ∙ ap (λ (n : ℕ). sets out n (each block l)) (zero-mul w),
-          )
+  fit k f =
+      let u : Written w block l out 0 (Some k) out' = subst (λ (p : Option ℕ). Written w block l out 0 p out') (some-told q t k (sym e ∙ f)) v in
+      let c = counts u in
+      let number : k ≡ length l = c.0 ∙ zero-add (length l) in
+      let room : length l ≤ length out / w = subst (λ (n : ℕ). n ≤ length out / w) number c.1 in (
+        number,
+        room,
+        rw (whole-all u) (le_trans (mul-le-mul_right w room) (div-mul-le_self (length out) w)),
+        holds-all u ∙ ap (λ (n : ℕ). sets out n (each block l)) (zero-mul w),
+      )
 
 -- ---- accepted tables can be traced
 
@@ -166,14 +154,6 @@ module _ (m : Tables) (rows diags : List ℕ) (q : Checked) (e : q ≡ checked (
 
 -- ---- THE CALL: rows and diags are the outputs at entry, rows₁ and diags₁ the cleared ones, rows₂ and diags₂ what was written into them
 
-came-given : (a : Answer TracedList) → is_err (handed listed a) ≡ false → T (is_given a)
-came-given (given l) h = tt
-came-given (refused r) h = absurd (subst T h tt)
-
-came-refused : (a : Answer TracedList) → is_err (handed listed a) ≡ true → T (not (is_given a))
-came-refused (given l) h = absurd (subst T (sym h) tt)
-came-refused (refused r) h = tt
-
 module _ (m : Tables) (rows diags rows₁ diags₁ : List ℕ) (e : rows₁ ≡ zeros (length rows)) (f : diags₁ ≡ zeros (length diags)) (z : Result Listed Told) (rows₂ diags₂ : List ℕ)
     (h : Lists (answer_for m rows₁ diags₁) m rows₁ diags₁ z rows₂ diags₂) where
   abbrev answer : Answer TracedList
@@ -198,14 +178,7 @@ module _ (m : Tables) (rows diags rows₁ diags₁ : List ℕ) (e : rows₁ ≡ 
 
   pub given-call : is_err z ≡ false → TracedInto m rows diags z rows₂ diags₂
   given-call g =
-      let t = came-given answer (ap is_err (sym told-answer) ∙ g) in
+      let t = came-given listed answer (ap is_err (sym told-answer) ∙ g) in
       traced-into rows₂ diags₂
       (keeps (traced_row_numbers m) answer rows₁ rows₂ (length rows) t e (subst (λ (a : Answer TracedList). AnswerIn (traced_row_numbers m) a rows₁ rows₂) same_answer h.in_rows))
       (keeps traced_diag_numbers answer diags₁ diags₂ (length diags) t f (subst (λ (a : Answer TracedList). AnswerIn traced_diag_numbers a diags₁ diags₂) same_answer h.in_diagnostics))
-
-  pub refused-call : is_err z ≡ true → length rows₂ ≡ length rows₁ → length diags₂ ≡ length diags₁ → (rows₃ diags₃ : List ℕ) → rows₃ ≡ zeros (length rows₂) → diags₃ ≡ zeros (length diags₂)
-      → TracedInto m rows diags z rows₃ diags₃
-  refused-call g i j rows₃ diags₃ u v =
-      let t = came-refused answer (ap is_err (sym told-answer) ∙ g) in
-      traced-into rows₃ diags₃ (u ∙ ap zeros (i ∙ zeros-length rows₁ (length rows) e) ∙ clears (traced_row_numbers m) answer (length rows) t)
-      (v ∙ ap zeros (j ∙ zeros-length diags₁ (length diags) f) ∙ clears traced_diag_numbers answer (length diags) t)

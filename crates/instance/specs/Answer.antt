@@ -3,11 +3,11 @@ use Rattle.std.specs.Prelude.{◌↔◌, ◌≡◌, List, ℕ, length, Result, O
 use Rattle.as5506.specs.Tables.{Tables}
 use Rattle.as5506.specs.Answers.{Answer, handed}
 use Rattle.as5506.specs.declared.Refusal.{Refusal as Told}
+use Rattle.as5506.specs.declared.Listed.{Listed}
 use Rattle.as5506.specs.Tracing.{unlimited, step_limit}
 use Rattle.as5506.specs.Followed.{NoneHasNext}
 use Rattle.as5506.specs.Listing.{TracedList, traced_answer}
 use Rattle.as5506.specs.Layout.{room_in, traced_row_numbers, traced_diag_numbers, output, rows_back}
-use Rattle.instance.specs.declared.Listed.{Listed}
 
 -- how many rows and diagnostics a list has
 abbrev pub listed : TracedList → Listed

@@ -5,15 +5,8 @@ ghost use Rattle.lent.specs.Model.{model};
 ghost use Rattle.instance.specs.Answer.{answer_for, TracedInto};
 ghost use Rattle.instance.specs.Outputs.{Lists};
 
-use as5506::{Reason, Refusal};
+use as5506::{Listed, Reason, Refusal};
 use lent::Tables;
-
-// How many rows and diagnostics were written.
-#[derive(Clone, Copy)]
-pub struct Listed {
-    pub rows: usize,
-    pub diagnostics: usize,
-}
 
 // Checks the tables, then writes the rows and the diagnostics of all connections. On a refusal the outputs hold anything.
 fn list(m: &Tables, rows: &mut [u32], diagnostics: &mut [u32]) -> Result<Listed, Refusal>

@@ -18,7 +18,7 @@ use Rattle.as5506.specs.Lists.{zeros}
 -- ---- writing
 
 -- two blocks, one behind the other, are one block
-pub sets-append : (vs ws l : List ℕ) (i : ℕ) → sets l i (vs ++ ws) ≡ sets (sets l i vs) (i + length vs) ws
+pub sets-append : {A : Type 0} (vs ws l : List A) (i : ℕ) → sets l i (vs ++ ws) ≡ sets (sets l i vs) (i + length vs) ws
 sets-append [] ws l i = ap (λ (k : ℕ). sets l k ws) (sym (add-zero i))
 sets-append (v ∷ vs) ws l i =
     sets-append vs ws (set l i v) (suc i) ∙ ap (λ (k : ℕ). sets (sets (set l i v) (suc i) vs) k ws) (suc-add i (length vs) ∙ sym (add-suc i (length vs)))
@@ -72,7 +72,7 @@ sets-other (v ∷ vs) l i j h =
     sets-other vs (set l i v) (suc i) j (λ p q. h (omega arith) (omega arith)) ∙ get_or-set_other l i j v 0 (λ e. h (omega arith) (omega arith))
 
 -- what stands before the block stays
-pub sets-before : (vs l : List ℕ) (n i : ℕ) → n ≤ i → take n (sets l i vs) ≡ take n l
+pub sets-before : {A : Type 0} (vs l : List A) (n i : ℕ) → n ≤ i → take n (sets l i vs) ≡ take n l
 sets-before [] l n i h = refl
 sets-before (v ∷ vs) l n i h = sets-before vs (set l i v) n (suc i) (omega arith) ∙ take-set-le n l i v h
 

@@ -1,5 +1,5 @@
 -- The tables in slices that lie beside one another: those that C and Rust lend, and those that the reader fills. Assumes nothing.
-use Rattle.std.specs.Prelude.{List, [], ℕ}
+use Rattle.std.specs.Prelude.{List, ℕ}
 use Rattle.std.specs.Borrow.{Bor, MutBor}
 use denote.Triple.Both.{Both}
 use Rattle.as5506.specs.Tables.{Tables, tables_of}

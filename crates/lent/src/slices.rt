@@ -40,27 +40,15 @@ pub fn put_all<T: Copy>(out: &mut [T], at: usize, block: &[T])
     }
 }
 
-// Writes a piece behind the first `used` bytes, if there is room for the whole of it: how many are used then, one more than there are where
-// there is no room. `append_numbers` is the same of numbers, and the two are not one: a slice of any type may be so long that no number is one more.
-pub fn append_bytes(out: &mut [u8], used: usize, piece: &[u8]) -> usize
+// Writes a piece behind the first `used` values, if there is room for the whole of it: how many are used then, none where a piece found no room.
+#[tactic(auto, unfolding(crate::specs::Append::append_behind), using(crate::proofs::Pieces::append_fits, crate::proofs::Pieces::append_full))]
+pub fn append<T: Copy>(out: &mut [T], used: Option<usize>, piece: &[T]) -> Option<usize>
     ensures { filled out.new result ≡ append piece.now (filled out.old used) }
 {
-    let len = out.len();
-    if len < used || len - used < piece.len() {
-        return len + 1;
+    let at = used?;
+    if out.len() < at || out.len() - at < piece.len() {
+        return None;
     }
-    put_all(out, used, piece);
-    used + piece.len()
-}
-
-// Writes a piece behind the first `used` numbers, as `append_bytes` does behind bytes.
-pub fn append_numbers(out: &mut [u32], used: usize, piece: &[u32]) -> usize
-    ensures { filled out.new result ≡ append piece.now (filled out.old used) }
-{
-    let len = out.len();
-    if len < used || len - used < piece.len() {
-        return len + 1;
-    }
-    put_all(out, used, piece);
-    used + piece.len()
+    put_all(out, at, piece);
+    Some(at + piece.len())
 }

@@ -1,9 +1,11 @@
 -- What each step of the code says of the definition's links, and a table that is filled row by row. Assumes nothing.
+use mathlib.Core.Bool.{and-false}
 use mathlib.Core.Path.{◌≡◌, sym, ap, ◌∙◌}
 use mathlib.Core.List.{List, map}
 use Prim.Native.Nat.{ℕ, ◌+◌, ◌-◌, ◌*◌, ◌≤◌, ◌<◌}
 use native.Mathlib.Nat.{add-zero, sub-zero, mul-one}
 use native.Mathlib.Numerals.{add-one}
+use native.Mathlib.Omega.{arith}
 use borrow.Author.Tests.{eq-eqb, ne_eqb}
 use lib.Dec.{eqb}
 use lib.ListN.{get_or, set}
@@ -12,7 +14,6 @@ use Rattle.std.specs.Prelude.{Option, Some, None}
 use Rattle.as5506.specs.Lists.{span}
 use Rattle.as5506.specs.Tables.{Tables, missing, present, letter_u, count, Ref, p_name, u_package, u_extends, u_inverse_of, e_holder_kind, e_holder, e_kind, e_classifier}
 use Rattle.as5506.specs.Resolve.{resolve}
-use Rattle.as5506.proofs.Laws.{and-false}
 use Rattle.as5506.proofs.Scans.{span-next, span-done}
 use Rattle.resolver.specs.declared.Classifier.{Classifier}
 use Rattle.resolver.specs.declared.Classifier.TheVariants.{ComponentType, ComponentImpl, GroupType}
@@ -34,8 +35,11 @@ module _ (m : Tables) where
       pub link_group : (g u : ℕ) → z ≡ GroupType g u → u ≡ link_of m from r
       link_group g u q = link_means (Some (GroupType g u)) (ap (λ (z : Classifier). Some z) (sym q) ∙ e)
 
-      pub link_row : (g u : ℕ) → z ≡ GroupType g u → u < count m letter_u
+      link_row : (g u : ℕ) → z ≡ GroupType g u → u < count m letter_u
       link_row g u q = (located m from r (Some (GroupType g u)) (ap (λ (z : Classifier). Some z) (sym q) ∙ e)).0
+
+      pub link_fits : (g u : ℕ) → z ≡ GroupType g u → count m letter_u ≤ 4096 → u < 4294967296
+      link_fits g u q few = omega (arith, few, link_row g u q)
 
       pub link_type : (g i : ℕ) → z ≡ ComponentType g i → unfound ≡ link_of m from r
       link_type g i q = link_means (Some (ComponentType g i)) (ap (λ (z : Classifier). Some z) (sym q) ∙ e)
@@ -105,7 +109,7 @@ module _ (link : ℕ → ℕ) (n : ℕ) (table₀ : List ℕ) where
     filling_end h = sym (ap (λ (is : List ℕ). sets table row (map link is)) (span-done row n h)) ∙ t
 
 -- what each function goes by
-pub ruleset link_steps = (link_none, link_group, link_type, link_impl)
+pub ruleset link_steps = (link_none, link_group, link_type, link_impl, link_fits)
 
 pub ruleset filling_steps = (filling_start, filling_turn, filling_end)
 

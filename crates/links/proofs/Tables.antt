@@ -1,34 +1,29 @@
 -- The tables of links, read by row. Assumes nothing.
-use mathlib.Core.Path.{◌≡◌, refl, sym, ap, ◌∙◌}
-use mathlib.Core.List.{List, map}
-use Prim.Native.Nat.{ℕ, zero, suc, ◌+◌, ◌≤◌, ◌<◌}
-use native.Mathlib.Nat.{add-zero, zero-add}
+use mathlib.Core.Path.{◌≡◌, ap, ◌∙◌}
+use mathlib.Core.List.{List}
+use Prim.Native.Nat.{ℕ, ◌≤◌, ◌<◌}
 use native.Mathlib.Omega.{arith}
-use lib.ListN.{length, get_or, get_or-append}
+use lib.ListN.{length, get_or, get_or-append, length-map}
 use lib.Seq.{sets, sets-eq}
-use Rattle.as5506.specs.Lists.{span}
+use Rattle.std.proofs.lemmas.List.{get_or-map}
+use Rattle.as5506.specs.Lists.{up_to}
 use Rattle.as5506.specs.Tables.{Tables, letter_u, letter_e, count}
+use Rattle.as5506.proofs.Laws.{up_to-length, up_to-entry}
 use Rattle.links.specs.Links.{extends_link, inverse_link, nested_link, links_to, LinkedInto, Linked, LinksFit}
 
 -- ---- one table
 
 module _ (link : ℕ → ℕ) where
-  span-length : (i n : ℕ) → length (map link (span i n)) ≡ n
-  span-length i zero = refl
-  span-length i (suc n) = ap suc (span-length (suc i) n)
-
-  span-link : (i n j : ℕ) → j < n → get_or (map link (span i n)) j 0 ≡ link (i + j)
-  span-link i zero j h = absurd (omega arith)
-  span-link i (suc n) zero h = ap link (sym (add-zero i))
-  span-link i (suc n) (suc j) h = let e : suc i + j ≡ i + suc j = omega arith in span-link (suc i) n j (omega arith) ∙ ap link e
+  links-length : (n : ℕ) → length (links_to link n) ≡ n
+  links-length n = length-map (up_to n) link ∙ up_to-length n
 
   row-link : (n j : ℕ) → j < n → get_or (links_to link n) j 0 ≡ link j
-  row-link n j h = span-link 0 n j h ∙ ap link (zero-add j)
+  row-link n j h = get_or-map link (up_to n) j 0 0 (omega (arith, up_to-length n, h)) ∙ ap link (up_to-entry n j 0 h)
 
   -- written into a table that has room for them
   into-link : (n : ℕ) (table table' : List ℕ) → n ≤ length table → table' ≡ sets table 0 (links_to link n) → (j : ℕ) → j < n → get_or table' j 0 ≡ link j
   into-link n table table' room e j h =
-      let size : length (links_to link n) ≡ n = span-length 0 n in
+      let size : length (links_to link n) ≡ n = links-length n in
       ap (λ (t : List ℕ). get_or t j 0) (e ∙ sets-eq (links_to link n) table 0 (omega (arith, size, room)))
       ∙ get_or-append (links_to link n) _ 0 j (omega (arith, size, h)) ∙ row-link n j h
 

@@ -15,14 +15,8 @@ use columns::{Reference, declared, group_type};
 use lent::{Tables, get_or};
 use resolver::Classifier;
 
-// The link of a reference that names no group type.
+// The link of a reference that names no group type. A number and no Option: links lie in lent tables of numbers.
 pub const UNFOUND: u32 = 4294967294;
-
-// The kind of a holder that is a group type, and that of a feature that is a group. They are the only kinds asked for here, so they are numbers, as in
-// the tables.
-const GROUP_TYPE: u32 = 1;
-
-const NESTED_GROUP: u32 = 8;
 
 // The links of a model: of E rows what each nests, of U rows what each extends and what it is the inverse of.
 #[derive(Clone, Copy)]
@@ -32,77 +26,85 @@ pub struct Links<'a> {
     pub inverse: &'a [u32],
 }
 
+// What finds the links of tables. These have few U rows, so that the number of each fits a link.
+#[derive(Clone, Copy)]
+struct Linker<'a, 'b> {
+    m: &'a Tables<'b>,
+    ghost few: { count (model m.now) letter_u ≤ 4096 },
+}
+
+impl Linker<'_, '_> {
+    // The link of a reference that is asked from the package named `from`; `UNFOUND` where it names no group type.
+    #[tactic(auto, using(crate::proofs::Rows::link_steps))]
+    fn link(&self, from: u32, reference: Reference) -> u32
+        ensures { result ≡ link_of (model self.now.m.now) from (ref_of reference) }
+    {
+        let Some(classifier) = resolver::resolve_classifier(self.m, from, reference) else {
+            return UNFOUND;
+        };
+        match classifier {
+            Classifier::GroupType { row, .. } => row as u32,
+            Classifier::ComponentType { .. } | Classifier::ComponentImpl { .. } => UNFOUND,
+        }
+    }
+
+    // The link of a reference that group type `row` has, or a feature of it; `MISSING` where its type is missing: then there is none.
+    #[tactic(auto, using(crate::proofs::Rows::link_missing, crate::proofs::Rows::link_there))]
+    fn link_at(&self, row: usize, reference: Reference) -> u32
+        ensures { result ≡ link_in (present reference.type_name) (model self.now.m.now) row (ref_of reference) }
+    {
+        if reference.type_name == MISSING {
+            return MISSING;
+        }
+        let from = get_or(self.m.p, group_type::package_of(self.m, row) as usize, 0);
+        self.link(from, reference)
+    }
+
+    // Writes the links of U rows: what each extends and what it is the inverse of.
+    #[tactic(auto, using(crate::proofs::Rows::type_steps))]
+    fn link_types(&self, extends: &mut [u32], inverse: &mut [u32])
+        ensures in_extends { extends.new ≡ sets extends.old 0 (links_to (extends_link (model self.now.m.now)) (count (model self.now.m.now) letter_u)) }
+        ensures in_inverse { inverse.new ≡ sets inverse.old 0 (links_to (inverse_link (model self.now.m.now)) (count (model self.now.m.now) letter_u)) }
+    {
+        for row in 0..self.m.u.len() / U_NUMBERS {
+            let extended = group_type::extends_of(self.m, row);
+            lent::put(extends, row, self.link_at(row, extended));
+            let inverted = group_type::inverse_of(self.m, row);
+            lent::put(inverse, row, self.link_at(row, inverted));
+        }
+    }
+
+    // The link of the classifier of E row `row`, if the row is a nested group of a group type; otherwise `MISSING`.
+    #[tactic(auto, using(crate::proofs::Rows::feature_steps))]
+    fn link_feature(&self, row: usize) -> u32
+        ensures { result ≡ nested_link (model self.now.m.now) row }
+    {
+        if declared::holder_kind_of(self.m, row) != declared::GROUP_TYPE
+            || declared::kind_of(self.m, row) != declared::FEATURE_GROUP
+        {
+            return MISSING;
+        }
+        let holder = declared::holder_of(self.m, row) as usize;
+        self.link_at(holder, declared::classifier_of(self.m, row))
+    }
+
+    // Writes the links of E rows.
+    #[tactic(auto, using(crate::proofs::Rows::filling_steps))]
+    fn link_features(&self, nested: &mut [u32])
+        ensures { nested.new ≡ sets nested.old 0 (links_to (nested_link (model self.now.m.now)) (count (model self.now.m.now) letter_e)) }
+    {
+        for row in 0..self.m.e.len() / E_NUMBERS {
+            lent::put(nested, row, self.link_feature(row));
+        }
+    }
+}
+
 // The link of a reference that is asked from the package named `from`; `UNFOUND` where it names no group type.
-#[tactic(auto, using(crate::proofs::Rows::link_steps))]
 pub fn link(m: &Tables, from: u32, reference: Reference) -> u32
     requires { length m.now.u.now / width letter_u ≤ 4096 }
     ensures { result ≡ link_of (model m.now) from (ref_of reference) }
 {
-    let Some(classifier) = resolver::resolve_classifier(m, from, reference) else {
-        return UNFOUND;
-    };
-    match classifier {
-        Classifier::GroupType { row, .. } => row as u32,
-        Classifier::ComponentType { .. } | Classifier::ComponentImpl { .. } => UNFOUND,
-    }
-}
-
-// The link of a reference that group type `row` has, or a feature of it; `MISSING` where its type is missing: then there is none.
-#[tactic(auto, using(crate::proofs::Rows::link_missing, crate::proofs::Rows::link_there))]
-fn link_at(m: &Tables, row: usize, reference: Reference) -> u32
-    requires { length m.now.u.now / width letter_u ≤ 4096 }
-    ensures { result ≡ link_in (present reference.type_name) (model m.now) row (ref_of reference) }
-{
-    if reference.type_name == MISSING {
-        return MISSING;
-    }
-    let from = get_or(m.p, group_type::package_of(m, row) as usize, 0);
-    link(m, from, reference)
-}
-
-// Writes the links of U rows: what each extends and what it is the inverse of.
-#[tactic(auto, using(crate::proofs::Rows::type_steps))]
-fn link_types(m: &Tables, extends: &mut [u32], inverse: &mut [u32])
-    requires { length m.now.u.now / width letter_u ≤ 4096 }
-    ensures in_extends { extends.new ≡ sets extends.old 0 (links_to (extends_link (model m.now)) (count (model m.now) letter_u)) }
-    ensures in_inverse { inverse.new ≡ sets inverse.old 0 (links_to (inverse_link (model m.now)) (count (model m.now) letter_u)) }
-{
-    for row in 0..m.u.len() / U_NUMBERS {
-        lent::put(
-            extends,
-            row,
-            link_at(m, row, group_type::extends_of(m, row)),
-        );
-        lent::put(
-            inverse,
-            row,
-            link_at(m, row, group_type::inverse_of(m, row)),
-        );
-    }
-}
-
-// The link of the classifier of E row `row`, if the row is a nested group of a group type; otherwise `MISSING`.
-#[tactic(auto, using(crate::proofs::Rows::feature_steps))]
-fn link_feature(m: &Tables, row: usize) -> u32
-    requires { length m.now.u.now / width letter_u ≤ 4096 }
-    ensures { result ≡ nested_link (model m.now) row }
-{
-    if declared::holder_kind_of(m, row) != GROUP_TYPE || declared::kind_of(m, row) != NESTED_GROUP {
-        return MISSING;
-    }
-    let holder = declared::holder_of(m, row) as usize;
-    link_at(m, holder, declared::classifier_of(m, row))
-}
-
-// Writes the links of E rows.
-#[tactic(auto, using(crate::proofs::Rows::filling_steps))]
-fn link_features(m: &Tables, nested: &mut [u32])
-    requires { length m.now.u.now / width letter_u ≤ 4096 }
-    ensures { nested.new ≡ sets nested.old 0 (links_to (nested_link (model m.now)) (count (model m.now) letter_e)) }
-{
-    for row in 0..m.e.len() / E_NUMBERS {
-        lent::put(nested, row, link_feature(m, row));
-    }
+    Linker { m }.link(from, reference)
 }
 
 // Writes the links of all group types and their features.
@@ -110,6 +112,7 @@ pub fn link_groups(m: &Tables, nested: &mut [u32], extends: &mut [u32], inverse:
     requires { length m.now.u.now / width letter_u ≤ 4096 }
     ensures { LinkedInto (model m.now) nested.old extends.old inverse.old nested.new extends.new inverse.new }
 {
-    link_types(m, extends, inverse);
-    link_features(m, nested);
+    let linker = Linker { m };
+    linker.link_types(extends, inverse);
+    linker.link_features(nested);
 }

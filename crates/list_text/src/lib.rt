@@ -23,6 +23,7 @@ fn print_listings(m: &Tables, list: &Listings, text: &mut [u8]) -> usize
 }
 
 // Lists what the tables hold and prints the list, or the refusal's line: how many bytes of text there are. Behind them the output is zero.
+#[tactic(auto, unfolding(as5506::specs::Program::conlist_text), using(crate::proofs::Listed::listing))]
 pub fn list_tables(m: &Tables, text: &mut [u8]) -> usize
     ensures { Shown (conlist_text (length text.old) (model m.now)) text.old result text.new }
 {

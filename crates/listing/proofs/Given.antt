@@ -1,10 +1,9 @@
 -- What an answer that gives both lists holds, for callers: no more than there is room for, and short paths; and the outputs that a program lends.
 -- Assumes nothing.
 use mathlib.Core.Bool.{Bool}
-use mathlib.Core.Option.{Option, none, some}
 use mathlib.Core.Path.{◌≡◌, sym, subst}
 use mathlib.Core.List.{List, [], ◌∷◌, ◌++◌}
-use Rattle.std.specs.Prelude.{Result, Ok}
+use Rattle.std.specs.Prelude.{Result, Ok, Option, None, Some}
 use Prim.Native.Nat.{ℕ, ◌*◌, ◌/◌, ◌≤◌}
 use native.Mathlib.Nat.{div-mul-le_self, mul-le-mul_right, le_trans}
 use native.Mathlib.Omega.{arith}
@@ -88,8 +87,8 @@ traced_fit room m = traced-fits room m (faults m)
 
 row-short : (m : Tables) (b : GroupConnection) (s : Feature) (d : Option Feature) → All ShortRow (match_row m b s d)
 unfolding match_row
-row-short m b s none = tt
-row-short m b s (some d) = (omega arith, tt)
+row-short m b s None = tt
+row-short m b s (Some d) = (omega arith, tt)
 
 rows_short : (m : Tables) (ms : List Match) → All ShortRow (group_list_of m ms).rows
 unfolding group_list_of rows_matched

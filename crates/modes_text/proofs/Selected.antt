@@ -16,8 +16,10 @@ use Rattle.as5506.specs.Program.{rows_lent, names_lent}
 use Rattle.as5506.specs.declared.Refusal.{Refusal as Told}
 use Rattle.as5506.proofs.Answers.{handed-ok}
 use Rattle.lent.proofs.Padded.{padded-front}
+use Rattle.shown.proofs.Fits.{refusal_shown}
+use lib.Seq.{length-take-le}
 use Rattle.operation_modes.specs.declared.Selected.{Selected}
-use Rattle.operation_modes.specs.Answer.{selected, selected_rows, selected_name, SelectedInto}
+use Rattle.operation_modes.specs.Answer.{selected, selected_rows, selected_name}
 
 -- what is written lies within its output
 holds : (n : ℕ) (l out : List ℕ) → out ≡ padded n l → length l ≤ length out
@@ -38,30 +40,37 @@ no_name = zeros names_lent
 abbrev pub answer : Tables → ℕ → Answer Selection
 answer m number = selection_answer (rows_lent false) names_lent m number
 
-module _ (m : Tables) (number : ℕ) (z : Result Selected Told) (rows name : List ℕ) (h : SelectedInto m number no_rows no_name z rows name) where
+-- a call for a selection, handed over as it answers
+module _ (m : Tables) (number : ℕ) (z : Result Selected Told) (e : z ≡ handed selected (selection_answer (length no_rows) (length no_name) m number)) where
   lent-is : selection_answer (length no_rows) (length no_name) m number ≡ answer m number
   lent-is = λ i. selection_answer (length-replicate {A = ℕ} (rows_lent false) 0 i) (length-replicate {A = ℕ} names_lent 0 i) m number
 
   pub answered : z ≡ handed selected (answer m number)
-  answered = h.answer ∙ ap (handed selected) lent-is
+  answered = e ∙ ap (handed selected) lent-is
 
-  module _ (b : Selected) (x : Selection) (g : answer m number ≡ given x) (e : b ≡ selected x) where
-    rows-are : rows ≡ padded (length no_rows) x.rows
-    rows-are = h.written-rows ∙ ap (output (length no_rows) selected_rows) (lent-is ∙ g)
+  module _ (b : Selected) (given_so : z ≡ Ok b) where
+    the-selection : (x : Selection) × (answer m number ≡ given x) × (b ≡ selected x)
+    the-selection = handed-ok selected z (answer m number) answered b given_so
 
-    name-is : name ≡ padded (length no_name) x.name
-    name-is = h.written-name ∙ ap (output (length no_name) selected_name) (lent-is ∙ g)
+    rows-are : (rows : List ℕ) → rows ≡ output (length no_rows) selected_rows (selection_answer (length no_rows) (length no_name) m number) → (x : Selection) → answer m number ≡ given x → rows ≡ padded (length no_rows) x.rows
+    rows-are rows h x g = h ∙ ap (output (length no_rows) selected_rows) (lent-is ∙ g)
+
+    name-is : (name : List ℕ) → name ≡ output (length no_name) selected_name (selection_answer (length no_rows) (length no_name) m number) → (x : Selection) → answer m number ≡ given x → name ≡ padded (length no_name) x.name
+    name-is name h x g = h ∙ ap (output (length no_name) selected_name) (lent-is ∙ g)
+
+    pub rows_within : (rows : List ℕ) → rows ≡ output (length no_rows) selected_rows (selection_answer (length no_rows) (length no_name) m number) → b.rows ≤ length rows
+    rows_within rows h = let x = the-selection in omega (arith, ap (λ (s : Selected). s.rows) x.2, holds _ x.0.rows rows (rows-are rows h x.0 x.1))
+
+    pub name_within : (name : List ℕ) → name ≡ output (length no_name) selected_name (selection_answer (length no_rows) (length no_name) m number) → b.bytes ≤ length name
+    name_within name h = let x = the-selection in omega (arith, ap (λ (s : Selected). s.bytes) x.2, holds _ x.0.name name (name-is name h x.0 x.1))
 
     -- the text of as many rows and bytes as are counted is the definition's
-    pub selection-same : number_line (bytes_of "M") (take b.rows rows) ++ text_line (bytes_of "=") (take b.bytes name) ≡ selection_lines x
+    pub selection_same : (rows name : List ℕ) → rows ≡ output (length no_rows) selected_rows (selection_answer (length no_rows) (length no_name) m number)
+        → name ≡ output (length no_name) selected_name (selection_answer (length no_rows) (length no_name) m number) → (x : Selection) → answer m number ≡ given x → b ≡ selected x
+        → number_line (bytes_of "M") (take b.rows rows) ++ text_line (bytes_of "=") (take b.bytes name) ≡ selection_lines x
     unfolding selection_lines
-    selection-same =
+    selection_same rows name h k x g e =
         ap₂ (λ (r s : List ℕ). number_line (bytes_of "M") r ++ text_line (bytes_of "=") s)
-        (front _ x.rows rows b.rows rows-are (ap (λ (s : Selected). s.rows) e)) (front _ x.name name b.bytes name-is (ap (λ (s : Selected). s.bytes) e))
+        (front _ x.rows rows b.rows (rows-are rows h x g) (ap (λ (s : Selected). s.rows) e)) (front _ x.name name b.bytes (name-is name k x g) (ap (λ (s : Selected). s.bytes) e))
 
-    within : (b.rows ≤ length rows) × (b.bytes ≤ length name)
-    within =
-        (omega (arith, ap (λ (s : Selected). s.rows) e, holds _ x.rows rows rows-are), omega (arith, ap (λ (s : Selected). s.bytes) e, holds _ x.name name name-is))
-
-  pub counts-within : (b : Selected) → z ≡ Ok b → (b.rows ≤ length rows) × (b.bytes ≤ length name)
-  counts-within b e = let x = handed-ok selected z (answer m number) answered b e in within b x.0 x.1 x.2
+pub ruleset selecting = (rows_within, name_within, length-take-le, refusal_shown, answered)

@@ -11,6 +11,7 @@ use as5506::{NAMES_LENT, ROWS_LENT};
 use lent::Tables;
 
 // Counts the selections of modes and prints their number, or the refusal's line: how many bytes of text there are. Behind them the output is zero.
+#[tactic(auto, unfolding(as5506::specs::Program::modes_text), using(shown::proofs::Fits::refusal_shown))]
 pub fn count_tables(m: &Tables, text: &mut [u8]) -> usize
     ensures { Shown (modes_text (length text.old) (model m.now)) text.old result text.new }
 {
@@ -24,6 +25,7 @@ pub fn count_tables(m: &Tables, text: &mut [u8]) -> usize
 }
 
 // Prints the selection of modes at a number, or the refusal's line: how many bytes of text there are. Behind them the output is zero.
+#[tactic(auto, unfolding(as5506::specs::Program::mode_text), using(crate::proofs::Selected::selecting))]
 pub fn select_tables(m: &Tables, number: u64, text: &mut [u8]) -> usize
     ensures { Shown (mode_text number (length text.old) (model m.now)) text.old result text.new }
 {

@@ -1,91 +1,85 @@
--- Laws of `same_bytes` and `same_folded`: equal lists, and the loop that compares two lists from their ends on. Assumes nothing.
-use mathlib.Core.Bool.{Bool, true, false, ◌&&◌}
-use mathlib.Core.Path.{◌≡◌, refl, sym, ap, ◌∙◌}
+-- Laws of `same_bytes` and `same_folded`: they decide whether two lists are equal, as they are or folded. Assumes nothing.
+use mathlib.Core.Bool.{Bool, true, false}
+use mathlib.Core.Path.{◌≡◌, refl, sym, ap, ap₂, ◌∙◌}
 use mathlib.Core.List.{List, [], ◌∷◌, map}
-use Prim.Native.Nat.{ℕ, zero, suc, ◌-◌, ◌≤◌, ◌<◌}
-use native.Mathlib.Nat.{not-suc-le-zero, le_of_suc-le-suc}
+use Prim.Native.Nat.{ℕ, ◌-◌}
 use native.Mathlib.Omega.{arith}
-use borrow.Author.Tests.{eq-eqb, ne_eqb}
 use lib.Dec.{eqb}
-use lib.ListN.{length, take, get_or, length-map}
-use lib.Seq.{take-length}
+use lib.ListN.{length, get_or, length-map, get_or-map}
+use Rattle.std.specs.Bool.{Decides, one_answer}
+use Rattle.std.specs.Char.{to_ascii_lowercase}
+use Rattle.std.specs.Cmp.Lexicographic.{pointwise, bytes_decides}
+use Rattle.std.proofs.lemmas.Bool.Decides.{nat_tests}
+use Rattle.std.proofs.lemmas.Slice.Eq.{compares_Decides}
 use Rattle.as5506.specs.Lists.{same_bytes}
 use Rattle.as5506.specs.Tables.{Tables, name_of}
 use Rattle.as5506.specs.Names.{fold_byte, folded, key, same_folded}
-use Rattle.as5506.proofs.Laws.{and-false}
 
--- a list equals itself
+pub Decides-same_bytes : (a b : List ℕ) → Decides (same_bytes a b) (a ≡ b)
+Decides-same_bytes = compares_Decides same_bytes (record { empty = refl; shorter = λ y ys. refl; longer = λ x xs. refl; heads = λ x y xs ys. refl })
+
+pub Decides-same_folded : (a b : List ℕ) → Decides (same_folded a b) (folded a ≡ folded b)
+unfolding same_folded
+Decides-same_folded a b = Decides-same_bytes (folded a) (folded b)
+
+fails : {P : Type 0} (z : Bool) → Decides z P → (P → ⊥) → false ≡ z
+fails true d n = absurd (n (d.0 refl))
+fails false d n = refl
+
+-- ---- lists that are equal
+
 pub same_equal : (a b : List ℕ) → a ≡ b → true ≡ same_bytes a b
-same_equal a b e = sym (self a) ∙ ap (same_bytes a) e
-  where
-    self : (a : List ℕ) → same_bytes a a ≡ true
-    self [] = refl
-    self (x ∷ a) = rw (eq-eqb x x refl) (self a)
+same_equal a b e = sym ((Decides-same_bytes a b).1 e)
 
 pub folded_equal : (a b : List ℕ) → a ≡ b → true ≡ same_folded a b
-unfolding same_folded
-folded_equal a b e = same_equal (folded a) (folded b) (ap folded e)
+folded_equal a b e = sym ((Decides-same_folded a b).1 (ap folded e))
 
--- lists of different lengths differ
+-- ---- lists of different lengths, or with different last entries, differ
+
+abbrev last : List ℕ → ℕ
+last a = get_or a (length a - 1) 0
+
 pub lengths_differ : (a b : List ℕ) → (length a ≡ length b → ⊥) → false ≡ same_bytes a b
-lengths_differ [] [] h = absurd (h refl)
-lengths_differ [] (y ∷ b) h = refl
-lengths_differ (x ∷ a) [] h = refl
-lengths_differ (x ∷ a) (y ∷ b) h = sym (ap (λ (c : Bool). eqb x y && c) (sym (lengths_differ a b (λ e. h (ap suc e)))) ∙ and-false (eqb x y))
+lengths_differ a b n = fails _ (Decides-same_bytes a b) (λ e. n (ap length e))
 
-pub mapped-differ : (f : ℕ → ℕ) (a b : List ℕ) → (length a ≡ length b → ⊥) → false ≡ same_bytes (map f a) (map f b)
-mapped-differ f a b h = lengths_differ (map f a) (map f b) (λ e. h (sym (length-map a f) ∙ e ∙ length-map b f))
-
-pub map-same : (a : List ℕ) → map (λ x. x) a ≡ a
-map-same [] = refl
-map-same (x ∷ a) = rw (map-same a)
-
--- ---- the loop: the first i bytes of both are still to be compared, by a function of them
-
--- one byte more is its own test and that of the bytes before it
-same_more :
-    (f : ℕ → ℕ) (a b : List ℕ) (i : ℕ) → i < length a → i < length b
-    → same_bytes (map f (take (suc i) a)) (map f (take (suc i) b)) ≡ eqb (f (get_or a i 0)) (f (get_or b i 0)) && same_bytes (map f (take i a)) (map f (take i b))
-same_more f [] b i h k = absurd (not-suc-le-zero h)
-same_more f (x ∷ a) [] i h k = absurd (not-suc-le-zero k)
-same_more f (x ∷ a) (y ∷ b) zero h k = refl
-same_more f (x ∷ a) (y ∷ b) (suc i) h k =
-    ap (λ (c : Bool). eqb (f x) (f y) && c) (same_more f a b i (le_of_suc-le-suc h) (le_of_suc-le-suc k))
-    ∙ swapped (eqb (f x) (f y)) (eqb (f (get_or a i 0)) (f (get_or b i 0))) (same_bytes (map f (take i a)) (map f (take i b)))
-  where
-    swapped : (c d e : Bool) → c && (d && e) ≡ d && (c && e)
-    swapped true d e = refl
-    swapped false true e = refl
-    swapped false false e = refl
-
-module _ (f : ℕ → ℕ) (a b : List ℕ) where
-  abbrev front : ℕ → Bool
-  front i = same_bytes (map f (take i a)) (map f (take i b))
-
-  pub same-whole : length a ≡ length b → front (length a) ≡ same_bytes (map f a) (map f b)
-  same-whole e = rw (take-length a) (ap (λ (k : ℕ). same_bytes (map f a) (map f (take k b))) e ∙ rw (take-length b))
-
-  pub same-none : (i : ℕ) → i ≤ 0 → true ≡ front i
-  same-none i h = let e : i ≡ 0 = omega arith in rw e
-
-  -- x and y are what f gives for the last of the bytes
-  module _ (i x y : ℕ) (p : x ≡ f (get_or a (i - 1) 0)) (q : y ≡ f (get_or b (i - 1) 0)) (h : 0 < i) (k : i ≤ length a) (l : i ≤ length b) where
-    last : front i ≡ eqb x y && front (i - 1)
-    last =
-        let e : i ≡ suc (i - 1) = omega arith in
-        ap front e ∙ same_more f a b (i - 1) (omega arith) (omega arith) ∙ rw (← p, ← q)
-
-    pub same-turn : x ≡ y → front (i - 1) ≡ front i
-    same-turn e = sym (last ∙ rw (eq-eqb x y e))
-
-    pub same-differ : (x ≡ y → ⊥) → false ≡ front i
-    same-differ n = sym (last ∙ rw (ne_eqb x y n))
-
--- ---- folded
+pub lasts_differ : (a b : List ℕ) → (last a ≡ last b → ⊥) → false ≡ same_bytes a b
+lasts_differ a b n = fails _ (Decides-same_bytes a b) (λ e. n (ap last e))
 
 pub folded-length : (s : List ℕ) → length (folded s) ≡ length s
 unfolding folded
 folded-length s = length-map s fold_byte
+
+pub folded_lengths_differ : (a b : List ℕ) → (length a ≡ length b → ⊥) → false ≡ same_folded a b
+folded_lengths_differ a b n = fails _ (Decides-same_folded a b) (λ e. n (sym (folded-length a) ∙ ap length e ∙ folded-length b))
+
+last-folded : (s : List ℕ) → last (folded s) ≡ fold_byte (last s)
+unfolding folded
+last-folded s = ap (λ (n : ℕ). get_or (map fold_byte s) (n - 1) 0) (length-map s fold_byte) ∙ get_or-map fold_byte s (length s - 1) 0
+
+pub folded_lasts_differ : (a b : List ℕ) → (fold_byte (last a) ≡ fold_byte (last b) → ⊥) → false ≡ same_folded a b
+folded_lasts_differ a b n = fails _ (Decides-same_folded a b) (λ e. n (sym (last-folded a) ∙ ap last e ∙ last-folded b))
+
+-- ---- what the library's tests say
+
+pub by_slices : (a b : List ℕ) (z : Bool) → z ≡ pointwise eqb a b → z ≡ same_bytes a b
+by_slices a b z e = e ∙ one_answer _ _ (bytes_decides a b) (Decides-same_bytes a b)
+
+lower-fold : (b : ℕ) → to_ascii_lowercase b ≡ fold_byte b
+lower-fold b = grind (arith, nat_tests)
+
+lowered : (s : List ℕ) → map to_ascii_lowercase s ≡ folded s
+unfolding folded
+lowered [] = refl
+lowered (b ∷ s) = ap₂ ◌∷◌ (lower-fold b) (lowered s)
+
+module _ (a b : List ℕ) where
+  abbrev lower : List ℕ → List ℕ
+  lower = map to_ascii_lowercase
+
+  pub by_lowercase : (z : Bool) → (z ≡ true → lower a ≡ lower b) → (lower a ≡ lower b → z ≡ true) → z ≡ same_folded a b
+  by_lowercase z f g = one_answer z _ (λ e. sym (lowered a) ∙ f e ∙ lowered b, λ e. g (lowered a ∙ e ∙ sym (lowered b))) (Decides-same_folded a b)
+
+-- ---- folded
 
 -- the definition compares keys, which are folded already
 pub keys-folded : (m : Tables) (j k : ℕ) → same_folded (name_of m j) (name_of m k) ≡ same_bytes (key m j) (key m k)

@@ -1,5 +1,5 @@
 -- The loop that strips a pattern's text, and the comparison of that with the fixed bytes. Assumes nothing.
-use mathlib.Core.Bool.{false}
+use mathlib.Core.Bool.{Bool, false}
 use mathlib.Core.Path.{◌≡◌, sym, ap, ◌∙◌}
 use mathlib.Core.List.{List}
 use Prim.Native.Nat.{ℕ, ◌+◌, ◌≤◌}
@@ -23,15 +23,16 @@ pub record Stripping (text out₀ out : List ℕ) (count i : ℕ) : Type 0 where
 
 module _ (text : List ℕ) (count : ℕ) (c : count ≡ length (keep pattern_byte text)) where
   -- another number of bytes than ten
-  pub pattern-short : (count ≡ 10 → ⊥) → false ≡ is_one_to_one text
+  pub pattern_short : (count ≡ 10 → ⊥) → false ≡ is_one_to_one text
   unfolding is_one_to_one
-  pattern-short n =
+  pattern_short n =
       lengths_differ (folded (keep pattern_byte text)) (bytes_of "one_to_one") (λ e. n (c ∙ sym (folded-length (keep pattern_byte text)) ∙ e))
 
   -- ten bytes: the array holds just them
-  pub pattern-ten :
-      (out : List ℕ) → count ≡ 10 → out ≡ sets (zeros 10) 0 (keep pattern_byte text)
-      → same_folded out (bytes_of "one_to_one") ≡ is_one_to_one text
+  pub pattern_ten :
+      (out : List ℕ) (z : Bool) → count ≡ 10 → out ≡ sets (zeros 10) 0 (keep pattern_byte text)
+      → z ≡ same_folded out (bytes_of "one_to_one") → z ≡ is_one_to_one text
   unfolding is_one_to_one same_folded folded
-  pattern-ten out t e =
-      ap (λ (l : List ℕ). same_bytes (folded l) (folded (bytes_of "one_to_one"))) (e ∙ sets-whole (keep pattern_byte text) (zeros 10) (sym c ∙ t))
+  pattern_ten out z t e f =
+      f
+      ∙ ap (λ (l : List ℕ). same_bytes (folded l) (folded (bytes_of "one_to_one"))) (e ∙ sets-whole (keep pattern_byte text) (zeros 10) (sym c ∙ t))

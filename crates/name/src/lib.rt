@@ -2,14 +2,13 @@
 // Definitions: specs/Names.antt, Lists.antt and Tables.antt of as5506, and specs/Pattern.antt.
 #![tactic(auto)]
 
-ghost use Rattle.std.specs.Prelude.{◌≡◌, ◌&&◌, length, map};
+ghost use Rattle.std.specs.Prelude.{◌≡◌, ◌&&◌, ◌-◌, length, get_or};
 ghost use Rattle.std.proofs.lemmas.List.Edits.{sets};
 ghost use Rattle.as5506.specs.Lists.{keep, same_bytes, has};
 ghost use Rattle.as5506.specs.Tables.{name_in, name_of, present};
 ghost use Rattle.as5506.specs.Names.{name_byte, good_name, fold_byte, same_folded, bracket, base_name, pattern_byte, is_one_to_one};
 ghost use Rattle.lent.specs.Model.{model};
 ghost use Rattle.name.specs.Pattern.{says_one_to_one};
-ghost use Rattle.name.specs.Gives.{Gives};
 
 use lent::Tables;
 
@@ -29,34 +28,27 @@ pub fn fold(b: u8) -> u8
     b.to_ascii_lowercase()
 }
 
-// Whether two slices are equal by a function of their bytes. Lengths first, then the last byte first: names that differ often begin alike.
-fn same_by<F: Fn(u8) -> u8>(a: &[u8], b: &[u8], of: F) -> bool
-    requires { F.IsAlwaysCallable of }
-    ensures { (f : _) → Gives (F.post of) f → result ≡ same_bytes (map f a.now) (map f b.now) }
+// The last byte of a name, 0 of none.
+fn last_byte(s: &[u8]) -> u8
+    ensures { result ≡ get_or s.now (length s.now - 1) 0 }
 {
-    if a.len() != b.len() {
-        return false;
-    }
-    for i in (0..a.len()).rev() {
-        if of(a[i]) != of(b[i]) {
-            return false;
-        }
-    }
-    true
+    *s.last().unwrap_or(&0)
 }
 
-// Whether two names are equal, byte for byte.
+// Whether two names are equal, byte for byte. Lengths first, then the last byte: names that differ often begin alike.
+#[tactic(auto, using(crate::proofs::Compare::by_slices, crate::proofs::Compare::lengths_differ, crate::proofs::Compare::lasts_differ))]
 pub fn same_bytes(a: &[u8], b: &[u8]) -> bool
     ensures { result ≡ same_bytes a.now b.now }
 {
-    same_by(a, b, |byte| byte)
+    a.len() == b.len() && last_byte(a) == last_byte(b) && a == b
 }
 
 // Whether two names are equal folded, in the same order.
+#[tactic(auto, using(crate::proofs::Compare::folded_lengths_differ, crate::proofs::Compare::folded_lasts_differ))]
 pub fn same_folded(s: &[u8], t: &[u8]) -> bool
     ensures { result ≡ same_folded s.now t.now }
 {
-    same_by(s, t, |byte| fold(byte))
+    s.len() == t.len() && fold(last_byte(s)) == fold(last_byte(t)) && s.eq_ignore_ascii_case(t)
 }
 
 // Whether a byte may stand in a name: a tab, or 20 to 7E hexadecimal.
@@ -101,7 +93,8 @@ fn pattern_byte(b: u8) -> bool
     !matches!(b, b'(' | b')' | b',' | b' ' | b'\t')
 }
 
-// Writes the bytes of a pattern's text that count into `out`, as much as it holds, and returns how many these are.
+// Writes the bytes of a pattern's text that count into `out`, as much as it holds, and returns how many these are. The count is what is asked for, and not a
+// place alone: text is lent, and may have more of them than `out` has places.
 fn strip(text: &[u8], out: &mut [u8]) -> usize
     ensures count { result ≡ length (keep pattern_byte text.now) }
     ensures bytes { out.new ≡ sets out.old 0 (keep pattern_byte text.now) }
@@ -117,6 +110,7 @@ fn strip(text: &[u8], out: &mut [u8]) -> usize
 }
 
 // The pattern that a text names: one to one where its bytes that count are equal folded to "one_to_one", else all to all.
+#[tactic(auto, using(crate::proofs::Pattern::pattern_short, crate::proofs::Pattern::pattern_ten))]
 pub fn parse_connection_pattern(text: &[u8]) -> ConnectionPattern
     ensures { says_one_to_one result ≡ is_one_to_one text.now }
 {
@@ -128,13 +122,21 @@ pub fn parse_connection_pattern(text: &[u8]) -> ConnectionPattern
 }
 
 // Name k of the bytes and the N rows of a byte table, a part of the caller's own bytes. Past the table, or past the bytes, there is nothing of it.
+// In tables that are checked no name is past the bytes, so that is asked first. (Of these two tables and no struct: what it gives is borrowed from the
+// bytes alone.)
 #[tactic(auto, unfolding(as5506::specs::Tables::name_in))]
 pub fn name_in<'a>(bytes: &'a [u8], n: &[u32], k: u32) -> &'a [u8]
     ensures { result.now ≡ name_in bytes.now n.now k }
 {
     let row = (k as usize) * as5506::N_NUMBERS;
-    let from = lent::get_or(n, row, 0) as usize;
-    let len = lent::get_or(n, row + 1, 0) as usize;
+    if n.len() <= row + 1 {
+        return &bytes[..0];
+    }
+    let from = n[row] as usize;
+    let len = n[row + 1] as usize;
+    if from + len <= bytes.len() {
+        return &bytes[from..][..len];
+    }
     lent::part(bytes, from, len)
 }
 

@@ -3,25 +3,15 @@
 // three rows and a half), then the bytes of both texts. A missing number is the largest row, and as a place the largest place.
 #![tactic(auto)]
 
+use cases::{print, print_number};
 use lent::Tables;
 use name::ConnectionPattern;
 use std::io::Read;
 
-// The most cases of a file.
-const CASES: usize = 100000;
 // How long a text may be.
 const BYTES: usize = 100;
 // How long an output is.
 const LENT: usize = 9;
-
-fn print(rt: &impl Print, text: &[u8]) {
-    let _ = rt.write_all(text);
-}
-
-// A space and the number.
-fn print_number(rt: &impl Print, n: u64) {
-    let _ = print!(rt; " {n}");
-}
 
 fn print_flag(rt: &impl Print, yes: bool) {
     print(rt, if yes { b" yes" } else { b" no" });
@@ -89,30 +79,23 @@ fn try_reads(rt: &impl Print, bytes: &[u8], numbers: &[u32], from: usize, len: u
     print_all(rt, lent::part(bytes, from, len));
 }
 
-// A value, and a block where there is room for it: the numbers' and the bytes' append are two functions of `lent`.
-fn try_numbers(rt: &impl Print, at: usize, v: u32, block: &[u32]) {
-    let mut out = [7u32; LENT];
-    lent::put(&mut out, at, v);
-    print_all(rt, &out);
-    print_number(rt, lent::append_numbers(&mut out, at, block) as u64);
-    print_all(rt, &out);
-    try_block(rt, [0u32; LENT], at, block);
-}
-
-fn try_bytes(rt: &impl Print, at: usize, v: u8, block: &[u8]) {
-    let mut out = [7u8; LENT];
-    lent::put(&mut out, at, v);
-    print_all(rt, &out);
-    print_number(rt, lent::append_bytes(&mut out, at, block) as u64);
-    print_all(rt, &out);
-    try_block(rt, [0u8; LENT], at, block);
-}
-
-// Zeros, and as much of the block as has room.
-fn try_block<T: Copy + Into<u64>>(rt: &impl Print, mut out: [T; LENT], at: usize, block: &[T]) {
-    print_all(rt, &out);
-    lent::put_all(&mut out, at, block);
-    print_all(rt, &out);
+// A value written into sevens, and a block behind so many of them, with how many are used then; of zeros as much of the block as has room.
+fn try_writes<T: Copy + Into<u64>>(
+    rt: &impl Print,
+    sevens: &mut [T],
+    zeros: &mut [T],
+    at: usize,
+    v: T,
+    block: &[T],
+) {
+    lent::put(sevens, at, v);
+    print_all(rt, sevens);
+    let used = lent::append(sevens, Some(at), block);
+    print_number(rt, used.unwrap_or(LENT + 1) as u64);
+    print_all(rt, sevens);
+    print_all(rt, zeros);
+    lent::put_all(zeros, at, block);
+    print_all(rt, zeros);
 }
 
 fn replay(rt: &impl Print, a: &[u8], b: &[u8], j: u32, k: u32, n: &[u32]) {
@@ -124,17 +107,21 @@ fn replay(rt: &impl Print, a: &[u8], b: &[u8], j: u32, k: u32, n: &[u32]) {
     print(rt, b" reads");
     try_reads(rt, a, n, at, place_of(k));
     print(rt, b" numbers");
-    try_numbers(rt, at, k, n);
+    try_writes(rt, &mut [7; LENT], &mut [0; LENT], at, k, n);
     print(rt, b" bytes");
-    try_bytes(rt, at, lent::get_or(a, 0, 0), b);
+    try_writes(
+        rt,
+        &mut [7; LENT],
+        &mut [0; LENT],
+        at,
+        lent::get_or(a, 0, 0),
+        b,
+    );
     print(rt, b"\n");
 }
 
-// Reads a case and replays it; false where there is none.
-fn next_case(rt: &impl Print, input: &mut impl Read) -> bool {
-    if !cases::begins(input) {
-        return false;
-    }
+// Reads a case and replays it.
+fn replay_case(rt: &impl Print, input: &mut impl Read) {
     let a_length = cases::number(input);
     let b_length = cases::number(input);
     let j = cases::number(input);
@@ -147,14 +134,8 @@ fn next_case(rt: &impl Print, input: &mut impl Read) -> bool {
     let a_end = cases::bytes(input, &mut a, a_length);
     let b_end = cases::bytes(input, &mut b, b_length);
     replay(rt, &a[..a_end], &b[..b_end], j, k, &n);
-    true
 }
 
 fn main(rt: HostRuntime) {
-    let mut input = rt.stdin();
-    for _ in 0..CASES {
-        if !next_case(&rt, &mut input) {
-            return;
-        }
-    }
+    cases::replay_all(&mut rt.stdin(), |input| replay_case(&rt, input));
 }

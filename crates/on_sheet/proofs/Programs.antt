@@ -36,22 +36,15 @@ read-enough l s = go (dec_le (length s) 16385)
         too_long l (take 16385 s) (omega (arith, n)) ∙ sym (too_long l s (omega (arith, h)))
 
 -- THE FIRST 16,385 BYTES DECIDE what a program writes
-pub enough : (task : Task) (n : ℕ) (s : List ℕ) → program task n (take 16385 s) ≡ program task n s
+enough : (task : Task) (n : ℕ) (s : List ℕ) → program task n (take 16385 s) ≡ program task n s
 unfolding program on_sheet
 enough task n s = ap (λ (a : Answer Tables). what_fits n (of_reading (task_text task n) a)) (read-enough lent s)
 
--- ---- conlist
+-- ---- each program is that of its task, with 8,192 bytes of text
 
-pub list-is : (n : ℕ) (s : List ℕ) → what_fits n (on_sheet Conlist n s) ≡ conlist_within n s
-unfolding on_sheet conlist_within
-list-is n s = refl
-
--- CONLIST is the program of its task with 8,192 bytes of text
-pub conlist-is : (s : List ℕ) → program Conlist text_lent s ≡ conlist s
-unfolding program conlist
-conlist-is s = list-is text_lent s
-
--- ---- modes and mode
+conlist-is : (s : List ℕ) → program Conlist text_lent s ≡ conlist s
+unfolding program on_sheet conlist_within conlist
+conlist-is s = refl
 
 modes-is : (s : List ℕ) → program Modes text_lent s ≡ modes s
 unfolding program on_sheet modes
@@ -64,7 +57,7 @@ mode-is k s = refl
 -- ---- what is written
 
 -- the text of a sheet in an output of n bytes: the sheet is the first `got` of an array of 16,385 bytes
-pub writes : (task : Task) (n : ℕ) (read : List ℕ) (got : ℕ) (sheet text : List ℕ) (z : ℕ) (text' : List ℕ) → length read ≡ 16385 → sheet ≡ take got read
+writes : (task : Task) (n : ℕ) (read : List ℕ) (got : ℕ) (sheet text : List ℕ) (z : ℕ) (text' : List ℕ) → length read ≡ 16385 → sheet ≡ take got read
     → length text ≡ n → length text' ≡ length text → Shown (on_sheet task (length text) sheet) text z text' → Writes (program task n) read got z text'
 unfolding program
 writes task n read got sheet text z text' r w e k h =
@@ -86,11 +79,14 @@ writes_as f g e read got z text' w =
       output = λ s q. w.output s q ∙ ap (padded (length text')) (e s);
     }
 
-pub conlist-writes : (read : List ℕ) (got z : ℕ) (text' : List ℕ) → Writes (program Conlist text_lent) read got z text' → Writes conlist read got z text'
-conlist-writes = writes_as (program Conlist text_lent) conlist conlist-is
+-- WHAT EACH PROGRAM WRITES, from what its task leaves in the output
+module _ (read : List ℕ) (got : ℕ) (sheet text : List ℕ) (z : ℕ) (text' : List ℕ)
+    (r : length read ≡ 16385) (w : sheet ≡ take got read) (e : length text ≡ text_lent) (k : length text' ≡ length text) where
+  pub conlist_writes : Shown (on_sheet Conlist (length text) sheet) text z text' → Writes conlist read got z text'
+  conlist_writes h = writes_as (program Conlist text_lent) conlist conlist-is read got z text' (writes Conlist text_lent read got sheet text z text' r w e k h)
 
-pub modes-writes : (read : List ℕ) (got z : ℕ) (text' : List ℕ) → Writes (program Modes text_lent) read got z text' → Writes modes read got z text'
-modes-writes = writes_as (program Modes text_lent) modes modes-is
+  pub modes_writes : Shown (on_sheet Modes (length text) sheet) text z text' → Writes modes read got z text'
+  modes_writes h = writes_as (program Modes text_lent) modes modes-is read got z text' (writes Modes text_lent read got sheet text z text' r w e k h)
 
-pub mode-writes : (k : ℕ) (read : List ℕ) (got z : ℕ) (text' : List ℕ) → Writes (program (Mode k) text_lent) read got z text' → Writes (mode k) read got z text'
-mode-writes k = writes_as (program (Mode k) text_lent) (mode k) (mode-is k)
+  pub mode_writes : (n : ℕ) → Shown (on_sheet (Mode n) (length text) sheet) text z text' → Writes (mode n) read got z text'
+  mode_writes n h = writes_as (program (Mode n) text_lent) (mode n) (mode-is n) read got z text' (writes (Mode n) text_lent read got sheet text z text' r w e k h)

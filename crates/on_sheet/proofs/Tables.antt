@@ -11,6 +11,7 @@ use Rattle.as5506.specs.declared.Refusal.{Refusal as Told}
 use Rattle.sheet.specs.declared.Counts.{Counts}
 use Rattle.std.specs.Prelude.{Result, Ok, Err}
 use Rattle.as5506.proofs.Answers.{handed-err}
+use Rattle.as5506.proofs.Letters.{each-letter}
 use Rattle.sheet.specs.Read.{counts_of, sheet_read, ReadInto}
 use Rattle.sheet.proofs.Model.{Model, handed}
 use Rattle.text.specs.Printing.{refusal_of}
@@ -25,18 +26,7 @@ tables_by bytes t =
     tables_of bytes (t letter_n) (t letter_c) (t letter_f) (t letter_x) (t letter_p) (t letter_i) (t letter_t) (t letter_q) (t letter_u) (t letter_e) (t letter_r) (t letter_m)
 
 table-by : (bytes : List ℕ) (t : Letter → List ℕ) (l : Letter) → table (tables_by bytes t) l ≡ t l
-table-by bytes t letter_n = refl
-table-by bytes t letter_c = refl
-table-by bytes t letter_f = refl
-table-by bytes t letter_x = refl
-table-by bytes t letter_p = refl
-table-by bytes t letter_i = refl
-table-by bytes t letter_t = refl
-table-by bytes t letter_q = refl
-table-by bytes t letter_u = refl
-table-by bytes t letter_e = refl
-table-by bytes t letter_r = refl
-table-by bytes t letter_m = refl
+table-by bytes t = each-letter (λ l. table (tables_by bytes t) l ≡ t l) refl refl refl refl refl refl refl refl refl refl refl refl
 
 -- the rows of each letter
 abbrev pub counted : Counts → Letter → ℕ
@@ -54,18 +44,7 @@ counted k letter_r = k.r
 counted k letter_m = k.m
 
 counts-are : (m : Tables) (l : Letter) → counted (counts_of m) l ≡ count m l
-counts-are m letter_n = refl
-counts-are m letter_c = refl
-counts-are m letter_f = refl
-counts-are m letter_x = refl
-counts-are m letter_p = refl
-counts-are m letter_i = refl
-counts-are m letter_t = refl
-counts-are m letter_q = refl
-counts-are m letter_u = refl
-counts-are m letter_e = refl
-counts-are m letter_r = refl
-counts-are m letter_m = refl
+counts-are m = each-letter (λ l. counted (counts_of m) l ≡ count m l) refl refl refl refl refl refl refl refl refl refl refl refl
 
 -- ---- what is lent, as it is before the call
 

@@ -12,7 +12,7 @@ use as5506::{
 };
 use lent::Tables;
 
-// What is done with the tables of a sheet.
+// What is done with the tables of a sheet. An enum and no closure: these are all, and the contract has the definition's word for each.
 #[derive(Clone, Copy)]
 pub enum Task {
     // The list of its connections (conlist).
@@ -34,7 +34,7 @@ fn do_task(task: Task, m: &Tables, text: &mut [u8]) -> usize
     }
 }
 
-// The first rows of a table, so many of so many numbers each.
+// The first rows of a table, so many of so many numbers each: what was read into an array of fixed size.
 fn rows(table: &[u32], count: usize, width: usize) -> &[u32]
     requires { count * width ≤ length table.now }
     ensures { result.now ≡ take (count * width) table.now }

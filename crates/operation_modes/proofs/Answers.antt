@@ -1,5 +1,5 @@
 -- The number of selections, and the ways out of the call for one. Assumes nothing.
-use mathlib.Core.Bool.{Bool, not}
+use mathlib.Core.Bool.{not}
 use mathlib.Core.Path.{◌≡◌, refl, sym, ap, ap₂, ◌∙◌, subst}
 use mathlib.Core.List.{List, [], ◌∷◌}
 use Prim.Native.Nat.{ℕ, suc, ◌+◌, ◌%◌, ◌≤◌, ◌<◌}
@@ -9,7 +9,8 @@ use borrow.Author.Tests.{lt-ltb, le-ltb}
 use lib.Dec.{T, ltb, ltb→lt}
 use lib.ListN.{length, get_or, take, drop}
 use lib.Seq.{sets, sets-eq, take-append_seam}
-use Rattle.std.specs.Prelude.{Ok, Err}
+use Rattle.std.specs.Prelude.{Option, Some, None, Result, Ok, Err}
+use Rattle.std.specs.Option.{ok_or}
 use Rattle.as5506.specs.Lists.{up_to, keep, is_nil}
 use Rattle.as5506.specs.Tables.{Tables, modes_of, count, letter_c}
 use Rattle.as5506.specs.Answers.{nowhere, refusal, Answer, given, refused, told, handed}
@@ -18,20 +19,20 @@ use Rattle.as5506.specs.Modes.{modal, selection_limit, is_cut, combinations, sel
 use Rattle.as5506.specs.Digits.{counted, pick}
 use Rattle.as5506.proofs.Laws.{map_same, up_to-all}
 use Rattle.as5506.proofs.Modes.{no-modes, number-some, number-over, by_digits}
-use Rattle.lent.specs.Added.{Added}
+use Rattle.lent.specs.Printed.{Printed}
 use Rattle.lent.proofs.Answered.{given-in, refused-in}
-use Rattle.lent.proofs.Added.{added-as}
+use Rattle.lent.proofs.Pieces.{printed-some, printed-none}
 use Rattle.operation_modes.specs.declared.combine.Combined.{Combined}
-use Rattle.operation_modes.specs.declared.Modes.{Modes}
+use Rattle.operation_modes.specs.declared.Selected.{Selected}
 use Rattle.operation_modes.specs.declared.link.Linked.{Linked}
 use Rattle.operation_modes.specs.Linked.{modes_linked, Links, modal_of}
 use Rattle.operation_modes.specs.Combining.{Counts, number_of}
-use Rattle.operation_modes.specs.Answer.{modes_told, selected, selected_rows, selected_name, Selects}
-use Rattle.operation_modes.proofs.Combining.{number-limit, number-none, number-product, number-most}
+use Rattle.operation_modes.specs.Answer.{selected, selected_rows, selected_name, Selects}
+use Rattle.operation_modes.proofs.Combining.{number-limit, number-none, number-product}
 
 -- ---- what is linked and combined, of tables whose components are few
 
-module _ (m : Tables) (fit : count m letter_c ≤ 4096) (l : Linked) (links : Links m l) (so : Combined) (s : Counts (modes_linked l) (count m letter_c) so) where
+module _ {m : Tables} (fit : count m letter_c ≤ 4096) {l : Linked} (links : Links m l) {so : Combined} (s : Counts (modes_linked l) (count m letter_c) so) where
   abbrev modes : ℕ → List ℕ
   modes = modes_linked l
 
@@ -75,9 +76,13 @@ module _ (m : Tables) (fit : count m letter_c ≤ 4096) (l : Linked) (links : Li
   pub cut-is : ltb 10000 so.product ≡ is_cut selection_limit (modal m)
   cut-is = s.over ∙ ap (is_cut selection_limit) (sym modal-is)
 
-  pub counts_all : (z : Modes) → z.number ≡ number_of so → z.cut ≡ ltb 10000 so.product → z ≡ modes_told (modes_counted m)
+  pub number_counted : (modes_counted m).number ≡ number_of so
   unfolding modes_counted
-  counts_all z e f = ap₂ (λ (k : ℕ) (b : Bool). record { number = k; cut = b }) (e ∙ sym number_is) (f ∙ cut-is)
+  number_counted = number_is
+
+  pub cut_counted : (modes_counted m).cut ≡ ltb 10000 so.product
+  unfolding modes_counted
+  cut_counted = sym cut-is
 
   -- ---- the selection at number k
 
@@ -93,78 +98,72 @@ module _ (m : Tables) (fit : count m letter_c ≤ 4096) (l : Linked) (links : Li
     abbrev wanted : Answer Selection
     wanted = selection_on (length out) (length name) m k []
 
-    refuses : (number : ℕ) → wanted ≡ refused (refusal number nowhere) → (reason : Told) → reason ≡ told (refusal number nowhere) → (out' name' : List ℕ) → Selects wanted out name (Err reason) out' name'
-    refuses number e reason f out' name' =
+    refuses : (number : ℕ) → wanted ≡ refused (refusal number nowhere) → {t : Told} → t ≡ told (refusal number nowhere) → {out' name' : List ℕ} → Selects wanted out name (Err t) out' name'
+    refuses number e f {out'} {name'} =
         record {
           answer = ap Err f ∙ sym (ap (handed selected) e);
           in_rows = refused-in selected_rows wanted out out' (refusal number nowhere) e;
           in-name = refused-in selected_name wanted name name' (refusal number nowhere) e;
         }
 
-    -- 20
-    pub selects-20 : number_of so ≤ k → (reason : Told) → reason ≡ told (refusal 20 nowhere) → (out' name' : List ℕ) → Selects wanted out name (Err reason) out' name'
-    unfolding selection_on selection_within
-    selects-20 h = refuses 20 (rw (le-ltb k (length (selections m)) (omega (arith, h, number_is))))
+    module _ {number : ℕ} (e : number ≡ number_of so) where
+      -- 20
+      pub selects-20 : number ≤ k → {t : Told} → t ≡ told (refusal 20 nowhere) → {out' name' : List ℕ} → Selects wanted out name (Err t) out' name'
+      unfolding selection_on selection_within
+      selects-20 h = refuses 20 (rw (le-ltb k (length (selections m)) (omega (arith, e, h, number_is))))
 
-    module _ (h : k < number_of so) where
-      there : k < length (selections m)
-      there = omega (arith, h, number_is)
+      module _ (h : k < number) where
+        there : k < length (selections m)
+        there = omega (arith, e, h, number_is)
 
-      pub below-product : k < so.product
-      below-product = omega (arith, h, number-most so)
+        chosen_is : chosen ≡ pick front k
+        chosen_is = by_digits m k there ∙ ap (λ (l : List (List ℕ)). pick l k) (ap (counted selection_limit 1) modal-is ∙ s.all)
 
-      chosen_is : chosen ≡ pick front k
-      chosen_is = by_digits m k there ∙ ap (λ (l : List (List ℕ)). pick l k) (ap (counted selection_limit 1) modal-is ∙ s.all)
+        chosen-length : length chosen ≡ so.chosen
+        chosen-length = ap length chosen_is ∙ pick-length front k ∙ sym s.chosen_is
 
-      chosen-length : length chosen ≡ so.chosen
-      chosen-length = ap length chosen_is ∙ pick-length front k ∙ sym s.chosen_is
+        -- 11
+        pub selects-11 : length out < so.chosen → {t : Told} → t ≡ told (refusal 11 nowhere) → {out' name' : List ℕ} → Selects wanted out name (Err t) out' name'
+        unfolding selection_on selection_within selection_at
+        selects-11 i =
+            refuses 11 (rw (lt-ltb k (length (selections m)) there, lt-ltb (length out) (length chosen) (omega (arith, i, chosen-length))))
 
-      -- 11
-      pub selects-11 : length out < so.chosen → (reason : Told) → reason ≡ told (refusal 11 nowhere) → (out' name' : List ℕ) → Selects wanted out name (Err reason) out' name'
-      unfolding selection_on selection_within selection_at
-      selects-11 i =
-          refuses 11 (rw (lt-ltb k (length (selections m)) there, lt-ltb (length out) (length chosen) (omega (arith, i, chosen-length))))
+        -- the rows are written, and the name joined
+        module _ (i : so.chosen ≤ length out) {out₁ : List ℕ} (w : out₁ ≡ sets out 0 (pick front k))
+            {z : Option ℕ} {name₁ : List ℕ} (j : Printed (joined_name m (take so.chosen out₁)) name z name₁)
+            {t : Told} (f : t ≡ told (refusal 14 nowhere)) {q : Result ℕ Told} (g : q ≡ ok_or z t) where
+          room : length chosen ≤ length out
+          room = omega (arith, i, chosen-length)
 
-      -- the rows are written
-      module _ (i : so.chosen ≤ length out) (out₁ : List ℕ) (w : out₁ ≡ sets out 0 (pick front k)) where
-        room : length chosen ≤ length out
-        room = omega (arith, i, chosen-length)
+          rows_are : out₁ ≡ sets out 0 chosen
+          rows_are = w ∙ ap (sets out 0) (sym chosen_is)
 
-        rows_are : out₁ ≡ sets out 0 chosen
-        rows_are = w ∙ ap (sets out 0) (sym chosen_is)
+          front-is : take so.chosen out₁ ≡ chosen
+          front-is = ap₂ take (sym chosen-length) rows_are ∙ ap (take (length chosen)) (sets-eq chosen out 0 (omega (arith, room))) ∙ take-append_seam chosen (drop (0 + length chosen) out)
 
-        front-is : take so.chosen out₁ ≡ chosen
-        front-is = ap₂ take (sym chosen-length) rows_are ∙ ap (take (length chosen)) (sets-eq chosen out 0 (omega (arith, room))) ∙ take-append_seam chosen (drop (0 + length chosen) out)
-
-        -- and the name joined
-        module _ (name₁ : List ℕ) (used : ℕ) (j : Added (joined_name m (take so.chosen out₁)) name 0 name₁ used) where
-          joined : Added (joined_name m chosen) name 0 name₁ used
-          joined = added-as (ap (joined_name m) (sym front-is)) j
-
-          -- it fits where no more than all is used
-          fits : used ≤ length name₁ → length (joined_name m chosen) ≤ length name
-          fits l = grind (arith, l, joined.size, joined.spills)
-
-          spills : length name₁ < used → length name < length (joined_name m chosen)
-          spills l = let k : 0 + length (joined_name m chosen) ≤ length name → used ≡ 0 + length (joined_name m chosen) = λ h. (joined.fits h).0 in grind (arith, l, joined.size, k)
+          joined : Printed (joined_name m chosen) name z name₁
+          joined = subst (λ (l : List ℕ). Printed (joined_name m l) name z name₁) front-is j
 
           -- 14
-          pub selects-14 : length name₁ < used → (reason : Told) → reason ≡ told (refusal 14 nowhere) → (out' name' : List ℕ) → Selects wanted out name (Err reason) out' name'
+          pub selects-14 : {r : Told} → q ≡ Err r → {x : Result Selected Told} → x ≡ Err r → Selects wanted out name x out₁ name₁
           unfolding selection_on selection_within selection_at
-          selects-14 l =
-              refuses 14
-              (rw (lt-ltb k (length (selections m)) there, le-ltb (length out) (length chosen) room, lt-ltb (length name) (length (joined_name m chosen)) (spills l)))
+          selects-14 {r} u v =
+              let n : (z ≡ None) × (r ≡ t) = grind arith in
+              rw v
+              (refuses 14
+              (rw (lt-ltb k (length (selections m)) there, le-ltb (length out) (length chosen) room, lt-ltb (length name) (length (joined_name m chosen)) (printed-none joined n.0)))
+              (n.1 ∙ f))
 
           -- all fit
-          pub selects-all : used ≤ length name₁ → Selects wanted out name (Ok (record { rows = so.chosen; bytes = used })) out₁ name₁
+          pub selects-all : {used : ℕ} → q ≡ Ok used → Selects wanted out name (Ok (record { rows = so.chosen; bytes = used })) out₁ name₁
           unfolding selection_on selection_within selection_at
-          selects-all l =
-              let f = fits l in
-              let g = joined.fits (omega (arith, f)) in
-              let e : wanted ≡ given (selection_at m k) =
-              rw (lt-ltb k (length (selections m)) there, le-ltb (length out) (length chosen) room, le-ltb (length name) (length (joined_name m chosen)) f) in
+          selects-all {used} u =
+              let n : z ≡ Some used = grind arith in
+              let p = printed-some joined n in
+              let a : wanted ≡ given (selection_at m k) =
+              rw (lt-ltb k (length (selections m)) there, le-ltb (length out) (length chosen) room, le-ltb (length name) (length (joined_name m chosen)) p.0) in
               record {
-                answer = ap₂ (λ (r b : ℕ). Ok (record { rows = r; bytes = b })) (sym chosen-length) (g.0 ∙ omega arith) ∙ sym (ap (handed selected) e);
-                in_rows = given-in selected_rows wanted out out₁ (selection_at m k) e room rows_are;
-                in-name = given-in selected_name wanted name name₁ (selection_at m k) e f g.1;
+                answer = subst (λ (w : Answer Selection). Ok (record { rows = so.chosen; bytes = used }) ≡ handed selected w) (sym a) (ap₂ (λ (r b : ℕ). Ok (record { rows = r; bytes = b })) (sym chosen-length) p.1);
+                in_rows = given-in selected_rows wanted out out₁ (selection_at m k) a room rows_are;
+                in-name = given-in selected_name wanted name name₁ (selection_at m k) a p.0 p.2;
               }

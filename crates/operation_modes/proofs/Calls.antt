@@ -1,12 +1,11 @@
 -- The answers and outputs of the two calls, case by case. Assumes nothing.
-use mathlib.Core.Bool.{true, false, not}
+use mathlib.Core.Bool.{false}
 use mathlib.Core.Path.{◌≡◌, refl, sym, ap, ap₂, ◌∙◌, subst}
 use mathlib.Core.List.{List, [], ◌∷◌}
 use Prim.Native.Nat.{ℕ, ◌≤◌}
 use lib.Dec.{T}
 use lib.ListN.{length}
-use Rattle.std.specs.Prelude.{Result, Ok, Err, is_err, IsErrAnd}
-use Rattle.std.proofs.lemmas.Result.{err_from_is_err_and}
+use Rattle.std.specs.Prelude.{Result, Ok, Err, is_err}
 use Rattle.as5506.specs.Lists.{is_nil, zeros}
 use Rattle.as5506.specs.declared.Refusal.{Refusal as Told}
 use Rattle.as5506.specs.Tables.{Tables, letter_c, letter_m, count}
@@ -15,17 +14,13 @@ use Rattle.as5506.specs.Refusals.{faults, accepted}
 use Rattle.as5506.specs.Modes.{modes_counted, modes_on, modes_answer, Selection, selection_on, selection_answer}
 use Rattle.as5506.proofs.Laws.{zeros-length}
 use Rattle.as5506.proofs.Answers.{is_given}
-use Rattle.lent.proofs.Answered.{refused-in, keeps, clears}
+use Rattle.lent.proofs.Answered.{refused-in, keeps}
 use Rattle.tables.specs.Answer.{Checked, checked}
 use Rattle.tables.proofs.Answers.{accepted-is, refused-is}
 use Rattle.tables.proofs.Facts.{facts}
 use Rattle.operation_modes.specs.declared.Modes.{Modes}
 use Rattle.operation_modes.specs.declared.Selected.{Selected}
 use Rattle.operation_modes.specs.Answer.{modes_told, selected, selected_rows, selected_name, Selects, SelectedInto}
-
--- what a `?` hands on
-pub passed : {A : Type 0} (z : Result A Told) (r : Told) → IsErrAnd z (λ y. y ≡ r) → z ≡ Err r
-passed z r h = let s = err_from_is_err_and z h in s.1 ∙ ap Err s.2
 
 -- ---- tables that are accepted, and tables that are not
 
@@ -48,15 +43,21 @@ module _ (m : Tables) where
 
   -- what the checks answered
   module _ (q : Checked) (e : q ≡ checked (faults m)) where
-    pub few_rows : q ≡ Ok tt → (count m letter_c ≤ 4096) × (count m letter_m ≤ 4096)
-    few_rows f = let ok = accepted-is m q e f in ((facts m ok).few letter_c, (facts m ok).few letter_m)
+    pub few_components : q ≡ Ok tt → count m letter_c ≤ 4096
+    few_components f = (facts m (accepted-is m q e f)).few letter_c
 
-    pub count_refused : (r : Told) → q ≡ Err r → (z : Result Modes Told) → z ≡ Err r → z ≡ handed modes_told (modes_answer m)
+    pub few_modes : q ≡ Ok tt → count m letter_m ≤ 4096
+    few_modes f = (facts m (accepted-is m q e f)).few letter_m
+
+    pub count_refused : (r : Told) → q ≡ Err r → Err r ≡ handed modes_told (modes_answer m)
     unfolding modes_answer modes_on
-    count_refused r f z g = let s = refused-is m q e r f in g ∙ ap Err s.3 ∙ sym (ap (λ (fs : List Refusal). handed modes_told (modes_on m fs)) s.2)
+    count_refused r f = let s = refused-is m q e r f in ap Err s.3 ∙ sym (ap (λ (fs : List Refusal). handed modes_told (modes_on m fs)) s.2)
 
     pub count_given : q ≡ Ok tt → (z : Modes) → z ≡ modes_told (modes_counted m) → Ok z ≡ handed modes_told (modes_answer m)
     count_given f z h = ap Ok h ∙ sym (ap (handed modes_told) (counted-answer (accepted-is m q e f)))
+
+    pub select_given : q ≡ Ok tt → (a b k : ℕ) → selection_answer a b m k ≡ selection_on a b m k []
+    select_given f a b k = selected-answer a b k (accepted-is m q e f)
 
     module _ (k : ℕ) (rows name : List ℕ) where
       abbrev wanted : Answer Selection
@@ -73,20 +74,11 @@ module _ (m : Tables) where
             in-name = refused-in selected_name wanted name name' s.0 i;
           }
 
-      pub select_accepted : q ≡ Ok tt → (z : Result Selected Told) (rows' name' : List ℕ) → Selects (selection_on (length rows) (length name) m k []) rows name z rows' name'
-          → Selects wanted rows name z rows' name'
-      select_accepted f z rows' name' s =
-          rw (selected-answer (length rows) (length name) k (accepted-is m q e f)) s
-
 -- ---- cases of an answer
 
 pub came-given : (a : Answer Selection) → is_err (handed selected a) ≡ false → T (is_given a)
 came-given (given s) h = tt
 came-given (refused r) h = absurd (subst T h tt)
-
-came-refused : (a : Answer Selection) → is_err (handed selected a) ≡ true → T (not (is_given a))
-came-refused (given s) h = absurd (subst T (sym h) tt)
-came-refused (refused r) h = tt
 
 -- ---- THE CALL: rows and name are the outputs at entry, rows₁ and name₁ the cleared ones, rows₂ and name₂ what was written into them
 
@@ -108,14 +100,4 @@ module _ (m : Tables) (k : ℕ) (rows name rows₁ name₁ : List ℕ) (e : rows
         answer = told-answer;
         written-rows = keeps selected_rows answer rows₁ rows₂ (length rows) g e (rw same_answer at s.in_rows);
         written-name = keeps selected_name answer name₁ name₂ (length name) g f (rw same_answer at s.in-name);
-      }
-
-  pub refused_call : is_err z ≡ true → length rows₂ ≡ length rows₁ → length name₂ ≡ length name₁ → (rows₃ name₃ : List ℕ) → rows₃ ≡ zeros (length rows₂)
-      → name₃ ≡ zeros (length name₂) → SelectedInto m k rows name z rows₃ name₃
-  refused_call i p q rows₃ name₃ u v =
-      let g : T (not (is_given answer)) = came-refused answer (ap is_err (sym told-answer) ∙ i) in
-      record {
-        answer = told-answer;
-        written-rows = u ∙ ap zeros (p ∙ zeros-length rows₁ (length rows) e) ∙ clears selected_rows answer (length rows) g;
-        written-name = v ∙ ap zeros (q ∙ zeros-length name₁ (length name) f) ∙ clears selected_name answer (length name) g;
       }

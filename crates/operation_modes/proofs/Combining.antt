@@ -3,10 +3,10 @@ use mathlib.Core.Bool.{Bool, true, false, not, ◌||◌}
 use mathlib.Core.Path.{◌≡◌, refl, sym, ap, ◌∙◌}
 use mathlib.Core.List.{List, [], ◌∷◌, ◌++◌, map, append_assoc, append-nil}
 use Prim.Native.Nat.{ℕ, zero, suc, ◌+◌, ◌-◌, ◌*◌, ◌≤◌, ◌<◌}
-use native.Mathlib.Nat.{sub-zero, add-zero, mul_assoc, mul-one, one-mul, mul-le-mul_left}
+use native.Mathlib.Nat.{sub-zero, add-zero, mul_assoc, mul-one, one-mul}
 use native.Mathlib.Numerals.{add-one}
 use native.Mathlib.Omega.{arith}
-use borrow.Author.Tests.{lt-ltb, le-ltb, ltb-true, eqb-true, eqb-false}
+use borrow.Author.Tests.{lt-ltb, le-ltb, ltb-true, ltb-false, eqb-true, eqb-false}
 use lib.Dec.{T, eqb, ltb}
 use lib.ListN.{length, length-append}
 use Rattle.std.proofs.lemmas.Bool.Decides.{nat_tests}
@@ -19,9 +19,6 @@ use Rattle.as5506.proofs.Modes.{passes, passes-is}
 use Rattle.operation_modes.specs.declared.combine.Combined.{Combined}
 use Rattle.operation_modes.specs.Linked.{modal_of}
 use Rattle.operation_modes.specs.Combining.{next_by, with_next, Counts, number_of}
-
-pub product_small : (a s : ℕ) → a ≤ 10000 → s ≤ 4096 → a * s ≤ 40960000
-product_small a s h k = omega (arith, h, mul-le-mul_left a k)
 
 -- ---- one row more
 
@@ -160,8 +157,8 @@ module _ (modes : ℕ → List ℕ) (n : ℕ) where
         grown = rw (sub-zero n) (grown-start ls);
       }
 
-  pub combining_turn : (i : ℕ) (so : Combined) (size : ℕ) → i < n → so.product ≤ 10000 → Combining modes n i so → size ≡ length (modes i) → (z : Combined) → z ≡ with_next so size → Combining modes n (i + 1) z
-  combining_turn i so size h p s e z f = rw f (go (eqb size 0) refl)
+  pub combining_turn : {i : ℕ} {so : Combined} → Combining modes n i so → i < n → ltb 10000 so.product ≡ false → {size : ℕ} → size ≡ length (modes i) → {z : Combined} → z ≡ with_next so size → Combining modes n (i + 1) z
+  combining_turn {i} {so} s h p {size} e f = rw f (go (eqb size 0) refl)
     where
       go : (b : Bool) → eqb size 0 ≡ b → Combining modes n (i + 1) (next_by b so size)
       go true q =
@@ -182,7 +179,7 @@ module _ (modes : ℕ → List ℕ) (n : ℕ) where
             chosen_is = omega (arith, s.chosen_is, ap length (front-some modes i some), length-append (modal_of modes (up_to i)) (modes i ∷ []));
             grown =
                 rw (e, front-some modes i some)
-                (grown-step ls so.product (modal_of modes (up_to i)) (modes i) (modal_of modes (span (i + 1) (n - (i + 1)))) p (rw (rest_some modes i n h some) at s.grown));
+                (grown-step ls so.product (modal_of modes (up_to i)) (modes i) (modal_of modes (span (i + 1) (n - (i + 1)))) (ltb-false 10000 so.product p) (rw (rest_some modes i n h some) at s.grown));
           }
 
   cut-is : (p : ℕ) → passes selection_limit 1 ls ≡ ltb selection_limit p → ltb selection_limit p ≡ is_cut selection_limit ls
@@ -221,7 +218,3 @@ module _ (so : Combined) where
 
   pub number-product : so.product ≤ 10000 → (so.chosen ≡ 0 → ⊥) → so.product ≡ number_of so
   number-product h e = grind (arith, nat_tests)
-
-  -- no more than the product
-  pub number-most : number_of so ≤ so.product
-  number-most = grind (arith, nat_tests)

@@ -5,14 +5,10 @@ use Prim.Native.Nat.{ℕ, ◌-◌, ◌≤◌}
 use native.Mathlib.Omega.{arith}
 use lib.ListN.{length, get_or, take, drop}
 use lib.Seq.{take_all}
-use Rattle.std.specs.Borrow.{MutBor}
 use Rattle.as5506.specs.Lists.{each}
 use Rattle.as5506.specs.Tables.{Tables}
 use Rattle.as5506.specs.Modes.{underscore, underscored, mode_name, joined_name}
 use Rattle.as5506.proofs.Laws.{each_map}
-use Rattle.lent.specs.Added.{Added}
-use Rattle.output.specs.Put.{Begins, Put}
-use Rattle.output.specs.declared.Output.{Output}
 
 module _ (m : Tables) where
   -- a name behind the first, with an underscore before it
@@ -30,7 +26,3 @@ module _ (m : Tables) where
   joined_some [] h = absurd (omega (arith, h))
   joined_some (x ∷ xs) h =
       ap (λ (l : List ℕ). mode_name m x ++ l) (each_map (λ (v : List ℕ). underscore ∷ v) (mode_name m) xs ∙ ap (each behind) (sym (take_all (length (x ∷ xs) - 1) xs (omega arith))))
-
--- what is printed into an output of which nothing was used
-pub joins : {t : List ℕ} {lent : MutBor (List ℕ)} {o o' : Output} → Begins lent o → Put t o o' → {z : ℕ} → z ≡ o'.used → {out' : List ℕ} → out' ≡ o'.bytes.now → Added t lent.now 0 out' z
-joins b p e f = rw (e, f, ← b.now, ← b.used) p.added

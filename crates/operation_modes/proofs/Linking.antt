@@ -16,7 +16,7 @@ use Rattle.as5506.proofs.Laws.{All, all_keep, zeros-length}
 use Rattle.as5506.proofs.Scans.{keep-hit, keep-miss, keep-done}
 use Rattle.lent.proofs.Sets.{get_or-zeros, placed}
 use Rattle.operation_modes.specs.declared.link.Linked.{Linked}
-use Rattle.operation_modes.specs.Linked.{chain, modes_linked, put_before, Links}
+use Rattle.operation_modes.specs.Linked.{chain, modes_linked, unlinked, put_before, Links}
 
 -- ---- chains
 
@@ -77,10 +77,11 @@ module _ (m : Tables) where
     pub are : (o : ℕ) → o < 4096 → modes_linked l o ≡ behind o i
     pub few : (o : ℕ) → get_or l.sizes o 0 + i ≤ count m letter_m
 
-  pub linking_start : count m letter_m ≤ 4096 → Linking (count m letter_m) (record { first = zeros 4096; next = zeros 4096; sizes = zeros 4096 })
+  pub linking_start : {l : Linked} → l ≡ unlinked → count m letter_m ≤ 4096 → Linking (count m letter_m) l
   unfolding modes_linked chain
-  linking_start h =
-      record {
+  linking_start e h =
+      rw e
+      (record {
         within = omega arith;
         first-size = zeros-length (zeros 4096) 4096 refl;
         next-size = omega (arith, h, zeros-length (zeros 4096) 4096 refl);
@@ -88,13 +89,13 @@ module _ (m : Tables) where
         are = λ o k. ap (chain (zeros 4096) (get_or (zeros 4096) o 0)) (get_or-zeros 4096 o)
             ∙ sym (keep-done (λ j. eqb (m_owner m j) o) (count m letter_m) (count m letter_m) (omega arith));
         few = λ o. omega (arith, get_or-zeros 4096 o);
-      }
+      })
 
   pub linking_end : (i : ℕ) (l : Linked) → i ≤ 0 → Linking i l → Links m l
   linking_end i l z s =
       record {
         are = λ o h. s.are o h ∙ ap (behind o) (omega (arith, z)) ∙ behind-all o;
-        few = λ o. omega (arith, s.few o);
+        few = λ o. omega (arith, s.few o, linked_length l o);
       }
 
   -- mode j is put before those of its component that follow it
@@ -143,9 +144,8 @@ module _ (m : Tables) where
         go o h false q = linked-other o h (eqb-false o owner q)
 
   -- a turn, with row i - 1
-  pub linking_turn : (i : ℕ) (l : Linked) → 0 < i → Linking i l → (owner : ℕ) → owner ≡ m_owner m (i - 1) → (l' : Linked) → l' ≡ put_before l owner (i - 1) → Linking (i - 1) l'
-  linking_turn i l h s owner e l' f =
-      rw (f, e) (linked_one (i - 1) l (subst (λ (k : ℕ). Linking k l) (omega (arith, h)) s))
+  pub linking_turn : {i : ℕ} {l l' : Linked} {owner : ℕ} → Linking i l → 0 < i → owner ≡ m_owner m (i - 1) → l' ≡ put_before l owner (i - 1) → Linking (i - 1) l'
+  linking_turn {i} {l} s h e f = rw (f, e) (linked_one (i - 1) l (subst (λ (k : ℕ). Linking k l) (omega (arith, h)) s))
 
   pub linking_room : (i : ℕ) (l : Linked) → 0 < i → Linking i l → count m letter_m ≤ 4096 → (o : ℕ) → get_or l.sizes o 0 < 4096
   linking_room i l h s few o = omega (arith, s.few o, few, h)

@@ -17,9 +17,10 @@ pub fn choose_modes(linked: &Linked, combined: Combined, k: usize, rows: &mut [u
 {
     let mut weight = combined.product;
     let mut left = k;
+    // No index of the loop: components without modes are passed over.
     let mut at = 0;
     for i in 0..combined.end {
-        let size = linked.size(i) as usize;
+        let size = linked.size(i);
         if size == 0 {
             continue;
         }

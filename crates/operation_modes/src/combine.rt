@@ -1,5 +1,5 @@
 // How many combinations of modes there are.
-ghost use Rattle.std.specs.Prelude.{◌≡◌, ℕ, ◌≤◌, ◌<◌, get_or, ltb};
+ghost use Rattle.std.specs.Prelude.{◌≡◌, ℕ, ◌≤◌, ◌<◌, length, ltb};
 ghost use Rattle.operation_modes.specs.Linked.{modes_linked};
 ghost use Rattle.operation_modes.specs.Combining.{with_next, Counts, number_of};
 
@@ -19,7 +19,7 @@ impl Combined {
     // selection.
     #[tactic(auto, using(crate::proofs::Combining::combining_over, crate::proofs::Combining::combining_whole))]
     pub fn of(linked: &Linked, count: usize) -> Combined
-        requires { (count ≤ 4096) × ((o : ℕ) → get_or linked.now.sizes o 0 ≤ 4096) }
+        requires { (count ≤ 4096) × ((o : ℕ) → length (modes_linked linked.now o) ≤ 4096) }
         ensures { Counts (modes_linked linked.now) count result }
     {
         let mut so = Combined {
@@ -31,7 +31,7 @@ impl Combined {
             if so.is_over() {
                 return so;
             }
-            so = so.with_next(linked.size(i) as usize);
+            so = so.with_next(linked.size(i));
         }
         so
     }

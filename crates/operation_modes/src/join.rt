@@ -1,8 +1,8 @@
 // The joined name of a selection.
 ghost use Rattle.std.specs.Prelude.{◌≡◌};
 ghost use Rattle.as5506.specs.Modes.{mode_name, joined_name};
-ghost use Rattle.lent.specs.Added.{Added};
 ghost use Rattle.lent.specs.Model.{model};
+ghost use Rattle.lent.specs.Printed.{Printed};
 ghost use Rattle.output.specs.Put.{Put};
 
 use lent::Tables;
@@ -29,9 +29,9 @@ fn put_names(m: &Tables, rows: &[u32], out: &mut Output)
     }
 }
 
-// Joins the names of modes by underscores: how many bytes, one more than the output has where it is too short.
-pub fn join_names(m: &Tables, rows: &[u32], name: &mut [u8]) -> usize
-    ensures { Added (joined_name (model m.now) rows.now) name.old 0 name.new result }
+// Joins the names of modes by underscores, from the front of an output: how many bytes, none where it is too short.
+pub fn join_names(m: &Tables, rows: &[u32], name: &mut [u8]) -> Option<usize>
+    ensures { Printed (joined_name (model m.now) rows.now) name.old result name.new }
 {
     let mut out = Output::new(name);
     put_names(m, rows, &mut out);

@@ -9,7 +9,8 @@ mod join;
 mod link;
 mod select;
 
-ghost use Rattle.std.specs.Prelude.{◌≡◌, length};
+ghost use Rattle.std.specs.Prelude.{◌≡◌, ◌≤◌, length};
+ghost use Rattle.as5506.specs.Tables.{letter_c, letter_m, count};
 ghost use Rattle.as5506.specs.Answers.{handed};
 ghost use Rattle.as5506.specs.Modes.{modes_answer, selection_answer};
 ghost use Rattle.lent.specs.Model.{model};
@@ -32,15 +33,25 @@ pub struct Selected {
     pub bytes: usize,
 }
 
+// Tables that are accepted, and so have few components and modes.
+#[derive(Clone, Copy)]
+struct Accepted<'a, 'b> {
+    m: &'a Tables<'b>,
+    ghost few_components: { count (model m.now) letter_c ≤ 4096 },
+    ghost few_modes: { count (model m.now) letter_m ≤ 4096 },
+}
+
 // How many selections of modes the tables have, and whether the list was cut.
+#[tactic(auto, using(crate::proofs::Calls::count_refused, crate::proofs::Calls::count_given))]
 pub fn count_selections(m: &Tables) -> Result<Modes, Refusal>
     ensures { result ≡ handed modes_told (modes_answer (model m.now)) }
 {
     tables::check_tables(m)?;
-    Ok(select::count_modes(m))
+    Ok(Accepted { m }.count_modes())
 }
 
 // Checks the tables, then writes the selection at a number. On a refusal the outputs hold anything.
+#[tactic(auto, using(crate::proofs::Calls::select_given))]
 fn check_and_select(
     m: &Tables,
     rows: &mut [u32],
@@ -50,11 +61,12 @@ fn check_and_select(
     ensures { Selects (selection_answer (length rows.old) (length name.old) (model m.now) number) rows.old name.old result rows.new name.new }
 {
     tables::check_tables(m)?;
-    select::select(m, rows, name, number)
+    Accepted { m }.select(rows, name, number)
 }
 
 // The selection of modes at a number, as M rows, and the names of these modes joined by underscores. The outputs hold them from the front, and zeros
 // behind; on a refusal, zeros.
+#[tactic(auto, using(crate::proofs::Calls::given_call))]
 pub fn select_modes(
     m: &Tables,
     rows: &mut [u32],

@@ -1,4 +1,6 @@
--- A text as it is printed into an output that is lent for it.
+-- What is written piece by piece into an output that is lent for it.
 --
---     Put   what a call that prints a part of the text leaves
+--     Put      what a call that prints a part of a text leaves
+--     Blocks   blocks of numbers written one behind the other
 pub mod Put
+pub mod Blocks

@@ -1,14 +1,20 @@
-// A text as it is printed, piece behind piece, into an output that is lent for it. Where a piece finds no room the output counts as full from then on.
-// Laws for callers: proofs/Put.antt.
+// What is written piece by piece into an output that is lent for it: a text (`Output`), and blocks of numbers (`Blocks`). Where a piece of a text finds no
+// room the output counts as full from then on; where a block finds none, the call that puts it says so.
+// Laws for callers: proofs/Put.antt and proofs/Writing.antt.
 #![tactic(auto)]
 
 ghost use Rattle.std.specs.Prelude.{◌≡◌};
-ghost use Rattle.output.specs.Put.{Begins, Put};
+ghost use Rattle.lent.specs.Append.{append};
+ghost use Rattle.output.specs.Put.{Begins, Put, output_of};
 
-// An output of text and how much of it is used: one more than its length where a piece found no room.
+mod blocks;
+
+pub use blocks::Blocks;
+
+// An output of text and how much of it is used, none where a piece found no room.
 pub struct Output<'a> {
     bytes: &'a mut [u8],
-    used: usize,
+    used: Option<usize>,
 }
 
 impl<'a> Output<'a> {
@@ -16,11 +22,14 @@ impl<'a> Output<'a> {
     pub fn new(bytes: &'a mut [u8]) -> Output<'a>
         ensures { Begins bytes.entry result }
     {
-        Output { bytes, used: 0 }
+        Output {
+            bytes,
+            used: Some(0),
+        }
     }
 
-    // The output that these bytes are, `used` of it used: one more than there are where it is full.
-    pub fn behind(bytes: &'a mut [u8], used: usize) -> Output<'a>
+    // The output that these bytes are, `used` of it used, none where it is full.
+    pub fn behind(bytes: &'a mut [u8], used: Option<usize>) -> Output<'a>
         ensures same { result.bytes.ghost_name ≡ bytes.entry.ghost_name }
         ensures now { result.bytes.now ≡ bytes.entry.now }
         ensures used { result.used ≡ used }
@@ -29,14 +38,23 @@ impl<'a> Output<'a> {
     }
 
     // Prints a piece behind what is used, if there is room for the whole of it.
+    #[tactic(auto, using(crate::proofs::Put::put_piece))]
     pub fn put(&mut self, piece: &[u8])
-        ensures { Put piece.now self.old self.new }
+        ensures put { Put piece.now self.old self.new }
+        ensures appended { output_of self.new ≡ append piece.now (output_of self.old) }
     {
-        self.used = lent::append_bytes(self.bytes, self.used, piece);
+        self.used = lent::append(self.bytes, self.used, piece);
     }
 
-    // How much of the output is used, one more than its length where something found no room.
-    pub fn done(self) -> usize
+    // How much of the output is used, none where something found no room.
+    pub fn used(&self) -> Option<usize>
+        ensures { result ≡ self.now.used }
+    {
+        self.used
+    }
+
+    // The same, at the end of its use.
+    pub fn done(self) -> Option<usize>
         ensures { (result ≡ self.entry.used) × (self.exit.0.now ≡ self.entry.bytes.now) }
     {
         let Output { bytes: _, used } = self;

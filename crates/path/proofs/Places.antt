@@ -1,5 +1,5 @@
 -- A path's places: a list, and zeros behind it. Assumes nothing.
-use mathlib.Core.Bool.{Bool, true, false, ◌||◌, cond}
+use mathlib.Core.Bool.{Bool, true, false, ◌||◌, cond, false≢true}
 use mathlib.Core.Path.{◌≡◌, refl, sym, ap, ap₂, ◌∙◌, subst}
 use mathlib.Core.List.{List, [], ◌∷◌, ◌++◌}
 use Prim.Native.Nat.{ℕ, suc, ◌+◌, ◌<◌, ◌≤◌}
@@ -12,7 +12,6 @@ use borrow.Author.Tests.{eq-eqb, ne_eqb}
 use Rattle.std.specs.List.{list_any}
 use Rattle.as5506.specs.Lists.{has, zeros, padded}
 use Rattle.as5506.specs.Tracing.{append_new}
-use Rattle.as5506.proofs.Laws.{false-true}
 use Rattle.lent.proofs.Sets.{drop-zeros}
 use Rattle.lent.proofs.Padded.{padded-put, padded-none}
 use Rattle.path.specs.Places.{size, front-size}
@@ -47,7 +46,7 @@ eqb-sym x y = go (eqb x y) refl
   where
     go : (b : Bool) → eqb x y ≡ b → eqb x y ≡ eqb y x
     go true e = e ∙ sym (eq-eqb y x (sym (eqb→eq x y (subst T (sym e) tt))))
-    go false e = e ∙ sym (ne_eqb y x (λ z. false-true (sym e ∙ eq-eqb x y (sym z))))
+    go false e = e ∙ sym (ne_eqb y x (λ z. false≢true (sym e ∙ eq-eqb x y (sym z))))
 
 pub has_any : (v : ℕ) (l : List ℕ) → list_any (λ y. eqb y v) l ≡ has v l
 has_any v [] = refl

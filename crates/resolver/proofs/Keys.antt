@@ -1,15 +1,14 @@
 -- A search by a key of parts is the definition's, for each table. Assumes nothing.
-use mathlib.Core.Bool.{Bool, ◌&&◌}
+use mathlib.Core.Bool.{Bool, ◌&&◌, and-true}
 use mathlib.Core.Path.{◌≡◌, refl, sym, ap, ◌∙◌}
-use mathlib.Core.Option.{Option}
 use Prim.Native.Nat.{ℕ}
 use lib.Dec.{eqb}
+use Rattle.std.specs.Prelude.{Option}
 use Rattle.as5506.specs.Lists.{up_to, keep, first_of, same_bytes}
 use Rattle.as5506.specs.Tables.{Tables, Letter, letter_p, table, width, at, letter_t, letter_q, letter_u, letter_r, count, rows_naming, p_name, q_package, q_type, q_impl, r_package, r_what, r_alias}
 use Rattle.as5506.specs.Names.{key, same_folded}
 use Rattle.as5506.specs.Resolve.{package_named, type_named, impl_named, group_named, renames_named}
 use Rattle.as5506.proofs.Scans.{keep-both, keep_same}
-use Rattle.as5506.proofs.Laws.{and-true}
 use Rattle.resolver.specs.declared.Key.{Key}
 use Rattle.resolver.specs.declared.Part.TheVariants.{Number, Name, Any}
 use Rattle.resolver.specs.Keys.{has_part, has_key, row_has_key, rows_with_key}

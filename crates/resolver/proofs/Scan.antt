@@ -1,10 +1,10 @@
 -- A search of the rows 0 to n for the first that passes a test, for callers too: what each turn of the loop says. Assumes nothing.
 use mathlib.Core.Bool.{Bool, true, false}
 use mathlib.Core.Path.{◌≡◌, sym, ap, ◌∙◌}
-use mathlib.Core.Option.{none, some}
 use Prim.Native.Nat.{ℕ, ◌+◌, ◌*◌, ◌-◌, ◌/◌, ◌≤◌, ◌<◌}
 use native.Mathlib.Nat.{sub-zero, div-mul-le_self, mul-le-mul_right, suc-mul}
 use native.Mathlib.Omega.{arith}
+use Rattle.std.specs.Prelude.{Some, None}
 use Rattle.as5506.specs.Lists.{span, up_to, keep, first_of}
 use Rattle.as5506.proofs.Scans.{keep-hit, keep-miss, keep-done}
 
@@ -22,7 +22,7 @@ module _ (p : ℕ → Bool) (n : ℕ) where
   search_start = rw sub-zero
 
   module _ (i : ℕ) (s : Searching i) where
-    pub search_hit : i < n → p i ≡ true → some i ≡ first_of (keep p (up_to n))
+    pub search_hit : i < n → p i ≡ true → Some i ≡ first_of (keep p (up_to n))
     unfolding Searching
     search_hit h t = sym (s ∙ ap first_of (keep-hit p i n h t))
 
@@ -30,7 +30,7 @@ module _ (p : ℕ → Bool) (n : ℕ) where
     unfolding Searching
     search_miss h t = s ∙ ap first_of (keep-miss p i n h t)
 
-    pub search_end : n ≤ i → none ≡ first_of (keep p (up_to n))
+    pub search_end : n ≤ i → None ≡ first_of (keep p (up_to n))
     unfolding Searching
     search_end h = sym (s ∙ ap first_of (keep-done p i n h))
 

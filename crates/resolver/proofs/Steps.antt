@@ -2,8 +2,6 @@
 use mathlib.Core.Bool.{Bool, true, false, ◌||◌, cond}
 use mathlib.Core.Path.{◌≡◌, refl, sym, ap, ◌∙◌}
 use mathlib.Core.List.{List, [], ◌∷◌, ◌++◌, map}
-use mathlib.Core.Option.{none, some}
-use mathlib.Core.Option.{Option as Maybe}
 use Prim.Native.Nat.{ℕ, ◌+◌, ◌-◌, ◌≤◌, ◌<◌}
 use native.Mathlib.Nat.{sub-zero}
 use lib.Dec.{eqb}
@@ -16,7 +14,7 @@ use Rattle.as5506.specs.Resolve.{Resolved, component_type, component_impl, group
 use Rattle.as5506.proofs.Scans.{keep-hit, keep-miss, keep-done}
 use Rattle.resolver.specs.declared.Classifier.{Classifier}
 use Rattle.resolver.specs.declared.Classifier.TheVariants.{ComponentType, ComponentImpl, GroupType}
-use Rattle.resolver.specs.Found.{row_of, found}
+use Rattle.resolver.specs.Found.{found}
 use Rattle.resolver.proofs.Rows.{type_row, impl_row, group_row}
 
 module _ (m : Tables) where
@@ -32,54 +30,54 @@ module _ (m : Tables) where
 
   module _ (own : Bool) (g : ℕ) (r : Ref) where
     module _ (h : r.impl ≡ missing → ⊥) where
-      pub impl_none : none ≡ impl_named m g (key m r.type) (key m r.impl) → None ≡ found m (in_package m own g r)
+      pub impl_none : None ≡ impl_named m g (key m r.type) (key m r.impl) → None ≡ found m (in_package m own g r)
       unfolding in_package in_package_by
       impl_none p = rw (ne_eqb r.impl missing h, ← p)
 
-      pub impl_some : (i v : ℕ) (z : Option Classifier) → some i ≡ impl_named m g (key m r.type) (key m r.impl) → v ≡ q_private m i → z ≡ cond (own || eqb v 0) (Some (ComponentImpl g i)) None → z ≡ found m (in_package m own g r)
+      pub impl_some : (i v : ℕ) (z : Option Classifier) → Some i ≡ impl_named m g (key m r.type) (key m r.impl) → v ≡ q_private m i → z ≡ cond (own || eqb v 0) (Some (ComponentImpl g i)) None → z ≡ found m (in_package m own g r)
       unfolding in_package in_package_by
       impl_some i v z p w e = rw (ne_eqb r.impl missing h, ← p) (shown own (q_private m i) v (component_impl i) (ComponentImpl g i) z w (rw (impl_row m g _ _ i p).1) e)
 
     module _ (h : r.impl ≡ missing) where
-      pub type_some : (i v : ℕ) (z : Option Classifier) → some i ≡ type_named m g (key m r.type) → v ≡ t_private m i → z ≡ cond (own || eqb v 0) (Some (ComponentType g i)) None → z ≡ found m (in_package m own g r)
+      pub type_some : (i v : ℕ) (z : Option Classifier) → Some i ≡ type_named m g (key m r.type) → v ≡ t_private m i → z ≡ cond (own || eqb v 0) (Some (ComponentType g i)) None → z ≡ found m (in_package m own g r)
       unfolding in_package in_package_by type_hit
       type_some i v z p w e = rw (eq-eqb r.impl missing h, ← p) (shown own (t_private m i) v (component_type i) (ComponentType g i) z w (rw (type_row m g _ i p).1) e)
 
-      module _ (n : none ≡ type_named m g (key m r.type)) where
-        pub group_none : none ≡ group_named m g (key m r.type) → None ≡ found m (in_package m own g r)
+      module _ (n : None ≡ type_named m g (key m r.type)) where
+        pub group_none : None ≡ group_named m g (key m r.type) → None ≡ found m (in_package m own g r)
         unfolding in_package in_package_by type_hit
         group_none p = rw (eq-eqb r.impl missing h, ← n, ← p)
 
-        pub group_some : (i v : ℕ) (z : Option Classifier) → some i ≡ group_named m g (key m r.type) → v ≡ u_private m i → z ≡ cond (own || eqb v 0) (Some (GroupType g i)) None → z ≡ found m (in_package m own g r)
+        pub group_some : (i v : ℕ) (z : Option Classifier) → Some i ≡ group_named m g (key m r.type) → v ≡ u_private m i → z ≡ cond (own || eqb v 0) (Some (GroupType g i)) None → z ≡ found m (in_package m own g r)
         unfolding in_package in_package_by type_hit
         group_some i v z p w e = rw (eq-eqb r.impl missing h, ← n, ← p) (shown own (u_private m i) v (group_type i) (GroupType g i) z w (rw (group_row m g _ i p).1) e)
 
   module _ (own : Bool) (r : Ref) (k : List ℕ) where
-    pub package_none : none ≡ package_named m k → None ≡ found m (in_found m own r (package_named m k))
+    pub package_none : None ≡ package_named m k → None ≡ found m (in_found m own r (package_named m k))
     unfolding in_found
     package_none p = rw (← p)
 
-    pub package_some : (g : ℕ) (z : Option Classifier) → some g ≡ package_named m k → z ≡ found m (in_package m own g r) → z ≡ found m (in_found m own r (package_named m k))
+    pub package_some : (g : ℕ) (z : Option Classifier) → Some g ≡ package_named m k → z ≡ found m (in_package m own g r) → z ≡ found m (in_found m own r (package_named m k))
     unfolding in_found
     package_some g z p e = rw (← p) e
 
   -- ---- a reference with a package
 
   module _ (h : ℕ) (a : Option ℕ) where
-    pub not_asked : a ≡ None → h ≡ replaced_by m h (row_of a)
+    pub not_asked : a ≡ None → h ≡ replaced_by m h a
     unfolding replaced_by
     not_asked q = rw q
 
     module _ (g : ℕ) (q : a ≡ Some g) where
-      pub not_renamed : none ≡ first_of (renames_named m g 0 (key m h)) → h ≡ replaced_by m h (row_of a)
+      pub not_renamed : None ≡ first_of (renames_named m g 0 (key m h)) → h ≡ replaced_by m h a
       unfolding replaced_by
       not_renamed p = rw (q, ← p)
 
-      pub renamed : (j v : ℕ) → some j ≡ first_of (renames_named m g 0 (key m h)) → v ≡ r_original_package m j → v ≡ replaced_by m h (row_of a)
+      pub renamed : (j v : ℕ) → Some j ≡ first_of (renames_named m g 0 (key m h)) → v ≡ r_original_package m j → v ≡ replaced_by m h a
       unfolding replaced_by
       renamed j v p e = rw (q, ← p) e
 
-  pub by_replaced : (from : ℕ) (r : Ref) (asking : Maybe ℕ) (name : ℕ) (own : Bool) (z : Option Classifier) → asking ≡ package_named m (key m from) → name ≡ replaced_by m r.pkg asking → own ≡ same_folded (name_of m name) (name_of m from) → z ≡ found m (in_found m own r (package_named m (key m name))) → z ≡ found m (with_package m from r)
+  pub by_replaced : (from : ℕ) (r : Ref) (asking : Option ℕ) (name : ℕ) (own : Bool) (z : Option Classifier) → asking ≡ package_named m (key m from) → name ≡ replaced_by m r.pkg asking → own ≡ same_folded (name_of m name) (name_of m from) → z ≡ found m (in_found m own r (package_named m (key m name))) → z ≡ found m (with_package m from r)
   unfolding with_package replaced in_named same_folded key
   by_replaced from r asking name own z a p o e = rw (← a, ← p, ← o) e
 
@@ -142,25 +140,25 @@ module _ (m : Tables) where
 
   -- ---- renames of classifiers and groups
 
-  first_there : (xs ys : List ℕ) (j : ℕ) → some j ≡ first_of xs → some j ≡ first_of (xs ++ ys)
+  first_there : (xs ys : List ℕ) (j : ℕ) → Some j ≡ first_of xs → Some j ≡ first_of (xs ++ ys)
   first_there [] ys j h = cc
   first_there (x ∷ xs) ys j h = h
 
-  first_after : (xs ys : List ℕ) → none ≡ first_of xs → first_of (xs ++ ys) ≡ first_of ys
+  first_after : (xs ys : List ℕ) → None ≡ first_of xs → first_of (xs ++ ys) ≡ first_of ys
   first_after [] ys h = refl
   first_after (x ∷ xs) ys h = cc
 
   module _ (g : ℕ) (r : Ref) where
-    pub classifier_rename : (j : ℕ) → some j ≡ first_of (renames_named m g 1 (key m r.type)) → some j ≡ first_of (renames_for m g r)
+    pub classifier_rename : (j : ℕ) → Some j ≡ first_of (renames_named m g 1 (key m r.type)) → Some j ≡ first_of (renames_for m g r)
     unfolding renames_for
     classifier_rename j p = first_there (renames_named m g 1 (key m r.type)) _ j p
 
-    module _ (n : none ≡ first_of (renames_named m g 1 (key m r.type))) where
-      pub no_rename : (r.impl ≡ missing → ⊥) → none ≡ first_of (renames_for m g r)
+    module _ (n : None ≡ first_of (renames_named m g 1 (key m r.type))) where
+      pub no_rename : (r.impl ≡ missing → ⊥) → None ≡ first_of (renames_for m g r)
       unfolding renames_for
       no_rename h = sym (first_after (renames_named m g 1 (key m r.type)) _ n ∙ rw (ne_eqb r.impl missing h))
 
-      pub group_rename : r.impl ≡ missing → (o : Maybe ℕ) → o ≡ first_of (renames_named m g 2 (key m r.type)) → o ≡ first_of (renames_for m g r)
+      pub group_rename : r.impl ≡ missing → (o : Option ℕ) → o ≡ first_of (renames_named m g 2 (key m r.type)) → o ≡ first_of (renames_for m g r)
       unfolding renames_for
       group_rename h o p = p ∙ sym (first_after (renames_named m g 1 (key m r.type)) _ n ∙ rw (eq-eqb r.impl missing h))
 
@@ -182,20 +180,20 @@ module _ (m : Tables) where
     own_missed unresolved h = refl
 
     module _ (own : Option Classifier) (p : own ≡ found m (in_package m true g r)) where
-      pub in_own : is_some own ≡ true → own ≡ found m (without_package m from r (some g))
+      pub in_own : is_some own ≡ true → own ≡ found m (without_package m from r (Some g))
       unfolding without_package
       in_own h = p ∙ ap (found m) (sym (own_found (in_package m true g r) (sym (ap is_some p) ∙ h)))
 
       module _ (h : is_some own ≡ false) where
-        after : without_package m from r (some g) ≡ after_rename m from g r (first_of (renames_for m g r))
+        after : without_package m from r (Some g) ≡ after_rename m from g r (first_of (renames_for m g r))
         unfolding without_package
         after = own_missed (in_package m true g r) (sym (ap is_some p) ∙ h)
 
-        pub by_imports : (z : Option Classifier) → none ≡ first_of (renames_for m g r) → z ≡ found m (from_imports m g r) → z ≡ found m (without_package m from r (some g))
+        pub by_imports : (z : Option Classifier) → None ≡ first_of (renames_for m g r) → z ≡ found m (from_imports m g r) → z ≡ found m (without_package m from r (Some g))
         unfolding after_rename
         by_imports z n e = rw (after, ← n) e
 
-        pub by_rename : (j v w : ℕ) (z : Option Classifier) → some j ≡ first_of (renames_for m g r) → v ≡ r_original_package m j → w ≡ r_original_name m j → z ≡ found m (with_package m from (ref v w r.impl)) → z ≡ found m (without_package m from r (some g))
+        pub by_rename : (j v w : ℕ) (z : Option Classifier) → Some j ≡ first_of (renames_for m g r) → v ≡ r_original_package m j → w ≡ r_original_name m j → z ≡ found m (with_package m from (ref v w r.impl)) → z ≡ found m (without_package m from r (Some g))
         unfolding after_rename target
         by_rename j v w z s a b e = rw (after, ← s, ← a, ← b) e
 
@@ -207,11 +205,11 @@ module _ (m : Tables) where
     by_package z h e = rw (ne_eqb r.pkg missing h) e
 
     module _ (h : r.pkg ≡ missing) where
-      pub no_asker : none ≡ package_named m (key m from) → None ≡ found m (resolve m from r)
+      pub no_asker : None ≡ package_named m (key m from) → None ≡ found m (resolve m from r)
       unfolding resolve resolve_by without_package
       no_asker p = rw (eq-eqb r.pkg missing h, ← p)
 
-      pub by_asker : (g : ℕ) (z : Option Classifier) → some g ≡ package_named m (key m from) → z ≡ found m (without_package m from r (some g)) → z ≡ found m (resolve m from r)
+      pub by_asker : (g : ℕ) (z : Option Classifier) → Some g ≡ package_named m (key m from) → z ≡ found m (without_package m from r (Some g)) → z ≡ found m (resolve m from r)
       unfolding resolve resolve_by
       by_asker g z p e = rw (eq-eqb r.pkg missing h, ← p) e
 

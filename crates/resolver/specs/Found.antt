@@ -1,17 +1,11 @@
 -- The answers of the code, as the definition has them. Assumes nothing.
 use Rattle.std.specs.Prelude.{ℕ, Option, Some, None}
-use Rattle.std.proofs.Math.Option as maybe
 use Rattle.as5506.specs.Tables.{Tables, t_package, q_package, u_package}
 use Rattle.as5506.specs.Resolve.{Resolved, component_type, component_impl, group_type, unresolved}
 use Rattle.resolver.specs.declared.Classifier.{Classifier}
 use Rattle.resolver.specs.declared.Classifier.TheVariants.{ComponentType, ComponentImpl, GroupType}
 use Rattle.resolver.specs.declared.Renamed.{Renamed}
 use Rattle.resolver.specs.declared.Renamed.TheVariants as renamed
-
--- the row that a search stops at, if it does
-abbrev pub row_of : Option ℕ → maybe.Option ℕ
-row_of (Some i) = maybe.some i
-row_of None = maybe.none
 
 -- what a reference names: the row, with the row of the package that it was found in
 abbrev pub found : Tables → Resolved → Option Classifier

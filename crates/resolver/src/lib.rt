@@ -2,17 +2,16 @@
 #![tactic(auto)]
 
 ghost use Rattle.std.specs.Prelude.{◌||◌, cond, ◌≡◌, ◌+◌, ◌*◌, ◌/◌, ◌<◌, ◌≤◌, Some, None, eqb, length, get_or};
-ghost use Rattle.std.proofs.Math.Option.{some};
 ghost use Rattle.as5506.specs.Lists.{first_of};
 ghost use Rattle.as5506.specs.Names.{key};
 ghost use Rattle.as5506.specs.Resolve.{package_named, type_named, impl_named, group_named, renames_named, in_package, in_found, replaced_by, with_package, from_imports, renames_for, without_package, resolve};
 ghost use Rattle.lent.specs.Model.{model};
 ghost use Rattle.columns.specs.Reference.{ref_of};
 ghost use Rattle.resolver.specs.Keys.{has_part, has_key, rows_with_key};
-ghost use Rattle.resolver.specs.Found.{row_of, found, renamed_number};
+ghost use Rattle.resolver.specs.Found.{found, renamed_number};
 
 use as5506::{I_NUMBERS, MISSING, P_NUMBERS, Q_NUMBERS, R_NUMBERS, T_NUMBERS, U_NUMBERS};
-use columns::{Reference, group_type};
+use columns::{Reference, field_at, group_type};
 use lent::{Tables, get_or};
 use name::same_folded_names;
 
@@ -39,9 +38,9 @@ struct Key(Part, Part, Part);
 // What a row of R renames.
 #[derive(Clone, Copy)]
 enum Renamed {
-    Package,
-    Classifier,
-    GroupType,
+    Package = 0,
+    Classifier = 1,
+    GroupType = 2,
 }
 
 impl Renamed {
@@ -49,23 +48,11 @@ impl Renamed {
     fn number(self) -> usize
         ensures { result ≡ renamed_number self }
     {
-        match self {
-            Renamed::Package => 0,
-            Renamed::Classifier => 1,
-            Renamed::GroupType => 2,
-        }
+        self as usize
     }
 }
 
 // ---- rows and keys
-
-// A field of a row, in a table of rows of `width` fields.
-fn field(table: &[u32], width: usize, row: usize, column: usize) -> u32
-    requires { (0 < width) × (column < width) × (row < length table.now / width) }
-    ensures { result ≡ get_or table.now (row * width + column) 0 }
-{
-    get_or(table, row * width + column, 0)
-}
 
 // Whether a field is what a key asks for. "Keys are folded".
 #[tactic(auto, unfolding(crate::specs::Keys::has_part))]
@@ -94,7 +81,7 @@ fn has_key(m: &Tables, table: &[u32], place: usize, key: &Key) -> bool
 #[tactic(auto, using(crate::proofs::Scan::searching))]
 fn find_row(m: &Tables, table: &[u32], width: usize, key: &Key) -> Option<usize>
     requires { 0 < width }
-    ensures { row_of result ≡ first_of (rows_with_key (model m.now) table.now width key.now) }
+    ensures { result ≡ first_of (rows_with_key (model m.now) table.now width key.now) }
 {
     for row in 0..table.len() / width {
         if has_key(m, table, row * width, key) {
@@ -107,7 +94,7 @@ fn find_row(m: &Tables, table: &[u32], width: usize, key: &Key) -> Option<usize>
 // The package of a name.
 #[tactic(auto, using(crate::proofs::Keys::package_found))]
 fn find_package(m: &Tables, name: u32) -> Option<usize>
-    ensures { row_of result ≡ package_named (model m.now) (key (model m.now) name) }
+    ensures { result ≡ package_named (model m.now) (key (model m.now) name) }
 {
     let key = Key(Part::Name(name), Part::Any, Part::Any);
     find_row(m, m.p, P_NUMBERS, &key)
@@ -116,7 +103,7 @@ fn find_package(m: &Tables, name: u32) -> Option<usize>
 // The component type of a package and a name.
 #[tactic(auto, using(crate::proofs::Keys::type_found))]
 fn find_type(m: &Tables, package: usize, name: u32) -> Option<usize>
-    ensures { row_of result ≡ type_named (model m.now) «package» (key (model m.now) name) }
+    ensures { result ≡ type_named (model m.now) «package» (key (model m.now) name) }
 {
     let key = Key(Part::Number(package), Part::Name(name), Part::Any);
     find_row(m, m.t, T_NUMBERS, &key)
@@ -125,7 +112,7 @@ fn find_type(m: &Tables, package: usize, name: u32) -> Option<usize>
 // The implementation of a package and a pair of names.
 #[tactic(auto, using(crate::proofs::Keys::impl_found))]
 fn find_impl(m: &Tables, package: usize, type_name: u32, implementation: u32) -> Option<usize>
-    ensures { row_of result ≡ impl_named (model m.now) «package» (key (model m.now) type_name) (key (model m.now) implementation) }
+    ensures { result ≡ impl_named (model m.now) «package» (key (model m.now) type_name) (key (model m.now) implementation) }
 {
     let key = Key(
         Part::Number(package),
@@ -138,7 +125,7 @@ fn find_impl(m: &Tables, package: usize, type_name: u32, implementation: u32) ->
 // The group type of a package and a name.
 #[tactic(auto, using(crate::proofs::Keys::group_found))]
 fn find_group(m: &Tables, package: usize, name: u32) -> Option<usize>
-    ensures { row_of result ≡ group_named (model m.now) «package» (key (model m.now) name) }
+    ensures { result ≡ group_named (model m.now) «package» (key (model m.now) name) }
 {
     let key = Key(Part::Number(package), Part::Name(name), Part::Any);
     find_row(m, m.u, U_NUMBERS, &key)
@@ -147,7 +134,7 @@ fn find_group(m: &Tables, package: usize, name: u32) -> Option<usize>
 // The rename of a package, of one kind, by its alias.
 #[tactic(auto, using(crate::proofs::Keys::rename_found))]
 fn find_rename(m: &Tables, package: usize, what: Renamed, alias: u32) -> Option<usize>
-    ensures { row_of result ≡ first_of (renames_named (model m.now) «package» (renamed_number what) (key (model m.now) alias)) }
+    ensures { result ≡ first_of (renames_named (model m.now) «package» (renamed_number what) (key (model m.now) alias)) }
 {
     let key = Key(
         Part::Number(package),
@@ -174,11 +161,11 @@ fn in_package(m: &Tables, own: bool, package: usize, reference: Reference) -> Op
     let type_name = reference.type_name;
     if reference.implementation != MISSING {
         let row = find_impl(m, package, type_name, reference.implementation)?;
-        let private = field(m.q, Q_NUMBERS, row, 3);
+        let private = field_at(m.q, Q_NUMBERS, row, 3);
         return if_visible(own, private, Classifier::ComponentImpl { package, row });
     }
     if let Some(row) = find_type(m, package, type_name) {
-        let private = field(m.t, T_NUMBERS, row, 2);
+        let private = field_at(m.t, T_NUMBERS, row, 2);
         return if_visible(own, private, Classifier::ComponentType { package, row });
     }
     let row = find_group(m, package, type_name)?;
@@ -205,7 +192,7 @@ fn resolve_in_package(
 // A package name as the asking package means it: "at most one replacement by the asking package's package renames".
 #[tactic(auto, using(crate::proofs::Steps::replaced_steps))]
 fn replaced(m: &Tables, asking: Option<usize>, package: u32) -> u32
-    ensures { result ≡ replaced_by (model m.now) «package» (row_of asking) }
+    ensures { result ≡ replaced_by (model m.now) «package» asking }
 {
     let Some(row) = asking else {
         return package;
@@ -213,7 +200,7 @@ fn replaced(m: &Tables, asking: Option<usize>, package: u32) -> u32
     let Some(rename) = find_rename(m, row, Renamed::Package, package) else {
         return package;
     };
-    field(m.r, R_NUMBERS, rename, 3)
+    field_at(m.r, R_NUMBERS, rename, 3)
 }
 
 // "A reference with a package is looked up there, after at most one replacement"; ""Own" means equal keys after replacement".
@@ -225,7 +212,7 @@ fn with_package(
     from: u32,
     reference: Reference,
 ) -> Option<Classifier>
-    ensures { row_of asking ≡ package_named (model m.now) (key (model m.now) from)
+    ensures { asking ≡ package_named (model m.now) (key (model m.now) from)
         → result ≡ found (model m.now) (with_package (model m.now) from (ref_of reference)) }
 {
     let name = replaced(m, asking, reference.package);
@@ -241,10 +228,10 @@ fn from_imports(m: &Tables, asking: usize, reference: Reference) -> Option<Class
     ensures { result ≡ found (model m.now) (from_imports (model m.now) asking (ref_of reference)) }
 {
     for row in 0..m.i.len() / I_NUMBERS {
-        if field(m.i, I_NUMBERS, row, 0) as usize != asking {
+        if field_at(m.i, I_NUMBERS, row, 0) as usize != asking {
             continue;
         }
-        let name = field(m.i, I_NUMBERS, row, 1);
+        let name = field_at(m.i, I_NUMBERS, row, 1);
         let hit = resolve_in_package(m, false, name, reference);
         if hit.is_some() {
             return hit;
@@ -256,7 +243,7 @@ fn from_imports(m: &Tables, asking: usize, reference: Reference) -> Option<Class
 // The rename that a type name stands for: "classifier rename, then (no implementation name) group rename".
 #[tactic(auto, using(crate::proofs::Steps::no_rename))]
 fn rename_for(m: &Tables, asking: usize, reference: Reference) -> Option<usize>
-    ensures { row_of result ≡ first_of (renames_for (model m.now) asking (ref_of reference)) }
+    ensures { result ≡ first_of (renames_for (model m.now) asking (ref_of reference)) }
 {
     if let Some(rename) = find_rename(m, asking, Renamed::Classifier, reference.type_name) {
         return Some(rename);
@@ -271,8 +258,8 @@ fn rename_for(m: &Tables, asking: usize, reference: Reference) -> Option<usize>
 // "A matching rename ends the search, found or not". `asking` is the row of the package named `from`.
 #[tactic(auto, using(crate::proofs::Steps::unpackaged_steps))]
 fn without_package(m: &Tables, asking: usize, from: u32, reference: Reference) -> Option<Classifier>
-    ensures { some asking ≡ package_named (model m.now) (key (model m.now) from)
-        → result ≡ found (model m.now) (without_package (model m.now) from (ref_of reference) (some asking)) }
+    ensures { Some asking ≡ package_named (model m.now) (key (model m.now) from)
+        → result ≡ found (model m.now) (without_package (model m.now) from (ref_of reference) (Some asking)) }
 {
     let own = in_package(m, true, asking, reference);
     if own.is_some() {
@@ -282,8 +269,8 @@ fn without_package(m: &Tables, asking: usize, from: u32, reference: Reference) -
         return from_imports(m, asking, reference);
     };
     let target = Reference {
-        package: field(m.r, R_NUMBERS, rename, 3),
-        type_name: field(m.r, R_NUMBERS, rename, 4),
+        package: field_at(m.r, R_NUMBERS, rename, 3),
+        type_name: field_at(m.r, R_NUMBERS, rename, 4),
         implementation: reference.implementation,
     };
     with_package(m, Some(asking), from, target)

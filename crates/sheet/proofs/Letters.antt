@@ -1,7 +1,6 @@
 -- Letters, their places in the order, and tables with an entry for each. Assumes nothing.
 use mathlib.Core.Bool.{Bool, true, false, cond}
 use mathlib.Core.List.{List, [], ◌∷◌, map}
-use mathlib.Core.Option.{Option, none, some}
 use mathlib.Core.Path.{◌≡◌, refl, sym, ap, ◌∙◌}
 use Prim.Native.Nat.{ℕ, zero, suc, ◌+◌, ◌≤◌, ◌<◌}
 use native.Mathlib.Decide.{dec_le}
@@ -14,8 +13,8 @@ use Rattle.as5506.specs.Columns.{order, rank, letter_byte, columns, letter_count
 use Rattle.as5506.specs.Lists.{span, put_if, keep, first_of}
 use Rattle.as5506.specs.Sheet.{letter_of}
 use Rattle.as5506.specs.Tables.{Letter, letter_n, width}
-use Rattle.as5506.proofs.Letters.{each-letter, row-cells as width-cells}
-use Rattle.std.specs.Prelude.{Option as Found, Some, None, MatchOption}
+use Rattle.as5506.proofs.Letters.{each-letter, row-cells as width-cells, letter-byte as begins-with, byte-letter as begun-by, byte-some}
+use Rattle.std.specs.Prelude.{Option, Some, None, MatchOption}
 use Rattle.std.proofs.lemmas.Option.{none-some, same_Some}
 use Rattle.sheet.proofs.Lines.{index_found, index_none}
 use Rattle.sheet.specs.Steps.{letter_at, place_of, rank_of, index_of}
@@ -74,9 +73,6 @@ width-bytes =
     each-letter (λ l. (rank l ≡ 0 → ⊥) → width l ≤ line_bytes (columns l))
     (λ z. absurd (z refl)) (λ z. omega arith) (λ z. omega arith) (λ z. omega arith) (λ z. omega arith) (λ z. omega arith) (λ z. omega arith) (λ z. omega arith) (λ z. omega arith) (λ z. omega arith) (λ z. omega arith) (λ z. omega arith)
 
-pub bytes-few : (l : Letter) → line_bytes (columns l) < 100
-bytes-few = each-letter (λ l. line_bytes (columns l) < 100) (omega arith) (omega arith) (omega arith) (omega arith) (omega arith) (omega arith) (omega arith) (omega arith) (omega arith) (omega arith) (omega arith) (omega arith)
-
 -- of every letter but N the row has the numbers of its fields
 pub cell-count : (k : ℕ) → 0 < k → k < letter_count → row_cells (columns (letter_at k)) ≡ get_or widths k 0
 cell-count k p h = sym (width-at k h ∙ width-cells (letter_at k) (λ z. omega (arith, z, rank-at k h)))
@@ -102,36 +98,23 @@ letter-rank [] = refl
 letter-rank (b ∷ s) = sym (first_by b order 0 refl refl ∙ omega arith)
 
 -- the code's letter: the place of the first byte among the letters
-pub letter_found : (s : List ℕ) (b : ℕ) (r : Found ℕ) → b ≡ get_or s 0 0
+pub letter_found : (s : List ℕ) (b : ℕ) (r : Option ℕ) → b ≡ get_or s 0 0
     → MatchOption r ((k : ℕ) → k < 12 → get_or letters k 0 ≡ b → ⊥) (λ i. (i < 12) × (get_or letters i 0 ≡ b) × ((k : ℕ) → k < i → get_or letters k 0 ≡ b → ⊥))
     → r ≡ place_of (letter_of s)
 letter_found s b None e z = go (letter_of s) (sym (letter-rank s) ∙ ap (λ (b : ℕ). index_of b letters) (sym e) ∙ index_none letters b z)
   where
     go : (o : Option Letter) → rank_of o ≡ 12 → None ≡ place_of o
-    go none h = refl
-    go (some l) h = absurd (omega (arith, h, rank_below l))
+    go None h = refl
+    go (Some l) h = absurd (omega (arith, h, rank_below l))
 letter_found s b (Some k) e z = go (letter_of s) (sym (letter-rank s) ∙ ap (λ (b : ℕ). index_of b letters) (sym e) ∙ sym (index_found letters b k z.0 z.1 z.2))
   where
     go : (o : Option Letter) → rank_of o ≡ k → Some k ≡ place_of o
-    go none q = absurd (omega (arith, z.0, q))
-    go (some l) q = ap Some (sym q)
-
-passes : (p : Letter → Bool) (ls : List Letter) (l : Letter) → first_of (keep p ls) ≡ some l → p l ≡ true
-passes p [] l e = absurd (let z : ◌≡◌ {A = ℕ} 0 1 = cc in omega arith)
-passes p (x ∷ ls) l e = go (p x) refl (passes p ls l) e
-  where
-    go : (t : Bool) → p x ≡ t → (first_of (keep p ls) ≡ some l → p l ≡ true) → first_of (put_if t x (keep p ls)) ≡ some l → p l ≡ true
-    go true q h e = let z : x ≡ l = cc in ap p (sym z) ∙ q
-    go false q h e = h e
+    go None q = absurd (omega (arith, z.0, q))
+    go (Some l) q = ap Some (sym q)
 
 -- a line of a known letter begins with that letter's byte
-pub letter-byte : (s : List ℕ) (l : Letter) → letter_of s ≡ some l → eqb (get_or s 0 0) (letter_byte l) ≡ true
-unfolding letter_of
-letter-byte [] l e = absurd (let z : ◌≡◌ {A = ℕ} 0 1 = cc in omega arith)
-letter-byte (b ∷ s) l e = eq-eqb b (letter_byte l) (sym (eqb-true (letter_byte l) b (passes (λ l. eqb (letter_byte l) b) order l e)))
-
-byte-some : (l : Letter) → 0 < letter_byte l
-byte-some = each-letter (λ l. 0 < letter_byte l) (omega arith) (omega arith) (omega arith) (omega arith) (omega arith) (omega arith) (omega arith) (omega arith) (omega arith) (omega arith) (omega arith) (omega arith)
+pub letter-byte : (s : List ℕ) (l : Letter) → letter_of s ≡ Some l → eqb (get_or s 0 0) (letter_byte l) ≡ true
+letter-byte s l e = eq-eqb (get_or s 0 0) (letter_byte l) (begins-with s l e)
 
 -- a letter stands within the sheet
 pub byte-within : (s : List ℕ) (i : ℕ) (l : Letter) → get_or s i 0 ≡ letter_byte l → i < length s
@@ -141,34 +124,26 @@ byte-within s i l e =
       | no n ↦ omega arith
     ]
 
-no_zero : (l : Letter) → eqb 0 (letter_byte l) ≡ true → ⊥
-no_zero l e = let h : 0 ≡ letter_byte l = eqb-true 0 (letter_byte l) e in omega (arith, byte-some l)
-
-known : (l : Letter) (s : List ℕ) → letter_of (letter_byte l ∷ s) ≡ some l
-unfolding letter_of
-known l s = each-letter (λ l. letter_of (letter_byte l ∷ s) ≡ some l) refl refl refl refl refl refl refl refl refl refl refl refl l
-
 -- and a line that begins with it is of that letter
-pub byte-letter : (s : List ℕ) (l : Letter) → eqb (get_or s 0 0) (letter_byte l) ≡ true → letter_of s ≡ some l
-byte-letter [] l e = absurd (no_zero l e)
-byte-letter (b ∷ s) l e = ap (λ (c : ℕ). letter_of (c ∷ s)) (eqb-true b (letter_byte l) e) ∙ known l s
+pub byte-letter : (s : List ℕ) (l : Letter) → eqb (get_or s 0 0) (letter_byte l) ≡ true → letter_of s ≡ Some l
+byte-letter s l e = begun-by s l (eqb-true (get_or s 0 0) (letter_byte l) e)
 
 pub same_byte : (a b : Letter) → letter_byte a ≡ letter_byte b → a ≡ b
-same_byte a b e = cc (known a [], byte-letter (letter_byte a ∷ []) b (eq-eqb (letter_byte a) (letter_byte b) e))
+same_byte a b e = same_Some a b (sym (begun-by (letter_byte a ∷ []) a refl) ∙ begun-by (letter_byte a ∷ []) b e)
 
-known_at : (o : Option Letter) (k : ℕ) → Some k ≡ place_of o → o ≡ some (letter_at k)
-known_at none k e = absurd (none-some k (sym e))
-known_at (some l) k e = ap some (sym (letter_at_lem l) ∙ ap letter_at (sym (same_Some k (rank l) e)))
+known_at : (o : Option Letter) (k : ℕ) → Some k ≡ place_of o → o ≡ Some (letter_at k)
+known_at None k e = absurd (none-some k (sym e))
+known_at (Some l) k e = ap Some (sym (letter_at_lem l) ∙ ap letter_at (sym (same_Some k (rank l) e)))
 
 -- the letter of a line whose place the code has
-pub letter-is : (s : List ℕ) (k : ℕ) → Some k ≡ place_of (letter_of s) → letter_of s ≡ some (letter_at k)
+pub letter-is : (s : List ℕ) (k : ℕ) → Some k ≡ place_of (letter_of s) → letter_of s ≡ Some (letter_at k)
 letter-is s = known_at (letter_of s)
 
 pub letter-below : (s : List ℕ) (k : ℕ) → Some k ≡ place_of (letter_of s) → k < letter_count
 letter-below s k e = rw (same_Some k _ (e ∙ ap place_of (letter-is s k e))) (rank_below (letter_at k))
 
 -- a line of one letter is of no other
-pub other_byte : (s : List ℕ) (a b : Letter) → letter_of s ≡ some a → (rank b ≡ rank a → ⊥) → eqb (get_or s 0 0) (letter_byte b) ≡ false
+pub other_byte : (s : List ℕ) (a b : Letter) → letter_of s ≡ Some a → (rank b ≡ rank a → ⊥) → eqb (get_or s 0 0) (letter_byte b) ≡ false
 other_byte s a b e z = go (eqb (get_or s 0 0) (letter_byte b)) refl
   where
     go : (t : Bool) → eqb (get_or s 0 0) (letter_byte b) ≡ t → t ≡ false

@@ -1,7 +1,6 @@
 -- Lines in order: the first one, and where the lines of a letter end. Assumes nothing.
-use mathlib.Core.Bool.{true, ◌&&◌}
+use mathlib.Core.Bool.{true, ◌&&◌, false≢true}
 use mathlib.Core.List.{List, [], ◌∷◌, map}
-use mathlib.Core.Option.{Option, none, some}
 use mathlib.Core.Path.{◌≡◌, refl, sym, ap, subst, ◌∙◌}
 use Prim.Native.Nat.{ℕ, ◌+◌, ◌≤◌, ◌<◌}
 use native.Mathlib.Decide.{dec_le, ℕ_discrete}
@@ -10,10 +9,11 @@ use borrow.Author.Tests.{eqb-true, leb-true, le-leb}
 use lib.Dec.{leb}
 use lib.ListN.{length, take, drop, get_or}
 use lib.Seq.{get_or-take, length-take-le}
+use Rattle.std.specs.Prelude.{Option, Some, None}
+use Rattle.std.proofs.lemmas.Option.{none-some}
 use Rattle.as5506.specs.Columns.{rank, letter_byte, columns, line_bytes}
 use Rattle.as5506.specs.Sheet.{Line, ended, unended, text_of, letter_of, lines_of, lines_with, keeps_rules, line_feed}
 use Rattle.as5506.specs.Tables.{Letter}
-use Rattle.as5506.proofs.Laws.{false-true}
 use Rattle.sheet.proofs.Check.{both, row-size}
 use Rattle.sheet.proofs.Letters.{same-letter, letter-byte, byte-within, same_byte, other_byte}
 use Rattle.sheet.proofs.Lines.{index-within, stop_of, no_lines, last_line, next-line}
@@ -24,7 +24,7 @@ use Rattle.sheet.specs.Steps.{rank_of, keeps_letter, in_order}
 
 record First (k : ℕ) (s : List ℕ) (ls : List Line) : Type 0 where
   letter : Letter
-  known : letter_of s ≡ some letter
+  known : letter_of s ≡ Some letter
   rules : keeps_rules letter s ≡ true
   order : k ≤ rank letter
   rest : in_order (rank letter) ls ≡ true
@@ -33,19 +33,19 @@ first_of : (k : ℕ) (s : List ℕ) (ls : List Line) → in_order k (ended s ∷
 first_of k s ls e = go (letter_of s) refl e
   where
     go : (o : Option Letter) → letter_of s ≡ o → (keeps_letter s o && leb k (rank_of o) && in_order (rank_of o) ls) ≡ true → First k s ls
-    go none q e = absurd (false-true e)
-    go (some l) q e =
+    go None q e = absurd (false≢true e)
+    go (Some l) q e =
         let a = both (keeps_rules l s && leb k (rank l)) (in_order (rank l) ls) e in
         let b = both (keeps_rules l s) (leb k (rank l)) a.0 in
         record { letter = l; known = q; rules = b.0; order = leb-true k (rank l) b.1; rest = a.1 }
 
-pub first-in : (k : ℕ) (s : List ℕ) (ls : List Line) (l : Letter) → letter_of s ≡ some l → keeps_rules l s ≡ true → k ≤ rank l → in_order (rank l) ls ≡ true → in_order k (ended s ∷ ls) ≡ true
+pub first-in : (k : ℕ) (s : List ℕ) (ls : List Line) (l : Letter) → letter_of s ≡ Some l → keeps_rules l s ≡ true → k ≤ rank l → in_order (rank l) ls ≡ true → in_order k (ended s ∷ ls) ≡ true
 first-in k s ls l known rules order rest = rw (known, rules, le-leb k (rank l) order) rest
 
 -- among lines of later letters there is none of the letter l
 pub none-later : (l : Letter) (k : ℕ) (ls : List Line) → rank l < k → in_order k ls ≡ true → lines_with l (map text_of ls) ≡ []
 none-later l k [] h e = none-with l
-none-later l k (unended s ∷ ls) h e = absurd (false-true e)
+none-later l k (unended s ∷ ls) h e = absurd (false≢true e)
 none-later l k (ended s ∷ ls) h e =
     let f = first_of k s ls e in
     other-line l s (map text_of ls) (other_byte s f.letter l f.known (λ z. omega (arith, h, f.order)))
@@ -58,7 +58,7 @@ pub record Turn (l : Letter) (s : List ℕ) (stop : ℕ) : Type 0 where
   pub inside : stop < length s
   pub lines_are : lines_of s ≡ ended (take stop s) ∷ lines_of (drop (stop + 1) s)
   pub size : length (take stop s) ≡ stop
-  pub known : letter_of (take stop s) ≡ some l
+  pub known : letter_of (take stop s) ≡ Some l
   pub rules : keeps_rules l (take stop s) ≡ true
   pub begins : get_or s 0 0 ≡ letter_byte l
   pub rest : in_order (rank l) (lines_of (drop (stop + 1) s)) ≡ true
@@ -69,13 +69,13 @@ record Met (k : ℕ) (s : List ℕ) : Type 0 where
   order : k ≤ rank letter
   turn : Turn letter s (stop_of s)
 
-known_some : (t : List ℕ) (l : Letter) → letter_of t ≡ some l → 0 < length t
+known_some : (t : List ℕ) (l : Letter) → letter_of t ≡ Some l → 0 < length t
 unfolding letter_of
-known_some [] l e = absurd (let z : ◌≡◌ {A = ℕ} 0 1 = cc in omega arith)
+known_some [] l e = absurd (none-some l e)
 known_some (b ∷ t) l e = omega arith
 
 -- its first byte is the letter's
-begins-with : (l : Letter) (s : List ℕ) (n : ℕ) → length (take n s) ≡ n → letter_of (take n s) ≡ some l → get_or s 0 0 ≡ letter_byte l
+begins-with : (l : Letter) (s : List ℕ) (n : ℕ) → length (take n s) ≡ n → letter_of (take n s) ≡ Some l → get_or s 0 0 ≡ letter_byte l
 begins-with l s n size known =
     let some_bytes = known_some (take n s) l known in
     sym (get_or-take n s 0 0 (omega arith)) ∙ eqb-true (get_or (take n s) 0 0) (letter_byte l) (letter-byte (take n s) l known)
@@ -83,7 +83,7 @@ begins-with l s n size known =
 met : (k : ℕ) (s : List ℕ) → 0 < length s → in_order k (lines_of s) ≡ true → Met k s
 met k s h w =
     elim (dec_le (length s) (stop_of s)) [
-      | yes n ↦ absurd (false-true (rw (last_line s h (omega (arith, index-within s line_feed))) at w))
+      | yes n ↦ absurd (false≢true (rw (last_line s h (omega (arith, index-within s line_feed))) at w))
       | no n ↦ going (omega arith)
     ]
   where

@@ -1,7 +1,7 @@
 -- Writing the tables: what a line writes, and the pass over the lines of a letter. Assumes nothing.
 use mathlib.Core.Bool.{true}
 use mathlib.Core.List.{List, [], ◌∷◌, ◌++◌, map}
-use mathlib.Core.Path.{◌≡◌, refl, sym, ap, ◌∙◌}
+use mathlib.Core.Path.{◌≡◌, refl, sym, ap, subst, ◌∙◌}
 use Prim.Native.Nat.{ℕ, ◌+◌, ◌-◌, ◌≤◌, ◌<◌}
 use native.Mathlib.Omega.{arith}
 use borrow.Author.Rules.{rules}
@@ -9,20 +9,22 @@ use lib.ListN.{length, take, drop, get_or, length-append, length-drop}
 use lib.Seq.{sets, length-sets, take_all, drop-drop}
 use Rattle.std.specs.Prelude.{Option as Found, Some, None, MatchOption}
 use Rattle.std.specs.Option.{IsSome}
-use Rattle.as5506.specs.Columns.{rank, letter_byte, Column, columns, line_bytes, row_cells}
+use Rattle.as5506.specs.Columns.{rank, letter_byte, Column, columns, letter_count, line_bytes, row_cells}
 use Rattle.as5506.specs.Fields.{field_numbers}
 use Rattle.as5506.specs.Lists.{each}
 use Rattle.as5506.specs.Sheet.{text_of, lines_of, lines_with, line_name, line_row, placed, rows_read}
 use Rattle.as5506.specs.Tables.{Letter, letter_n}
 use Rattle.as5506.proofs.Fields.{numbers-length}
-use Rattle.fields.specs.Fields.{plain}
+use Rattle.fields.specs.Fields.{columns_of}
 use Rattle.fields.proofs.Laws.{plain-bytes, plain-numbers, plain-cells}
 use Rattle.lent.proofs.Sets.{sets-append}
 use Rattle.sheet.proofs.Check.{name-size}
-use Rattle.sheet.proofs.Letters.{letter-byte, other_byte}
-use Rattle.sheet.proofs.Order.{Turn, none-later, passed}
+use Rattle.sheet.proofs.Letters.{letters, widths, rank-at, code-byte, cell-count, letter-byte, other_byte}
+use Rattle.sheet.proofs.Lines.{stop_of}
+use Rattle.sheet.proofs.Order.{Turn, turn, row-turn, none-later, passed}
 use Rattle.sheet.proofs.Rows.{own_line, other-line}
-use Rattle.sheet.specs.Steps.{texts, in_order, Left}
+use Rattle.sheet.specs.Steps.{letter_at, FormOf, texts, in_order, Left}
+use Rattle.sheet.specs.declared.Form.{Form}
 
 -- ---- the pass of the letter l over the sheet s₀ stands before its rest s: of later letters all lines are left
 
@@ -104,11 +106,11 @@ module _ (s : List ℕ) (stop : ℕ) (turn : Turn letter_n s stop) where
   unfolding placed
   placed_split used = ap (λ (ls : List (List ℕ)). placed used (map line_name ls)) (lines_left letter_n s stop turn) ∙ rw name-bytes
 
-pub none-placed : (used : ℕ) → placed used [] ≡ []
+none-placed : (used : ℕ) → placed used [] ≡ []
 unfolding placed
 none-placed used = refl
 
-pub none-rows : (l : Letter) (s : List ℕ) → lines_with l (texts s) ≡ [] → rows_read l (texts s) ≡ []
+none-rows : (l : Letter) (s : List ℕ) → lines_with l (texts s) ≡ [] → rows_read l (texts s) ≡ []
 unfolding rows_read
 none-rows l s e = ap (each (line_row l)) e
 
@@ -135,81 +137,134 @@ module _ (t₀ t W all : List ℕ) (at : ℕ) (w : Writing t₀ t W all at) wher
   pub writing-end : W ≡ [] → t ≡ sets t₀ 0 all
   writing-end e = sym (ap (sets t at) e) ∙ w.left
 
--- ---- a turn of the code: `line` and `behind` are what it takes the rest s of the sheet to
+-- ---- a turn of the code, and its end: b is the byte that the rest s begins with, `line` and `behind` are what the code takes s to
 
-module _ (s line behind : List ℕ) (stop : ℕ) (turn : Turn letter_n s stop) (l : line ≡ take stop s) (b : behind ≡ drop (stop + 1) s) where
-  abbrev name : List ℕ
-  name = take (length line - 2) (drop 2 line)
+module _ (s₀ s : List ℕ) (going : Going letter_n s₀ s) (b : ℕ) (first : b ≡ get_or s 0 0) where
+  module _ (same : b ≡ 78) where
+    name-line : Turn letter_n s (stop_of s)
+    name-line = turn letter_n s (sym first ∙ same) going.order
 
-  pub line-long : (3 ≤ length line) × (length line ≤ 65)
-  line-long = let e = ap length l ∙ turn.size in let n = name-room s stop turn in (omega arith, omega arith)
+    pub name_found : {A : Type 0} (r : Found A) (P : A → Type 0) → MatchOption r (stop_of s ≡ length s) P → IsSome r
+    name_found None P h = absurd (omega (arith, h, name-line.inside))
+    name_found (Some x) P h = search rules
 
-  name-is : name ≡ drop 2 (take stop s)
-  name-is = take_all (length line - 2) (drop 2 line) (omega (arith, length-drop 2 line)) ∙ ap (drop 2) l
+    module _ (line behind : List ℕ) (front : line ≡ take (stop_of s) s) (rear : behind ≡ drop (stop_of s + 1) s) where
+      abbrev name : List ℕ
+      name = take (length line - 2) (drop 2 line)
 
-  name-size-is : length name ≡ stop - 2
-  name-size-is = ap length name-is ∙ name-bytes s stop turn
+      pub line_some : 2 ≤ length line
+      line_some = omega (arith, ap length front, name-line.size, (name-room s (stop_of s) name-line).0)
 
-  pub names-going : (s₀ : List ℕ) → Going letter_n s₀ s → Going letter_n s₀ behind
-  names-going s₀ g = rw b (going-turn letter_n s stop turn s₀ g)
+      name-is : name ≡ drop 2 (take (stop_of s) s)
+      name-is = take_all (length line - 2) (drop 2 line) (omega (arith, length-drop 2 line)) ∙ ap (drop 2) front
 
-  pub names-turn : (t₀ t t' all : List ℕ) (at : ℕ) → Writing t₀ t (each line_name (lines_with letter_n (texts s))) all at → t' ≡ sets t at name
-      → Writing t₀ t' (each line_name (lines_with letter_n (texts behind))) all (at + length name)
-  names-turn t₀ t t' all at w wrote =
-      rw b
-      (writing-turn t₀ t _ all at w (drop 2 (take stop s)) (each line_name (lines_with letter_n (texts (drop (stop + 1) s)))) (names_split s stop turn) t' (at + length name) (wrote ∙ ap (sets t at) name-is)
-      (ap (λ (n : List ℕ). at + length n) name-is))
+      name-size-is : length name ≡ stop_of s - 2
+      name-size-is = ap length name-is ∙ name-bytes s (stop_of s) name-line
 
-  pub placed-turn : (t₀ t t' all : List ℕ) (at used : ℕ) → Writing t₀ t (placed used (map line_name (lines_with letter_n (texts s)))) all at → t' ≡ sets t at (used ∷ length name ∷ [])
-      → Writing t₀ t' (placed (used + length name) (map line_name (lines_with letter_n (texts behind)))) all (at + 2)
-  placed-turn t₀ t t' all at used w wrote =
-      rw (b, name-size-is)
-      (writing-turn t₀ t _ all at w (used ∷ (stop - 2) ∷ []) (placed (used + (stop - 2)) (map line_name (lines_with letter_n (texts (drop (stop + 1) s))))) (placed_split s stop turn used) t' (at + 2)
-      (wrote ∙ ap (λ (n : ℕ). sets t at (used ∷ n ∷ [])) name-size-is) refl)
+      pub names_going : Going letter_n s₀ behind
+      names_going = rw rear (going-turn letter_n s (stop_of s) name-line s₀ going)
 
-  pub names-fewer : (used n : ℕ) → used + length s ≤ n → used + length name + length behind ≤ n
-  names-fewer used n h = omega (arith, h, name-size-is, ap length b, rest-shorter letter_n s stop turn, (name-room s stop turn).0)
+      pub names_turn : (t₀ t t' all : List ℕ) (at : ℕ) → Writing t₀ t (each line_name (lines_with letter_n (texts s))) all at → t' ≡ sets t at name
+          → Writing t₀ t' (each line_name (lines_with letter_n (texts behind))) all (at + length name)
+      names_turn t₀ t t' all at w wrote =
+          rw rear
+          (writing-turn t₀ t _ all at w (drop 2 (take (stop_of s) s)) (each line_name (lines_with letter_n (texts (drop (stop_of s + 1) s)))) (names_split s (stop_of s) name-line) t' (at + length name)
+          (wrote ∙ ap (sets t at) name-is) (ap (λ (n : List ℕ). at + length n) name-is))
 
-module _ (l : Letter) (z : rank l ≡ 0 → ⊥) (s : List ℕ) (cs : List Column) (n : ℕ) (same : cs ≡ map plain (columns l)) (size : n ≡ line_bytes (columns l))
-    (turn : Turn l s (1 + line_bytes (columns l))) (line back : List ℕ) (f : line ≡ take (1 + n) s) (b : back ≡ drop (1 + n) s) where
-  abbrev fields : List ℕ
-  fields = take (length line - 1) (drop 1 line)
+      pub placed_turn : (t₀ t t' all : List ℕ) (at used : ℕ) → Writing t₀ t (placed used (map line_name (lines_with letter_n (texts s)))) all at → t' ≡ sets t at (used ∷ length name ∷ [])
+          → Writing t₀ t' (placed (used + length name) (map line_name (lines_with letter_n (texts behind)))) all (at + 2)
+      placed_turn t₀ t t' all at used w wrote =
+          rw (rear, name-size-is)
+          (writing-turn t₀ t _ all at w (used ∷ (stop_of s - 2) ∷ []) (placed (used + (stop_of s - 2)) (map line_name (lines_with letter_n (texts (drop (stop_of s + 1) s)))))
+          (placed_split s (stop_of s) name-line used) t' (at + 2) (wrote ∙ ap (λ (n : ℕ). sets t at (used ∷ n ∷ [])) name-size-is) refl)
 
-  abbrev behind : List ℕ
-  behind = take (length back - 1) (drop 1 back)
+      pub names_fewer : (used n : ℕ) → used + length s ≤ n → used + length name + length behind ≤ n
+      names_fewer used n h = omega (arith, h, name-size-is, ap length rear, rest-shorter letter_n s (stop_of s) name-line, (name-room s (stop_of s) name-line).0)
 
-  fields_are : fields ≡ drop 1 (take (1 + line_bytes (columns l)) s)
-  fields_are = take_all (length line - 1) (drop 1 line) (omega (arith, length-drop 1 line)) ∙ ap (drop 1) f ∙ ap (λ (n : ℕ). drop 1 (take (1 + n) s)) size
+  module _ (other : b ≡ 78 → ⊥) where
+    none-here : lines_with letter_n (texts s) ≡ []
+    none-here = none-left letter_n s₀ s going (λ e. other (first ∙ e))
 
-  pub fields_size : length fields ≡ line_bytes cs
-  fields_size = omega (arith, ap length fields_are, length-drop 1 (take (1 + line_bytes (columns l)) s), turn.size, ap line_bytes same, plain-bytes (columns l))
+    pub names_passed : Left s₀ 1 s
+    names_passed = going-end letter_n s₀ s going (λ e. other (first ∙ e))
 
-  pub back_some : 1 ≤ length back
-  back_some = omega (arith, ap length b, length-drop (1 + n) s, size, turn.inside)
+    pub names_done : (t₀ t all : List ℕ) (at : ℕ) → Writing t₀ t (each line_name (lines_with letter_n (texts s))) all at → t ≡ sets t₀ 0 all
+    names_done t₀ t all at w = writing-end t₀ t _ all at w (rw none-here)
 
-  behind-is : behind ≡ drop (1 + line_bytes (columns l) + 1) s
-  behind-is = take_all (length back - 1) (drop 1 back) (omega (arith, length-drop 1 back)) ∙ ap (drop 1) b ∙ drop-drop 1 (1 + n) s ∙ ap (λ (n : ℕ). drop (1 + n + 1) s) size
+    pub placed_done : (t₀ t all : List ℕ) (at used : ℕ) → Writing t₀ t (placed used (map line_name (lines_with letter_n (texts s)))) all at → t ≡ sets t₀ 0 all
+    placed_done t₀ t all at used w = writing-end t₀ t _ all at w (rw none-here (none-placed used))
 
-  row-is : field_numbers cs fields ≡ line_row l (take (1 + line_bytes (columns l)) s)
-  row-is = ap (λ (cs : List Column). field_numbers cs fields) same ∙ plain-numbers (columns l) fields ∙ ap (field_numbers (columns l)) fields_are
+pub ruleset put_name_laws = (name_found, line_some, names_going, names_turn, placed_turn, names_fewer, names_passed, names_done, placed_done)
 
-  row-cells_are : length (line_row l (take (1 + line_bytes (columns l)) s)) ≡ row_cells cs
-  row-cells_are = numbers-length (columns l) _ ∙ sym (ap row_cells same ∙ plain-cells (columns l))
+-- the same of a letter at k other than N, whose lines have the form f: b is the byte that the rest s begins with
+module _ (s₀ s : List ℕ) (k : ℕ) (h : k < letter_count) (going : Going (letter_at k) s₀ s) (b : ℕ) (first : b ≡ get_or s 0 0) where
+  module _ (p : 0 < k) (f : Form) (form : FormOf k f) (same : b ≡ get_or letters k 0) where
+    abbrev l : Letter
+    l = letter_at k
 
-  pub rows_room : (t₀ t all : List ℕ) (at : ℕ) → Writing t₀ t (rows_read l (texts s)) all at → at + row_cells cs ≤ length t
-  rows_room t₀ t all at w =
-      omega (arith, row-cells_are, writing-room t₀ t _ all at w (line_row l (take (1 + line_bytes (columns l)) s)) _ (rows_split l s (1 + line_bytes (columns l)) turn))
+    abbrev cs : List Column
+    cs = columns_of f.marks.now
 
-  pub rows_going : (s₀ : List ℕ) → Going l s₀ s → Going l s₀ behind
-  rows_going s₀ g = rw behind-is (going-turn l s (1 + line_bytes (columns l)) turn s₀ g)
+    row-line : Turn l s (1 + line_bytes (columns l))
+    row-line = row-turn l s (λ z. omega (arith, z, rank-at k h, p)) (sym first ∙ same ∙ code-byte k h) going.order
 
-  pub rows_turn : (t₀ t t' all : List ℕ) (at at' : ℕ) → Writing t₀ t (rows_read l (texts s)) all at → t' ≡ sets t at (field_numbers cs fields) → at' ≡ at + row_cells cs
-      → Writing t₀ t' (rows_read l (texts behind)) all at'
-  rows_turn t₀ t t' all at at' w wrote next =
-      rw behind-is
-      (writing-turn t₀ t _ all at w (line_row l (take (1 + line_bytes (columns l)) s)) _ (rows_split l s (1 + line_bytes (columns l)) turn) t' at' (wrote ∙ ap (sets t at) row-is)
-      (next ∙ ap (λ (n : ℕ). at + n) (sym row-cells_are)))
+    pub row_inside : 1 + f.columns ≤ length s
+    row_inside = omega (arith, row-line.inside, form.bytes)
 
-pub is-found : {A : Type 0} (r : Found A) (m n : ℕ) (P : A → Type 0) → MatchOption r (m ≡ n) P → m < n → IsSome r
-is-found None m n P h k = absurd (omega (arith, h, k))
-is-found (Some x) m n P h k = search rules
+    module _ (line back : List ℕ) (front : line ≡ take (1 + f.columns) s) (rear : back ≡ drop (1 + f.columns) s) where
+      abbrev fields : List ℕ
+      fields = take (length line - 1) (drop 1 line)
+
+      abbrev behind : List ℕ
+      behind = take (length back - 1) (drop 1 back)
+
+      fields_are : fields ≡ drop 1 (take (1 + line_bytes (columns l)) s)
+      fields_are = take_all (length line - 1) (drop 1 line) (omega (arith, length-drop 1 line)) ∙ ap (drop 1) front ∙ ap (λ (n : ℕ). drop 1 (take (1 + n) s)) form.bytes
+
+      pub fields_size : length fields ≡ line_bytes cs
+      fields_size = omega (arith, ap length fields_are, length-drop 1 (take (1 + line_bytes (columns l)) s), row-line.size, ap line_bytes form.marks, plain-bytes (columns l))
+
+      -- behind it stands its LF
+      pub back_some : 1 ≤ length back
+      back_some = omega (arith, ap length rear, length-drop (1 + f.columns) s, form.bytes, row-line.inside)
+
+      behind-is : behind ≡ drop (1 + line_bytes (columns l) + 1) s
+      behind-is = take_all (length back - 1) (drop 1 back) (omega (arith, length-drop 1 back)) ∙ ap (drop 1) rear ∙ drop-drop 1 (1 + f.columns) s ∙ ap (λ (n : ℕ). drop (1 + n + 1) s) form.bytes
+
+      row-is : field_numbers cs fields ≡ line_row l (take (1 + line_bytes (columns l)) s)
+      row-is = ap (λ (cs : List Column). field_numbers cs fields) form.marks ∙ plain-numbers (columns l) fields ∙ ap (field_numbers (columns l)) fields_are
+
+      row-width : length (line_row l (take (1 + line_bytes (columns l)) s)) ≡ get_or widths k 0
+      row-width = numbers-length (columns l) _ ∙ cell-count k p h
+
+      module _ (t₀ t all : List ℕ) (at : ℕ) (w : Writing t₀ t (rows_read l (texts s)) all at) where
+        pub rows_room : at + row_cells cs ≤ length t
+        rows_room =
+            omega (
+              arith,
+              numbers-length (columns l) (drop 1 (take (1 + line_bytes (columns l)) s)),
+              ap row_cells form.marks,
+              plain-cells (columns l),
+              writing-room t₀ t _ all at w (line_row l (take (1 + line_bytes (columns l)) s)) _ (rows_split l s (1 + line_bytes (columns l)) row-line),
+            )
+
+        pub rows_turn : (t' : List ℕ) → t' ≡ sets t at (field_numbers cs fields) → Writing t₀ t' (rows_read l (texts behind)) all (at + get_or widths k 0)
+        rows_turn t' wrote =
+            rw behind-is
+            (writing-turn t₀ t _ all at w (line_row l (take (1 + line_bytes (columns l)) s)) _ (rows_split l s (1 + line_bytes (columns l)) row-line) t' _ (wrote ∙ ap (sets t at) row-is)
+            (ap (λ (n : ℕ). at + n) (sym row-width)))
+
+      pub rows_going : Going l s₀ behind
+      rows_going = rw behind-is (going-turn l s (1 + line_bytes (columns l)) row-line s₀ going)
+
+  module _ (other : b ≡ get_or letters k 0 → ⊥) where
+    not-here : get_or s 0 0 ≡ letter_byte (letter_at k) → ⊥
+    not-here e = other (first ∙ e ∙ sym (code-byte k h))
+
+    pub rows_passed : Left s₀ (k + 1) s
+    rows_passed = subst (λ (j : ℕ). Left s₀ (j + 1) s) (rank-at k h) (going-end (letter_at k) s₀ s going not-here)
+
+    pub rows_done : (t₀ t all : List ℕ) (at : ℕ) → Writing t₀ t (rows_read (letter_at k) (texts s)) all at → t ≡ sets t₀ 0 all
+    rows_done t₀ t all at w = writing-end t₀ t _ all at w (none-rows (letter_at k) s (none-left (letter_at k) s₀ s going not-here))
+
+pub ruleset put_row_laws = (row_inside, fields_size, back_some, rows_room, rows_turn, rows_going, rows_passed, rows_done)

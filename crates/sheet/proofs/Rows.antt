@@ -2,12 +2,12 @@
 use mathlib.Core.Bool.{Bool, true, false}
 use mathlib.Core.List.{List, [], ◌∷◌, map, reverse, reverse_aux}
 use mathlib.Core.Path.{◌≡◌, refl, sym, ap, ap₂, ◌∙◌}
-use Prim.Native.Nat.{ℕ, ◌+◌, ◌*◌, ◌/◌}
+use Prim.Native.Nat.{ℕ, ◌+◌, ◌*◌, ◌/◌, ◌<◌}
 use native.Mathlib.Nat.{add-mul, zero-mul, zero-add, add-zero, mul-div_cancel}
 use native.Mathlib.Omega.{arith}
 use lib.Dec.{eqb}
 use lib.ListN.{length, get_or, drop, length-append}
-use Rattle.as5506.specs.Columns.{letter_byte, columns, row_cells}
+use Rattle.as5506.specs.Columns.{rank, letter_byte, columns, row_cells}
 use Rattle.as5506.specs.Lists.{put_if, total, each}
 use Rattle.as5506.specs.Sheet.{lines_with, line_name, line_row, name_bytes, placed, rows_read, tables_read}
 use Rattle.as5506.specs.Tables.{Letter, letter_n, letter_c, letter_f, letter_x, letter_p, letter_i, letter_t, letter_q, letter_u, letter_e, letter_r, letter_m, table, width, count}
@@ -67,6 +67,13 @@ whole-rows ls =
     (rows-length letter_e (lines_with letter_e ls))
     (rows-length letter_r (lines_with letter_r ls))
     (rows-length letter_m (lines_with letter_m ls))
+
+-- of a letter other than N it has the rows of its lines
+pub rows-table : (ls : List (List ℕ)) (l : Letter) → 0 < rank l → table (tables_read ls) l ≡ rows_read l ls
+unfolding tables_read
+rows-table ls =
+    each-letter (λ l. 0 < rank l → table (tables_read ls) l ≡ rows_read l ls)
+    (λ h. absurd (omega arith)) (λ h. refl) (λ h. refl) (λ h. refl) (λ h. refl) (λ h. refl) (λ h. refl) (λ h. refl) (λ h. refl) (λ h. refl) (λ h. refl) (λ h. refl)
 
 -- THE ROWS OF A TABLE THAT IS READ ARE THE LINES OF ITS LETTER
 pub rows-counted : (ls : List (List ℕ)) (l : Letter) → count (tables_read ls) l ≡ length (lines_with l ls)

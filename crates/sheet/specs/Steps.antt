@@ -1,7 +1,6 @@
 -- What the private functions say: belongs to the code, and defines nothing of the sheet anew. Assumes nothing.
-use Rattle.std.specs.Prelude.{Bool, true, false, not, cond, ◌&&◌, ◌||◌, ◌≡◌, ℕ, suc, ◌*◌, ◌≤◌, ◌<◌, eqb, leb, ltb, length, get_or, Result, MatchResult, Option as Found, Some, None}
+use Rattle.std.specs.Prelude.{Bool, true, false, not, cond, ◌&&◌, ◌||◌, ◌≡◌, ℕ, suc, ◌*◌, ◌≤◌, ◌<◌, eqb, leb, ltb, length, get_or, Result, MatchResult, Option, Some, None, option_map}
 use mathlib.Core.List.{List, [], ◌∷◌, map, reverse_aux}
-use Rattle.std.proofs.Math.Option.{Option, none, some}
 use Rattle.as5506.specs.Answers.{refusal, line, told, unless_faults}
 use Rattle.as5506.specs.Columns.{order, rank, columns, line_bytes, letter_count}
 use Rattle.as5506.specs.Lists.{first_of, zeros}
@@ -10,6 +9,8 @@ use Rattle.as5506.specs.Tables.{Tables, Letter, letter_n, table, width}
 use Rattle.as5506.specs.declared.Refusal.{Refusal as Told}
 use Rattle.sheet.specs.Read.{sheet_read}
 use Rattle.sheet.specs.declared.Counts.{Counts}
+use Rattle.sheet.specs.declared.Fault.{Fault}
+use Rattle.sheet.specs.declared.Fault.TheVariants.{TooLong, NoLetter, OutOfOrder, BadLine, NoRoom}
 use Rattle.fields.specs.Fields.{columns_of, plain}
 use Rattle.sheet.specs.declared.Form.{Form}
 use Rattle.sheet.specs.declared.Sizes.{Sizes}
@@ -25,14 +26,13 @@ pub record FormOf (k : ℕ) (f : Form) : Type 0 where
   pub marks : columns_of f.marks.now ≡ map plain (columns (letter_at k))
   pub bytes : f.columns ≡ line_bytes (columns (letter_at k))
 
-abbrev pub place_of : Option Letter → Found ℕ
-place_of none = None
-place_of (some l) = Some (rank l)
+abbrev pub place_of : Option Letter → Option ℕ
+place_of o = option_map rank o
 
 -- letter_count where there is none
 abbrev pub rank_of : Option Letter → ℕ
-rank_of none = letter_count
-rank_of (some l) = rank l
+rank_of None = letter_count
+rank_of (Some l) = rank l
 
 -- the index of the first b, the length where there is none
 unfoldable pub index_of : ℕ → List ℕ → ℕ
@@ -60,11 +60,20 @@ pub record Counted (seen : Seen) (before : List (List ℕ)) : Type 0 where
 
 -- ---- faults
 
+-- the number of what is wrong: 1 "over 16,384 bytes", 2 "letter unknown, or last line without LF", 3 "letter earlier in order than the line before's",
+-- 4 "length, field or name against the sheet's rules", 5 "that letter's lent table, or at `N` the byte table, has no place"
+abbrev pub fault_number : Fault → ℕ
+fault_number TooLong = 1
+fault_number NoLetter = 2
+fault_number OutOfOrder = 3
+fault_number BadLine = 4
+fault_number NoRoom = 5
+
 -- line k without a fault is seen, of another the first fault is told
 abbrev pub Checked : Lent → List (List ℕ) → ℕ → List ℕ → Seen → Result (Unit {0}) Told → Type 0
 Checked lent before k s seen z =
     MatchResult z (λ u. (line_faults lent before (ended s) ≡ []) × Counted seen (s ∷ before))
-    (λ r. first_of (map (λ n. told (refusal n (line k))) (line_faults lent before (ended s))) ≡ some r)
+    (λ r. first_of (map (λ n. told (refusal n (line k))) (line_faults lent before (ended s))) ≡ Some r)
 
 -- the answer from line k on, behind the lines `before` (the nearest first, so all lines in order are `reverse_aux before ..`)
 unfoldable pub answer_from : Lent → List (List ℕ) → ℕ → List Line → Result Counts Told
@@ -74,8 +83,8 @@ answer_from lent before k ls = sheet_read (unless_faults (faults_from lent befor
 
 -- a line that has its LF, a known letter, and keeps that letter's rules
 abbrev pub keeps_letter : List ℕ → Option Letter → Bool
-keeps_letter s none = false
-keeps_letter s (some l) = keeps_rules l s
+keeps_letter s None = false
+keeps_letter s (Some l) = keeps_rules l s
 
 abbrev pub well_formed : Line → Bool
 well_formed (unended s) = false

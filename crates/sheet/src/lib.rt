@@ -14,7 +14,7 @@ ghost use Rattle.as5506.specs.Tables.{letter_n};
 ghost use Rattle.as5506.specs.Answers.{refusal, line, told};
 ghost use Rattle.as5506.specs.Sheet.{letter_of, line_feed, lines_of, lines_with, line_name, keeps_rules, placed, rows_read, tables_read, read_sheet};
 ghost use Rattle.sheet.specs.Read.{counts_of, sheet_read, ReadInto};
-ghost use Rattle.sheet.specs.Steps.{letter_at, FormOf, place_of, index_of, lent_by, has_room, Small, Counted, Checked, answer_from, texts, in_order, Left, Cleared};
+ghost use Rattle.sheet.specs.Steps.{fault_number, letter_at, FormOf, place_of, index_of, lent_by, has_room, Small, Counted, Checked, answer_from, texts, in_order, Left, Cleared};
 ghost use Rattle.lent.specs.Lent.{tables_to_fill, tables_left};
 
 use as5506::{LETTER_COUNT, LETTERS, Refusal, WIDTHS};
@@ -45,7 +45,8 @@ struct Form {
     columns: usize,
 }
 
-// By letter. (The line of N is a name.)
+// By letter. (The line of N is a name.) A letter goes by its place in the order, by which forms, widths and counts stand in tables: an enum would be turned
+// to that place wherever it is used, and made from it where a line's letter is found.
 const FORMS: [Form; LETTER_COUNT] = [
     Form {
         marks: &[],
@@ -170,6 +171,7 @@ fn name_ok(line: &[u8]) -> bool
 }
 
 // Whether a line of any other letter k does: its length, then its fields.
+#[tactic(auto, using(crate::proofs::Check::row_laws))]
 fn row_ok(line: &[u8], k: usize) -> bool
     requires { (0 < k) × (k < letter_count) }
     ensures { result ≡ keeps_rules (letter_at k) line.now }
@@ -192,14 +194,31 @@ fn line_ok(line: &[u8], k: usize) -> bool
 
 // ---- the check
 
-// A refusal at a line; 0 where it has no place.
-fn at_line(number: u32, place: u32) -> Refusal
-    ensures { result ≡ told (refusal number (line place)) }
-{
-    Refusal {
-        number,
-        place,
-        letter: b'-',
+// What is wrong where a sheet is refused.
+#[derive(Clone, Copy)]
+enum Fault {
+    // The sheet has too many bytes.
+    TooLong = 1,
+    // A line's letter is not known, or the last line has no LF.
+    NoLetter = 2,
+    // A line's letter stands before the letter of the line above.
+    OutOfOrder = 3,
+    // A line's length, a field or a name is against the rules.
+    BadLine = 4,
+    // A line has no place in the table of its letter, or its name none in the byte table.
+    NoRoom = 5,
+}
+
+impl Fault {
+    // The refusal that tells it of a line, by its number; 0 where it has no place.
+    fn at_line(self, place: u32) -> Refusal
+        ensures { result ≡ told (refusal (fault_number self) (line place)) }
+    {
+        Refusal {
+            number: self as u32,
+            place,
+            letter: b'-',
+        }
     }
 }
 
@@ -224,27 +243,29 @@ fn has_room(k: usize, used: &Sizes, room: &Sizes) -> bool
 }
 
 // One more line is seen, or refused. "The table is the order of checks."
+#[tactic(auto, using(crate::proofs::Check::told_2))]
 fn check_line(line: &[u8], place: u32, seen: &mut Seen, room: &Sizes) -> Result<(), Refusal>
     requires { (length line.now ≤ 16384) × Small seen.old.used }
     ensures { (before : List (List ℕ)) → Counted seen.old before → Checked (lent_by room.now) before place line.now seen.new result }
 {
     let Some(k) = letter(line) else {
-        return Err(at_line(2, place));
+        return Err(Fault::NoLetter.at_line(place));
     };
     if k < seen.last {
-        return Err(at_line(3, place));
+        return Err(Fault::OutOfOrder.at_line(place));
     }
     if !line_ok(line, k) {
-        return Err(at_line(4, place));
+        return Err(Fault::BadLine.at_line(place));
     }
     count_line(line, k, seen);
     if !has_room(k, &seen.used, room) {
-        return Err(at_line(5, place));
+        return Err(Fault::NoRoom.at_line(place));
     }
     Ok(())
 }
 
 // The rows of each letter, from the numbers in its table.
+#[tactic(auto, using(crate::proofs::Check::counted_rows))]
 fn counted(seen: &Seen) -> Counts
     ensures { (before : List (List ℕ)) → Counted seen.now before → result ≡ counts_of (tables_read (reverse before)) }
 {
@@ -266,7 +287,8 @@ fn counted(seen: &Seen) -> Counts
     }
 }
 
-// "Lines go singly through 2 to 5, up to the first bad one."
+// "Lines go singly through 2 to 5, up to the first bad one." No `for` over `split_inclusive(..).enumerate()` (tried): what a turn gives is told of
+// the closure alone, so laws would stand beside those of `first_line`, which `put_names` needs too; and an own iterator of lines is longer than the loop.
 fn check_lines(sheet: &[u8], room: &Sizes) -> Result<Counts, Refusal>
     requires { length sheet.now ≤ 16384 }
     ensures { result ≡ answer_from (lent_by room.now) [] 1 (lines_of sheet.now) }
@@ -282,7 +304,7 @@ fn check_lines(sheet: &[u8], room: &Sizes) -> Result<Counts, Refusal>
     let mut place: u32 = 1;
     while !rest.is_empty() {
         let Some((line, behind)) = first_line(rest) else {
-            return Err(at_line(2, place));
+            return Err(Fault::NoLetter.at_line(place));
         };
         check_line(line, place, &mut seen, room)?;
         rest = behind;
@@ -297,14 +319,15 @@ fn check_sheet(sheet: &[u8], room: &Sizes) -> Result<Counts, Refusal>
     ensures { result ≡ sheet_read (read_sheet (lent_by room.now) sheet.now) }
 {
     if as5506::SHEET_BYTES < sheet.len() {
-        return Err(at_line(1, 0));
+        return Err(Fault::TooLong.at_line(0));
     }
     check_lines(sheet, room)
 }
 
 // ---- the tables
 
-// Writes the names one after the other to the byte table, and each one's offset and length there to the table of N, and gives what follows the N lines.
+// Writes the names one after the other to the byte table, and each one's offset and length there to the table of N, and gives what follows the N lines. No
+// `for`: the loop ends where they do. (`used` is itself written; of `at` holds what `put_rows` says of chunks.)
 fn put_names<'a>(sheet: &'a [u8], bytes: &mut [u8], n: &mut [u32]) -> &'a [u8]
     requires { (length sheet.now ≤ 16384) × (in_order 0 (lines_of sheet.now) ≡ true)
         × (length (each line_name (lines_with letter_n (texts sheet.now))) ≤ length bytes.old)
@@ -329,7 +352,8 @@ fn put_names<'a>(sheet: &'a [u8], bytes: &mut [u8], n: &mut [u32]) -> &'a [u8]
 }
 
 // Writes the rows of a letter k other than N, whose lines come first in a sheet, to its table, and gives what follows those lines.
-// Every line of the letter takes the same columns, so its LF need not be looked for.
+// Every line of the letter takes the same columns, so its LF need not be looked for. No `for row in table.chunks_exact_mut(WIDTHS[k])`, which would end
+// where the letter's lines do (tried: the returns do not close): no clause of std says what a slice holds when its chunks have been written.
 fn put_rows<'a>(sheet: &'a [u8], k: usize, table: &mut [u32]) -> &'a [u8]
     requires { (0 < k) × (k < letter_count) × (in_order k (lines_of sheet.now) ≡ true) × (length (rows_read (letter_at k) (texts sheet.now)) ≤ length table.old) }
     ensures { Left sheet.now (k + 1) result.now
@@ -349,7 +373,7 @@ fn put_rows<'a>(sheet: &'a [u8], k: usize, table: &mut [u32]) -> &'a [u8]
 
 // ---- the whole
 
-// Makes every lent place 0.
+// Makes every lent place 0. (Slice by slice, as `read_sheet` takes them.)
 fn clear_all(
     bytes: &mut [u8],
     n: &mut [u32],

@@ -4,26 +4,16 @@
 #![tactic(auto)]
 
 use as5506::Refusal;
+use cases::{print, print_number};
 use sheet::Counts;
 use std::io::Read;
 
-// The most cases of a file.
-const CASES: usize = 100000;
 // How long the slices are of which parts are lent.
 const BYTES: usize = 16400;
 
 const NAMES: usize = 8200;
 
 const OTHERS: usize = 2700;
-
-fn print(rt: &impl Print, text: &[u8]) {
-    let _ = rt.write_all(text);
-}
-
-// A space and the number.
-fn print_number(rt: &impl Print, n: u64) {
-    let _ = print!(rt; " {n}");
-}
 
 fn print_answer(rt: &impl Print, answer: Result<Counts, Refusal>) {
     match answer {
@@ -100,11 +90,8 @@ fn replay(rt: &impl Print, sheet: &[u8], ends: [u32; 13]) {
     print(rt, b"\n");
 }
 
-// Reads a case and replays it; false where there is none.
-fn next_case(rt: &impl Print, input: &mut impl Read) -> bool {
-    if !cases::begins(input) {
-        return false;
-    }
+// Reads a case and replays it.
+fn replay_case(rt: &impl Print, input: &mut impl Read) {
     let length = cases::number(input);
     let mut ends = [0u32; 13];
     cases::numbers(input, &mut ends);
@@ -112,14 +99,8 @@ fn next_case(rt: &impl Print, input: &mut impl Read) -> bool {
     let mut sheet = [0u8; BYTES];
     let end = cases::bytes(input, &mut sheet, length);
     replay(rt, lent::part(&sheet, 0, end), ends);
-    true
 }
 
 fn main(rt: HostRuntime) {
-    let mut input = rt.stdin();
-    for _ in 0..CASES {
-        if !next_case(&rt, &mut input) {
-            return;
-        }
-    }
+    cases::replay_all(&mut rt.stdin(), |input| replay_case(&rt, input));
 }

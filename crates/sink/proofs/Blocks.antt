@@ -4,7 +4,7 @@ use mathlib.Core.Path.{◌≡◌, sym, ap, ◌∙◌}
 use mathlib.Core.List.{List, ◌∷◌, ◌++◌}
 use Prim.Native.Nat.{ℕ, ◌+◌, ◌-◌, ◌*◌, ◌≤◌}
 use native.Mathlib.Omega.{arith}
-use lib.ListN.{length, take, drop, length-append, length-drop}
+use lib.ListN.{length, drop, length-append, length-drop}
 use lib.Seq.{sets, length-take-le}
 use Rattle.as5506.specs.Lists.{each, zeros, padded}
 use Rattle.as5506.specs.Groups.{depth_limit}
@@ -57,9 +57,8 @@ pub kept-length : (kept : List ℕ) (i : ℕ) → i * feature_numbers + feature_
 kept-length kept i h = length-take-le feature_numbers (drop (i * feature_numbers) kept) (omega (arith, h, length-drop (i * feature_numbers) kept))
 
 -- a match's row as the code writes it
-pub row_is :
-    (conn src dst : ℕ) (f : Meant) (kept : List ℕ) (i : ℕ) → length f.prefix ≤ depth_limit → i * feature_numbers + feature_numbers ≤ length kept
-    → (block r₁ r₂ : List ℕ) (n : ℕ) → block ≡ feature_block f → r₁ ≡ sets (conn ∷ src ∷ dst ∷ zeros (row_numbers - 3)) 3 block → n ≡ feature_numbers
-    → r₂ ≡ sets r₁ 17 (take n (drop (i * feature_numbers) kept)) → r₂ ≡ match_block conn src dst (feature_block f) (kept_block kept i)
-row_is conn src dst f kept i few h block r₁ r₂ n e g k z =
+pub row_is : (conn src dst : ℕ) (f : Meant) (kept : List ℕ) (i : ℕ) → length f.prefix ≤ depth_limit → i * feature_numbers + feature_numbers ≤ length kept
+    → (s d r₁ r₂ : List ℕ) → s ≡ feature_block f → d ≡ kept_block kept i → r₁ ≡ sets (conn ∷ src ∷ dst ∷ zeros (row_numbers - 3)) 3 s → r₂ ≡ sets r₁ 17 d
+    → r₂ ≡ match_block conn src dst (feature_block f) (kept_block kept i)
+row_is conn src dst f kept i few h s d r₁ r₂ e k g z =
     z ∙ rw (k, g, e) (match_is conn src dst (feature_block f) (kept_block kept i) (block-length f few) (kept-length kept i h))

@@ -1,7 +1,7 @@
 -- Laws of `Dull`: a feature that is dull changes nothing, and stays dull; one that leaves the use of both outputs as it was is dull from then
 -- on. A walk keeps to them in group_walk's proofs/Calm.antt. Assumes nothing.
 use mathlib.Core.Bool.{Bool, true, false}
-use mathlib.Core.Path.{◌≡◌, refl, sym, ap, ap₂, ◌∙◌, subst}
+use mathlib.Core.Path.{◌≡◌, refl, sym, ap, ap₂, ◌∙◌}
 use mathlib.Core.List.{List, [], ◌∷◌}
 use Prim.Native.Nat.{ℕ, zero, suc, ◌+◌, ◌≤◌, ◌<◌}
 use native.Mathlib.Omega.{arith}
@@ -9,40 +9,54 @@ use native.Mathlib.Decide.{dec_le}
 use borrow.Author.Tests.{eqb-true, eqb-false}
 use lib.Dec.{eqb}
 use Rattle.std.specs.Prelude.{Option, Some, None}
+use Rattle.std.proofs.lemmas.Option.{same_Some}
 use lib.ListN.{length, get_or, set, length-set}
 use lib.Seq.{set_out, set-set, set_comm, get_or-set_same}
 use Rattle.as5506.specs.Tables.{Tables}
 use Rattle.as5506.specs.Groups.{Feature}
 use Rattle.as5506.specs.Rows.{diag}
 use Rattle.as5506.specs.Layout.{feature_block, diag_block}
-use Rattle.lent.specs.Append.{Filled, filled, append}
-use Rattle.lent.proofs.Append.{append-fits, append-full, append-length, append-bound, Extended, extended-nothing, extended_then, append-extends}
+use Rattle.lent.specs.Append.{Filled, filled, append, Within}
+use Rattle.lent.proofs.Pieces.{append-past, append-cases, append-length, append-within, Extended, extended-nothing, extended_then, append-extends}
 use Rattle.sink.specs.declared.Matching.{Matching}
 use Rattle.sink.specs.declared.Purpose.{Purpose}
 use Rattle.sink.specs.declared.Purpose.TheVariants.{Count, All, First, Match}
 use Rattle.sink.specs.Take.{Held, partner_of, code_of, match_block, first_by, match_by, taken}
-use Rattle.sink.specs.Dull.{Full, Bounded, DullMatch, Dull}
+use Rattle.sink.specs.Dull.{Full, DullMatch, Dull}
 
 -- ---- one output
 
-abbrev Within : Filled → Type 0
-Within o = o.used ≤ length o.holds + 1
+-- a full output takes nothing
+append-same : (p : List ℕ) (o : Filled ℕ) → Full o → append p o ≡ o
+append-same p o f = let at : Option ℕ → Filled ℕ = filled o.holds in ap (λ (u : Option ℕ). append p (at u)) f ∙ append-past p o.holds ∙ ap at (sym f)
 
--- the outputs are only added to, no output's use is past its length by more than one, and the memory and the outputs are as long as before
+full-stays : (p : List ℕ) (o : Filled ℕ) → Full o → Full (append p o)
+full-stays p o f = ap (λ (x : Filled ℕ). x.used) (append-same p o f) ∙ f
+
+-- what takes nothing is full
+append-quiet : (p : List ℕ) (o : Filled ℕ) → 0 < length p → (append p o).used ≡ o.used → Full (append p o)
+append-quiet p o l = append-cases (λ (x : Filled ℕ). x.used ≡ o.used → Full x) p o (λ f e. refl)
+    (λ k f h e. absurd (omega (arith, l, same_Some _ _ (e ∙ f)))) (λ k f h e. refl)
+
+-- ---- both outputs
+
+-- the outputs are only added to, what is used of them stays within, and the memory and the outputs are as long as before
 pub record Grown (h t : Held) : Type 0 where
   pub added-out : Extended h.out t.out
   pub added-notes : Extended h.notes t.notes
-  pub bounded : Bounded t
+  pub within-out : Within h.out → Within t.out
+  pub within-notes : Within h.notes → Within t.notes
   pub length-memo : length t.memo ≡ length h.memo
   pub length-out : length t.out.holds ≡ length h.out.holds
   pub length-notes : length t.notes.holds ≡ length h.notes.holds
 
-pub grown-nothing : (h : Held) → Bounded h → Grown h h
-grown-nothing h w =
+pub grown-nothing : (h : Held) → Grown h h
+grown-nothing h =
     record {
       added-out = extended-nothing h.out;
       added-notes = extended-nothing h.notes;
-      bounded = w;
+      within-out = λ w. w;
+      within-notes = λ w. w;
       length-memo = refl;
       length-out = refl;
       length-notes = refl;
@@ -53,38 +67,22 @@ grown-then h t u a b =
     record {
       added-out = extended_then h.out t.out u.out a.added-out b.added-out;
       added-notes = extended_then h.notes t.notes u.notes a.added-notes b.added-notes;
-      bounded = b.bounded;
+      within-out = λ w. b.within-out (a.within-out w);
+      within-notes = λ w. b.within-notes (a.within-notes w);
       length-memo = b.length-memo ∙ a.length-memo;
       length-out = b.length-out ∙ a.length-out;
       length-notes = b.length-notes ∙ a.length-notes;
     }
 
--- a full output takes nothing
-append-same : (p : List ℕ) (o : Filled) → Full o → append p o ≡ o
-append-same p o f = append-full p o (omega (arith, f)) ∙ ap (filled o.holds) (sym f)
-
-full-stays : (p : List ℕ) (o : Filled) → Full o → Full (append p o)
-full-stays p o f = subst Full (sym (append-same p o f)) f
-
--- what takes nothing is full
-append-quiet : (p : List ℕ) (o : Filled) → 0 < length p → (append p o).used ≡ o.used → Full (append p o)
-append-quiet p o l e = go (dec_le (o.used + length p) (length o.holds))
-  where
-    go : Dec (o.used + length p ≤ length o.holds) → Full (append p o)
-    go (yes h) = absurd (omega (arith, h, l, e, ap (λ (x : Filled). x.used) (append-fits p o h)))
-    go (no h) = rw (append-full p o (omega (arith, h))) refl
-
-append-within : (p : List ℕ) (o : Filled) → Within (append p o)
-append-within p o = rw (append-length p o) (append-bound p o)
-
 -- a piece is added to one output, and the memory is l then
-module _ (h : Held) (w : Bounded h) (p l : List ℕ) (e : length l ≡ length h.memo) where
+module _ (h : Held) (p : List ℕ) (l : List ℕ) (e : length l ≡ length h.memo) where
   out-grows : Grown h (record { memo = l; out = append p h.out; notes = h.notes })
   out-grows =
       record {
-        added-out = append-extends p h.out w.0;
+        added-out = append-extends p h.out;
         added-notes = extended-nothing h.notes;
-        bounded = (append-within p h.out, w.1);
+        within-out = λ w. append-within p h.out;
+        within-notes = λ w. w;
         length-memo = e;
         length-out = append-length p h.out;
         length-notes = refl;
@@ -94,8 +92,9 @@ module _ (h : Held) (w : Bounded h) (p l : List ℕ) (e : length l ≡ length h.
   notes-grows =
       record {
         added-out = extended-nothing h.out;
-        added-notes = append-extends p h.notes w.1;
-        bounded = (w.0, append-within p h.notes);
+        added-notes = append-extends p h.notes;
+        within-out = λ w. w;
+        within-notes = λ w. append-within p h.notes;
         length-memo = e;
         length-out = refl;
         length-notes = append-length p h.notes;
@@ -151,7 +150,7 @@ unfolding first_by
 first-same false f h e d = refl
 first-same true f h e d =
     let w : Full h.out × (length h.memo ≤ f.name) = d (eqb-true _ _ e) in
-    ap₂ (λ (m : List ℕ) (o : Filled). record { memo = m; out = o; notes = h.notes }) (set_out h.memo f.name 1 w.1) (append-same (feature_block f) h.out w.0)
+    ap₂ (λ (m : List ℕ) (o : Filled ℕ). record { memo = m; out = o; notes = h.notes }) (set_out h.memo f.name 1 w.1) (append-same (feature_block f) h.out w.0)
 
 first-stays : (b : Bool) (g : Feature) (k : ℕ) (h : Held) → Came k h → Came k (first_by b g h)
 unfolding first_by
@@ -166,10 +165,10 @@ first-quiet false f h e q = λ z. absurd (eqb-false _ _ e z)
 first-quiet true f h e q = λ z.
     (append-quiet (feature_block f) h.out (feature-long f) q, rw (length-set h.memo f.name 1) (no_place h.memo f.name z))
 
-first-grows : (b : Bool) (f : Feature) (h : Held) → Bounded h → Grown h (first_by b f h)
+first-grows : (b : Bool) (f : Feature) (h : Held) → Grown h (first_by b f h)
 unfolding first_by
-first-grows false f h w = grown-nothing h w
-first-grows true f h w = out-grows h w (feature_block f) (set h.memo f.name 1) (length-set h.memo f.name 1)
+first-grows false f h = grown-nothing h
+first-grows true f h = out-grows h (feature_block f) (set h.memo f.name 1) (length-set h.memo f.name 1)
 
 -- ---- matching
 
@@ -180,8 +179,8 @@ Known a k h = (set h.memo k (code_of a) ≡ h.memo) × DullMatch a h
 module _ (m : Matching) where
   match-same : (a : Option ℕ) (f : Feature) (h : Held) → Known a f.name h → match_by a m f h ≡ h
   unfolding match_by
-  match-same None f h d = ap₂ (λ (l : List ℕ) (o : Filled). record { memo = l; out = h.out; notes = o }) d.0 (append-same _ h.notes d.1)
-  match-same (Some i) f h d = ap₂ (λ (l : List ℕ) (o : Filled). record { memo = l; out = o; notes = h.notes }) d.0 (append-same _ h.out d.1)
+  match-same None f h d = ap₂ (λ (l : List ℕ) (o : Filled ℕ). record { memo = l; out = h.out; notes = o }) d.0 (append-same _ h.notes d.1)
+  match-same (Some i) f h d = ap₂ (λ (l : List ℕ) (o : Filled ℕ). record { memo = l; out = o; notes = h.notes }) d.0 (append-same _ h.out d.1)
 
   match-stays : (a b : Option ℕ) (g : Feature) (k : ℕ) (h : Held) → set (set h.memo g.name (code_of b)) k (code_of a) ≡ set h.memo g.name (code_of b)
       → DullMatch a h → Known a k (match_by b m g h)
@@ -197,10 +196,10 @@ module _ (m : Matching) where
   match-quiet None f h p q = (set-set h.memo f.name 1 1, append-quiet _ h.notes (diag-long m.connection f.name) q)
   match-quiet (Some i) f h p q = (set-set h.memo f.name (i + 2) (i + 2), append-quiet _ h.out (match-long m.connection m.source m.destination _ _) p)
 
-  match_grows : (a : Option ℕ) (f : Feature) (h : Held) → Bounded h → Grown h (match_by a m f h)
+  match_grows : (a : Option ℕ) (f : Feature) (h : Held) → Grown h (match_by a m f h)
   unfolding match_by
-  match_grows None f h w = notes-grows h w _ (set h.memo f.name 1) (length-set h.memo f.name 1)
-  match_grows (Some i) f h w = out-grows h w _ (set h.memo f.name (i + 2)) (length-set h.memo f.name (i + 2))
+  match_grows None f h = notes-grows h _ (set h.memo f.name 1) (length-set h.memo f.name 1)
+  match_grows (Some i) f h = out-grows h _ (set h.memo f.name (i + 2)) (length-set h.memo f.name (i + 2))
 
 -- ---- every purpose
 
@@ -209,7 +208,7 @@ module _ (m : Tables) where
   pub same : (p : Purpose) (f : Feature) (h : Held) → Dull p m f.name h → taken p m f h ≡ h
   unfolding Dull taken
   same Count f h d = refl
-  same All f h d = ap (λ (o : Filled). record { memo = h.memo; out = o; notes = h.notes }) (append-same (feature_block f) h.out d)
+  same All f h d = ap (λ (o : Filled ℕ). record { memo = h.memo; out = o; notes = h.notes }) (append-same (feature_block f) h.out d)
   same First f h d = first-same (eqb (get_or h.memo f.name 0) 0) f h refl d
   same (Match k) f h d = match-same k (partner_of m k.kept.now f.name) f h d
 
@@ -233,9 +232,9 @@ module _ (m : Tables) where
   quiet (Match k) f h x y = match-quiet k (partner_of m k.kept.now f.name) f h x y
 
   -- an output is only added to, and nothing changes its length
-  pub grows : (p : Purpose) (f : Feature) (h : Held) → Bounded h → Grown h (taken p m f h)
+  pub grows : (p : Purpose) (f : Feature) (h : Held) → Grown h (taken p m f h)
   unfolding taken
-  grows Count f h w = grown-nothing h w
-  grows All f h w = out-grows h w (feature_block f) h.memo refl
-  grows First f h w = first-grows (eqb (get_or h.memo f.name 0) 0) f h w
-  grows (Match k) f h w = match_grows k (partner_of m k.kept.now f.name) f h w
+  grows Count f h = grown-nothing h
+  grows All f h = out-grows h (feature_block f) h.memo refl
+  grows First f h = first-grows (eqb (get_or h.memo f.name 0) 0) f h
+  grows (Match k) f h = match_grows k (partner_of m k.kept.now f.name) f h

@@ -1,7 +1,7 @@
 -- WHAT CALLERS GET: what a walk relies on holds after each feature too. Assumes nothing.
 use mathlib.Core.Path.{◌≡◌, refl, subst}
 use mathlib.Core.List.{List}
-use Prim.Native.Nat.{ℕ, zero, suc}
+use Prim.Native.Nat.{ℕ, zero, suc, ◌≤◌}
 use Rattle.std.specs.Prelude.{Option, Some, None}
 use lib.ListN.{set}
 use Rattle.as5506.specs.Tables.{Tables}
@@ -10,7 +10,7 @@ use Rattle.lent.proofs.Sets.{placed}
 use Rattle.sink.specs.declared.Matching.{Matching}
 use Rattle.sink.specs.declared.Purpose.{Purpose}
 use Rattle.sink.specs.declared.Purpose.TheVariants.{Count, All, First, Match}
-use Rattle.sink.specs.Take.{Held, partner_of, code_of, match_by, taken, Remembered, Memory, Ready}
+use Rattle.sink.specs.Take.{Held, kept_count, partner_of, code_of, match_by, taken, Remembered, Memory, Ready}
 
 coded : (v : ℕ) (a : Option ℕ) → v ≡ code_of a → Remembered v a
 coded zero a e = tt
@@ -34,3 +34,12 @@ taken-ready Count m f h r = tt
 taken-ready All m f h r = tt
 taken-ready First m f h r = tt
 taken-ready (Match k) m f h r = (r.0, rw (match-memo (partner_of m k.kept.now f.name) k f h) (remembers m k.kept.now h.memo f.name r.1))
+
+-- what a match asks for
+pub match_few : (p : Purpose) (q : Matching) (m : Tables) (memo : List ℕ) → p ≡ Match q → Ready p m memo → kept_count q.kept.now ≤ 4096
+unfolding Ready
+match_few p q m memo e r = (subst (λ (x : Purpose). Ready x m memo) e r).0
+
+pub match_memory : (p : Purpose) (q : Matching) (m : Tables) (memo : List ℕ) → p ≡ Match q → Ready p m memo → Memory m q.kept.now memo
+unfolding Ready
+match_memory p q m memo e r = (subst (λ (x : Purpose). Ready x m memo) e r).1

@@ -2,18 +2,19 @@
 use mathlib.Core.Bool.{Bool, true, false}
 use mathlib.Core.Path.{◌≡◌, refl, sym, ap, ◌∙◌}
 use mathlib.Core.List.{List, [], ◌∷◌}
-use Prim.Native.Nat.{ℕ, zero, suc, ◌+◌, ◌-◌, ◌≤◌, ◌<◌}
+use Prim.Native.Nat.{ℕ, zero, suc, ◌+◌, ◌-◌, ◌*◌, ◌≤◌, ◌<◌}
 use native.Mathlib.Nat.{sub-zero}
 use native.Mathlib.Omega.{arith}
-use Rattle.std.specs.Prelude.{Option, Some, None}
+use Rattle.std.specs.Prelude.{Option, Some, None, IfSome}
 use Rattle.std.proofs.lemmas.Option.{none-some, same_Some}
-use lib.ListN.{get_or, set}
+use lib.ListN.{length, get_or, set}
 use lib.Seq.{set-get_or}
 use Rattle.as5506.specs.Lists.{span, up_to, keep, same_bytes}
 use Rattle.as5506.specs.Tables.{Tables, name_of}
 use Rattle.as5506.specs.Names.{key, same_folded}
 use Rattle.as5506.proofs.Laws.{All, all_keep, up_to-below}
 use Rattle.as5506.proofs.Scans.{keep-hit, keep-miss, keep-done}
+use Rattle.as5506.specs.Layout.{feature_numbers}
 use Rattle.name.proofs.Compare.{keys-folded}
 use Rattle.sink.specs.Take.{kept_count, kept_name, first_place, partner_of, code_of, Remembered, answer_of, Memory}
 
@@ -32,16 +33,15 @@ module _ (m : Tables) (kept : List ℕ) (name : ℕ) where
   searching_start = record { within = omega arith; left = rw sub-zero }
 
   module _ (i : ℕ) (s : Searching i) where
-    -- r is the code's test of place i, whose name is v
-    module _ (r : Bool) (v : ℕ) (e : r ≡ same_folded (name_of m name) (name_of m v)) (p : v ≡ kept_name kept i) (h : i < kept_count kept) where
-      tested : test i ≡ r
-      tested = sym (e ∙ keys-folded m name v ∙ ap (λ (k : ℕ). same_bytes (key m name) (key m k)) p)
+    module _ (h : i < kept_count kept) where
+      tested : (r : Bool) → same_folded (name_of m name) (name_of m (kept_name kept i)) ≡ r → test i ≡ r
+      tested r e = sym (keys-folded m name (kept_name kept i)) ∙ e
 
-      pub searching_turn : r ≡ false → Searching (i + 1)
-      searching_turn q = record { within = omega arith; left = sym (ap first_place (keep-miss test i (kept_count kept) h (tested ∙ q))) ∙ s.left }
+      pub searching_turn : same_folded (name_of m name) (name_of m (kept_name kept i)) ≡ false → Searching (i + 1)
+      searching_turn e = record { within = omega arith; left = sym (ap first_place (keep-miss test i (kept_count kept) h (tested false e))) ∙ s.left }
 
-      pub searching_hit : r ≡ true → Some i ≡ partner_of m kept name
-      searching_hit q = sym (ap first_place (keep-hit test i (kept_count kept) h (tested ∙ q))) ∙ s.left
+      pub searching_hit : same_folded (name_of m name) (name_of m (kept_name kept i)) ≡ true → Some i ≡ partner_of m kept name
+      searching_hit e = sym (ap first_place (keep-hit test i (kept_count kept) h (tested true e))) ∙ s.left
 
     pub searching_end : kept_count kept ≤ i → None ≡ partner_of m kept name
     searching_end h = sym (ap first_place (keep-done test i (kept_count kept) h)) ∙ s.left
@@ -57,6 +57,15 @@ unfolding partner_of
 partner_below m kept name i e =
     let n : ℕ = kept_count kept in
     all-first n (keep (test m kept name) (up_to n)) (all_keep (λ j. j < n) (λ j. j < n) (test m kept name) (λ j t h. h) (up_to n) (up_to-below n)) i e
+
+-- what the calls of a match ask for
+pub partner_few : (m : Tables) (kept : List ℕ) (name : ℕ) (z : Option ℕ) → z ≡ partner_of m kept name → kept_count kept ≤ 4096 → IfSome z (λ i. i < 4096)
+partner_few m kept name None e h = tt
+partner_few m kept name (Some i) e h = omega (arith, partner_below m kept name i e, h)
+
+pub partner_whole : (m : Tables) (kept : List ℕ) (name : ℕ) (z : Option ℕ) (i : ℕ) → z ≡ partner_of m kept name → z ≡ Some i
+    → i * feature_numbers + feature_numbers ≤ length kept
+partner_whole m kept name z i e t = omega (arith, partner_below m kept name i (sym t ∙ e))
 
 -- ---- the memory
 

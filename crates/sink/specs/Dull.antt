@@ -1,5 +1,5 @@
 -- A feature that changes nothing any more: what a walk may pass over, knowing only how many visits it makes there. Assumes nothing.
-use Rattle.std.specs.Prelude.{◌≡◌, ℕ, ◌+◌, ◌≤◌, length, get_or, set, Option, Some, None}
+use Rattle.std.specs.Prelude.{◌≡◌, ℕ, ◌≤◌, length, get_or, set, Option, Some, None}
 use Rattle.as5506.specs.Tables.{Tables}
 use Rattle.lent.specs.Append.{Filled}
 use Rattle.sink.specs.declared.Purpose.{Purpose}
@@ -7,12 +7,8 @@ use Rattle.sink.specs.declared.Purpose.TheVariants.{Count, All, First, Match}
 use Rattle.sink.specs.Take.{Held, partner_of, code_of}
 
 -- nothing more finds room in an output
-abbrev pub Full : Filled → Type 0
-Full o = o.used ≡ length o.holds + 1
-
--- an output's use is within its length, or one more
-abbrev pub Bounded : Held → Type 0
-Bounded h = (h.out.used ≤ length h.out.holds + 1) × (h.notes.used ≤ length h.notes.holds + 1)
+abbrev pub Full : Filled ℕ → Type 0
+Full o = o.used ≡ None
 
 -- where a feature writes that has a partner, or has none
 abbrev pub DullMatch : Option ℕ → Held → Type 0

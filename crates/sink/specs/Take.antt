@@ -7,11 +7,16 @@ use Rattle.as5506.specs.Groups.{Feature as Meant}
 use Rattle.as5506.specs.Rows.{diag}
 use Rattle.as5506.specs.Layout.{row_numbers, feature_numbers, feature_block, diag_block}
 use Rattle.lent.specs.Append.{Filled, filled, append}
-use Rattle.sink.specs.declared.Feature.{Feature}
+use Rattle.sink.specs.declared.feature.Feature.{Feature}
 use Rattle.sink.specs.declared.Matching.{Matching}
 use Rattle.sink.specs.declared.Sink.{Sink}
+use Rattle.sink.specs.declared.Tally.{Tally}
 use Rattle.sink.specs.declared.Purpose.{Purpose}
 use Rattle.sink.specs.declared.Purpose.TheVariants.{Count, All, First, Match}
+
+-- nothing is used of the outputs yet
+abbrev pub nothing_used : Tally
+nothing_used = record { used = Some 0; noted = Some 0 }
 
 -- the definition's feature for the code's
 abbrev pub feature_of : Feature → Meant
@@ -20,8 +25,8 @@ feature_of f = record { name = f.name; kind = f.kind; direction = f.direction; p
 -- what a walk carries: a number for each name, the output of features or rows, and that of diagnostics
 pub record Held : Type 0 where
   pub memo : List ℕ
-  pub out : Filled
-  pub notes : Filled
+  pub out : Filled ℕ
+  pub notes : Filled ℕ
 
 abbrev pub held : Sink → Held
 held s = record { memo = s.memo.now; out = filled s.out.now s.tally.used; notes = filled s.notes.now s.tally.noted }

@@ -5,11 +5,14 @@
 ghost use Rattle.std.specs.Prelude.{◌≡◌, ◌+◌, ◌*◌, ◌≤◌, ◌<◌, cond, eqb, length, get_or, set, IfSome};
 ghost use Rattle.as5506.specs.Layout.{feature_numbers, feature_block};
 ghost use Rattle.lent.specs.Model.{model};
-ghost use Rattle.sink.specs.Take.{feature_of, held, SameBuffers, first_by, partner_of, kept_count, kept_block, match_block, code_of, answer_of, match_by, Memory, taken, Ready};
+ghost use Rattle.sink.specs.Take.{feature_of, held, SameBuffers, first_by, partner_of, kept_count, kept_block, match_block, code_of, answer_of, match_by, Memory, taken, Ready, nothing_used};
+
+mod feature;
 
 use as5506::{FEATURE_NUMBERS, ROW_NUMBERS};
+pub use feature::Feature;
 use lent::{Tables, get_or};
-use name::same_folded_names;
+use name::{name_of, same_folded};
 
 // How many visits of a walk may lie one inside the other.
 pub const LEVELS: usize = 11;
@@ -17,20 +20,10 @@ pub const LEVELS: usize = 11;
 // The names of the groups that one group lies in, outermost first.
 pub type Path = path::Path<LEVELS>;
 
-// A feature: its name, kind and direction, and the names of the groups that it is nested in.
-#[derive(Clone, Copy)]
-pub struct Feature<'a> {
-    pub name: u32,
-    pub kind: u32,
-    pub direction: u32,
-    pub prefix: &'a Path,
-}
-
 impl Feature<'_> {
     // Its block: name, kind, direction, length of the prefix, its names.
     #[tactic(auto, using(crate::proofs::Blocks::block_put))]
     fn block(&self) -> [u32; FEATURE_NUMBERS]
-        requires { length self.now.prefix.now ≤ 10 }
         ensures { result ≡ feature_block (feature_of self.now) }
     {
         let names = self.prefix.numbers();
@@ -64,11 +57,23 @@ pub enum Purpose<'a> {
     Match(Matching<'a>),
 }
 
-// How many numbers are used in the output of features or rows, and in that of diagnostics.
-#[derive(Clone, Copy)]
+// How many numbers are used in the output of features or rows, and in that of diagnostics, none where one is full.
+#[derive(Clone, Copy, PartialEq, Eq)]
 pub struct Tally {
-    pub used: usize,
-    pub noted: usize,
+    pub used: Option<usize>,
+    pub noted: Option<usize>,
+}
+
+impl Tally {
+    // Nothing is used.
+    pub fn new() -> Tally
+        ensures { result ≡ nothing_used }
+    {
+        Tally {
+            used: Some(0),
+            noted: Some(0),
+        }
+    }
 }
 
 // What a walk carries: a number for each name, the output of features or rows, and that of diagnostics; and how much of both is used.
@@ -134,23 +139,22 @@ fn comes_first(memo: &mut [u32], name: u32) -> bool
 
 impl Matching<'_> {
     // The first of the kept features whose name is equal folded to a name.
-    #[tactic(auto, using(crate::proofs::Search::searching_start, crate::proofs::Search::searching_end))]
+    #[tactic(auto, using(crate::proofs::Search::searching_start, crate::proofs::Search::searching_turn, crate::proofs::Search::searching_hit, crate::proofs::Search::searching_end))]
     fn find_partner(&self, m: &Tables, name: u32) -> Option<usize>
         ensures { result ≡ partner_of (model m.now) self.now.kept.now name }
     {
-        let count = self.kept.len() / FEATURE_NUMBERS;
-        let mut found = None;
-        for i in 0..count {
-            if same_folded_names(m, name, get_or(self.kept, i * FEATURE_NUMBERS, 0)) {
-                found = Some(i);
-                break;
+        let wanted = name_of(m, name);
+        for i in 0..self.kept.len() / FEATURE_NUMBERS {
+            let kept = get_or(self.kept, i * FEATURE_NUMBERS, 0);
+            if same_folded(wanted, name_of(m, kept)) {
+                return Some(i);
             }
         }
-        found
+        None
     }
 
     // The same, searched once for each name.
-    #[tactic(auto, using(crate::proofs::Search::recalled, crate::proofs::Search::recalled_memo, crate::proofs::Purposes::partner_few))]
+    #[tactic(auto, using(crate::proofs::Search::recalled, crate::proofs::Search::recalled_memo, crate::proofs::Search::partner_few))]
     fn partner(&self, m: &Tables, memo: &mut [u32], name: u32) -> Option<usize>
         requires { (kept_count self.now.kept.now ≤ 4096) × Memory (model m.now) self.now.kept.now memo.old }
         ensures value { result ≡ partner_of (model m.now) self.now.kept.now name }
@@ -166,7 +170,7 @@ impl Matching<'_> {
 
     // The row of a source feature and the kept feature at place i, until its names are composed.
     fn row(&self, feature: &Feature, i: usize) -> [u32; ROW_NUMBERS]
-        requires { (length feature.now.prefix.now ≤ 10) × (i * feature_numbers + feature_numbers ≤ length self.now.kept.now) }
+        requires { i * feature_numbers + feature_numbers ≤ length self.now.kept.now }
         ensures { result ≡ match_block self.now.connection self.now.source self.now.destination (feature_block (feature_of feature.now)) (kept_block self.now.kept.now i) }
     {
         let mut row = [0u32; ROW_NUMBERS];
@@ -174,56 +178,55 @@ impl Matching<'_> {
         row[1] = self.source;
         row[2] = self.destination;
         lent::put_all(&mut row, SOURCE, &feature.block());
-        let base = i * FEATURE_NUMBERS;
-        lent::put_all(&mut row, PARTNER, &self.kept[base..base + FEATURE_NUMBERS]);
+        let partner = lent::part(self.kept, i * FEATURE_NUMBERS, FEATURE_NUMBERS);
+        lent::put_all(&mut row, PARTNER, partner);
         row
     }
 }
 
 impl Sink<'_> {
     // What a feature does whose name may have come already.
+    #[tactic(auto, unfolding(crate::specs::Take::first_by))]
     fn take_first(&mut self, feature: &Feature)
-        requires { length feature.now.prefix.now ≤ 10 }
         ensures taken { held self.new ≡ first_by (eqb (get_or self.old.memo.now feature.now.name 0) 0) (feature_of feature.now) (held self.old) }
         ensures same { SameBuffers self.old self.new }
     {
         if comes_first(self.memo, feature.name) {
-            self.tally.used = lent::append_numbers(self.out, self.tally.used, &feature.block());
+            self.tally.used = lent::append(self.out, self.tally.used, &feature.block());
         }
     }
 
     // What a feature does that is to be matched. Where the output of rows is full, no row is made.
-    #[tactic(auto, using(crate::proofs::Purposes::unmatched, crate::proofs::Purposes::partner_whole))]
+    #[tactic(auto, unfolding(as5506::specs::Layout::diag_block, lent::specs::Append::append_behind, crate::specs::Take::match_by), using(crate::proofs::Search::partner_whole))]
     fn take_match(&mut self, m: &Tables, matching: &Matching, feature: &Feature)
-        requires { (length feature.now.prefix.now ≤ 10) × (kept_count matching.now.kept.now ≤ 4096) × Memory (model m.now) matching.now.kept.now self.old.memo.now }
+        requires { (kept_count matching.now.kept.now ≤ 4096) × Memory (model m.now) matching.now.kept.now self.old.memo.now }
         ensures taken { held self.new ≡ match_by (partner_of (model m.now) matching.now.kept.now feature.now.name) matching.now (feature_of feature.now) (held self.old) }
         ensures same { SameBuffers self.old self.new }
     {
-        let tally = self.tally;
         match matching.partner(m, self.memo, feature.name) {
             None => {
                 let note = [UNMATCHED, matching.connection, feature.name, 0];
-                self.tally.noted = lent::append_numbers(self.notes, tally.noted, &note);
+                self.tally.noted = lent::append(self.notes, self.tally.noted, &note);
             }
-            Some(_) if self.out.len() < tally.used => self.tally.used = self.out.len() + 1,
+            Some(_) if self.tally.used.is_none() => {}
             Some(i) => {
                 let row = matching.row(feature, i);
-                self.tally.used = lent::append_numbers(self.out, tally.used, &row);
+                self.tally.used = lent::append(self.out, self.tally.used, &row);
             }
         }
     }
 
     // What a feature does, by the purpose of the walk.
-    #[tactic(auto, unfolding(crate::specs::Take::taken), using(crate::proofs::Purposes::match_few, crate::proofs::Purposes::match_memory))]
+    #[tactic(auto, unfolding(crate::specs::Take::taken), using(crate::proofs::Ready::match_few, crate::proofs::Ready::match_memory))]
     pub fn take_feature(&mut self, m: &Tables, purpose: &Purpose, feature: &Feature)
-        requires { (length feature.now.prefix.now ≤ 10) × Ready purpose.now (model m.now) self.old.memo.now }
+        requires { Ready purpose.now (model m.now) self.old.memo.now }
         ensures taken { held self.new ≡ taken purpose.now (model m.now) (feature_of feature.now) (held self.old) }
         ensures same { SameBuffers self.old self.new }
     {
         match purpose {
             Purpose::Count => {}
             Purpose::All => {
-                self.tally.used = lent::append_numbers(self.out, self.tally.used, &feature.block());
+                self.tally.used = lent::append(self.out, self.tally.used, &feature.block());
             }
             Purpose::First => self.take_first(feature),
             Purpose::Match(matching) => self.take_match(m, matching, feature),

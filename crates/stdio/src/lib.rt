@@ -7,7 +7,7 @@ ghost use Rattle.std.specs.Prelude.{◌≤◌, IfOk, IfSome, length};
 use std::env::{Env, FillError};
 use std::io::{self, Read, Write};
 
-// Reads into a slice to the end of the input, or until the slice is full: how many bytes were read.
+// Reads into a slice to the end of the input, or until the slice is full: how many bytes were read. No `for`: only the input knows how often.
 pub fn read_full<R: Read>(input: &mut R, into: &mut [u8]) -> io::Result<usize>
     ensures { IfOk result (λ k. k ≤ length into.new) }
 {

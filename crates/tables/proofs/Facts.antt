@@ -20,7 +20,6 @@ use Rattle.as5506.proofs.Accepted.{some-component, sound}
 use Rattle.as5506.proofs.Keys.{Unique, keys-unique}
 use Rattle.tables.specs.Ends.{bad_ends, bad_references, bad_classifier}
 use Rattle.tables.specs.Keys.{key_p, key_t, key_q, key_u, key_r}
-use Rattle.tables.proofs.Order.{joined}
 use Rattle.tables.proofs.Letters.{at-letter, few-rows}
 
 -- v is below n, or missing
@@ -127,6 +126,11 @@ absent : (v : ℕ) → T (not (present v)) → v ≡ missing
 absent v t = eqb→eq v missing (not-not (eqb v missing) t)
 
 -- ---- lists that are empty
+-- lists joined as the definition joins them, from the left
+abbrev joined : List Refusal → List (List Refusal) → List Refusal
+joined xs [] = xs
+joined xs (ys ∷ yss) = joined (xs ++ ys) yss
+
 joined-nil : (xs : List Refusal) (yss : List (List Refusal)) → T (is_nil (joined xs yss)) → T (is_nil xs) × All (λ ys. T (is_nil ys)) yss
 joined-nil xs [] t = (t, tt)
 joined-nil xs (ys ∷ yss) t = let h = joined-nil (xs ++ ys) yss t in (nil-left xs ys h.0, (nil-right xs ys h.0, h.1))

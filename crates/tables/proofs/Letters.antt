@@ -5,29 +5,21 @@ use Prim.Native.Nat.{◌≤◌}
 use lib.Dec.{T, ltb, nltb→le}
 use Rattle.std.specs.Prelude.{Ok}
 use Rattle.as5506.specs.Lists.{is_nil, each}
-use Rattle.as5506.specs.Tables.{Tables, Letter, letter_n, letter_c, letter_f, letter_x, letter_p, letter_i, letter_t, letter_q, letter_u, letter_e, letter_r, letter_m, count}
+use Rattle.as5506.specs.Tables.{Tables, Letter, count}
 use Rattle.as5506.specs.Columns.{order}
 use Rattle.as5506.specs.Answers.{Refusal, refusal, row, told}
 use Rattle.as5506.specs.Refusals.{too_many_rows}
 use Rattle.as5506.proofs.Answers.{ok-not-err}
+use Rattle.as5506.proofs.Letters.{each-letter}
 use Rattle.as5506.proofs.Laws.{All, nil-when, nil-each}
 use Rattle.tables.specs.Answer.{Checked, checked}
-use Rattle.tables.specs.Letter.{Few}
+use Rattle.tables.specs.Few.{Few}
 
 -- what holds of all letters holds of each
 pub at-letter : (P : Letter → Type 0) → All P order → (l : Letter) → P l
-at-letter P a letter_n = a.0
-at-letter P a letter_c = a.1.0
-at-letter P a letter_f = a.1.1.0
-at-letter P a letter_x = a.1.1.1.0
-at-letter P a letter_p = a.1.1.1.1.0
-at-letter P a letter_i = a.1.1.1.1.1.0
-at-letter P a letter_t = a.1.1.1.1.1.1.0
-at-letter P a letter_q = a.1.1.1.1.1.1.1.0
-at-letter P a letter_u = a.1.1.1.1.1.1.1.1.0
-at-letter P a letter_e = a.1.1.1.1.1.1.1.1.1.0
-at-letter P a letter_r = a.1.1.1.1.1.1.1.1.1.1.0
-at-letter P a letter_m = a.1.1.1.1.1.1.1.1.1.1.1.0
+at-letter P a =
+    each-letter P a.0 a.1.0 a.1.1.0 a.1.1.1.0 a.1.1.1.1.0 a.1.1.1.1.1.0 a.1.1.1.1.1.1.0 a.1.1.1.1.1.1.1.0 a.1.1.1.1.1.1.1.1.0 a.1.1.1.1.1.1.1.1.1.0 a.1.1.1.1.1.1.1.1.1.1.0
+    a.1.1.1.1.1.1.1.1.1.1.1.0
 
 -- where no table has too many rows
 pub few-rows : (m : Tables) → T (is_nil (each (too_many_rows m) order)) → (l : Letter) → count m l ≤ 4096

@@ -2,7 +2,7 @@
 use mathlib.Core.Bool.{Bool, true, false, ◌||◌}
 use mathlib.Core.Path.{◌≡◌, refl, sym, ap, ap₂, ◌∙◌}
 use mathlib.Core.List.{List, map}
-use Prim.Native.Nat.{ℕ, zero, suc, ◌+◌, ◌-◌, ◌≤◌, ◌<◌}
+use Prim.Native.Nat.{ℕ, zero, suc, ◌+◌, ◌-◌, ◌<◌}
 use native.Mathlib.Omega.{arith}
 use native.Mathlib.Nat.{add-zero}
 use Rattle.std.specs.Prelude.{Err}
@@ -12,7 +12,7 @@ use Rattle.as5506.specs.Answers.{refusal, row, told}
 use Rattle.as5506.specs.declared.Refusal.{Refusal as Told}
 use Rattle.as5506.specs.Refusals.{Key, same_key as same_key_of}
 use Rattle.as5506.proofs.Keys.{earlier}
-use Rattle.as5506.proofs.Scans.{span-next, span-done, keep-hit}
+use Rattle.as5506.proofs.Scans.{span-next, keep-hit}
 use Rattle.tables.specs.Answer.{Checked, checked}
 
 -- ---- a loop that looks for a row that passes
@@ -22,9 +22,6 @@ module _ (p : ℕ → Bool) (i n : ℕ) where
 
   pub any-miss : i < n → p i ≡ false → any_of p (span i (n - i)) ≡ any_of p (span (i + 1) (n - (i + 1)))
   any-miss h q = rw (span-next i n h, q)
-
-  pub any_end : n ≤ i → any_of p (span i (n - i)) ≡ false
-  any_end h = rw (span-done i n h)
 
 -- ---- a row's key among those of earlier rows
 module _ (key_of : ℕ → Key) where

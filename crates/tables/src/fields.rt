@@ -4,13 +4,13 @@ ghost use Rattle.lent.specs.Model.{model};
 ghost use Rattle.as5506.specs.Columns.{columns, field_cells};
 ghost use Rattle.as5506.specs.Refusals.{in_range, good_long, allows, allows_from, bad_row, row_faults, faults6};
 ghost use Rattle.tables.specs.Answer.{checked};
-ghost use Rattle.tables.specs.Letter.{letter_of, Few};
+ghost use Rattle.tables.specs.Letter.{letter_of};
 ghost use Rattle.tables.specs.Column.{meaning_of, column_of};
 
-use crate::letter::{Letter, check_letters, count_of, field};
-use crate::rows::check_rows;
+use crate::letter::{Letter, check_letters};
+use crate::{FewRows, RowNumber, Rule};
 use as5506::{MISSING, Refusal};
-use lent::Tables;
+use columns::declared;
 
 // What a number of a row is: a name number, a row of a letter, a row of the holder's table, a number below a bound, or any number but missing.
 #[derive(Clone, Copy)]
@@ -99,27 +99,6 @@ fn columns_of(letter: Letter) -> &'static [Column]
     }
 }
 
-// Whether the number v in row i is in the range that its meaning gives.
-fn in_range(m: &Tables, i: usize, meaning: Meaning, v: u32) -> bool
-    requires { i ≤ 4096 }
-    ensures { result ≡ in_range (model m.now) i (meaning_of meaning) v }
-{
-    match meaning {
-        Meaning::Name => (v as usize) < count_of(m, Letter::N),
-        Meaning::Row(letter) => (v as usize) < count_of(m, letter),
-        Meaning::Holder => {
-            let holder = if field(m, Letter::E, i, 0) == 0 {
-                Letter::T
-            } else {
-                Letter::U
-            };
-            (v as usize) < count_of(m, holder)
-        }
-        Meaning::Below(bound) => v < bound,
-        Meaning::Anything => v != MISSING,
-    }
-}
-
 // Whether three numbers are an array index: there and any, or not there and 0.
 fn good_long(there: u32, high: u32, low: u32) -> bool
     ensures { result ≡ good_long there high low }
@@ -127,21 +106,8 @@ fn good_long(there: u32, high: u32, low: u32) -> bool
     there == 1 || (there == 0 && high == 0 && low == 0)
 }
 
-// Whether the field of row i from number j on is in its range.
-fn allows(m: &Tables, letter: Letter, i: usize, j: usize, column: Column) -> bool
-    requires { (i ≤ 4096) × (j ≤ 27) }
-    ensures { result ≡ allows (model m.now) (letter_of letter) i j (column_of column) }
-{
-    let v = field(m, letter, i, j);
-    match column {
-        Column::Needed(meaning) => in_range(m, i, meaning, v),
-        Column::Optional(meaning) => v == MISSING || in_range(m, i, meaning, v),
-        Column::Long => good_long(v, field(m, letter, i, j + 1), field(m, letter, i, j + 2)),
-    }
-}
-
-// The numbers that a field takes.
-fn cells_of(column: Column) -> usize
+// The numbers that a field takes. By cases: the other columns take one.
+fn cells_of(column: Column) -> u8
     ensures cells { result ≡ field_cells (column_of column) }
     ensures few { result ≤ 3 }
 {
@@ -151,34 +117,72 @@ fn cells_of(column: Column) -> usize
     }
 }
 
-// Whether a number of row i is past its range.
-fn bad_row(m: &Tables, letter: Letter, i: usize) -> bool
-    requires { i ≤ 4096 }
-    ensures { result ≡ bad_row (model m.now) (letter_of letter) i }
-{
-    let mut j: usize = 0;
-    for column in columns_of(letter) {
-        if !allows(m, letter, i, j, *column) {
-            return true;
+impl FewRows<'_, '_> {
+    // Whether the number v in a row is in the range that its meaning gives.
+    fn in_range(&self, row: RowNumber, meaning: Meaning, v: u32) -> bool
+        ensures { result ≡ in_range (model self.now.m.now) row.i (meaning_of meaning) v }
+    {
+        match meaning {
+            Meaning::Name => (v as usize) < self.count_of(Letter::N),
+            Meaning::Row(letter) => (v as usize) < self.count_of(letter),
+            Meaning::Holder => {
+                let holder = if declared::holder_kind_of(self.m, row.i)
+                    == declared::COMPONENT_TYPE
+                {
+                    Letter::T
+                } else {
+                    Letter::U
+                };
+                (v as usize) < self.count_of(holder)
+            }
+            Meaning::Below(bound) => v < bound,
+            Meaning::Anything => v != MISSING,
         }
-        j += cells_of(*column);
     }
-    false
-}
 
-// Refuses the first row of a letter with a number past its range.
-fn check_letter(m: &Tables, letter: Letter) -> Result<(), Refusal>
-    requires { Few (model m.now) }
-    ensures { result ≡ checked (row_faults 6 (model m.now) (letter_of letter) (bad_row (model m.now) (letter_of letter))) }
-{
-    check_rows(m, 6, letter, |i| bad_row(m, letter, i))
-}
+    // Whether the field of a row from number j on is in its range.
+    fn allows(&self, letter: Letter, row: RowNumber, j: u8, column: Column) -> bool
+        requires { j ≤ 27 }
+        ensures { result ≡ allows (model self.now.m.now) (letter_of letter) row.i j (column_of column) }
+    {
+        let v = self.field(letter, row, j);
+        match column {
+            Column::Needed(meaning) => self.in_range(row, meaning, v),
+            Column::Optional(meaning) => v == MISSING || self.in_range(row, meaning, v),
+            Column::Long => good_long(
+                v,
+                self.field(letter, row, j + 1),
+                self.field(letter, row, j + 2),
+            ),
+        }
+    }
 
-// Refuses the first row with a number past its range.
-#[tactic(auto, unfolding(as5506::specs::Refusals::faults6))]
-pub fn check_fields(m: &Tables) -> Result<(), Refusal>
-    requires { Few (model m.now) }
-    ensures { result ≡ checked (faults6 (model m.now)) }
-{
-    check_letters(|letter| check_letter(m, letter))
+    // Whether a number of a row is past its range. (`j` is no index of the loop: a field takes one number or three.)
+    fn bad_row(&self, letter: Letter, row: RowNumber) -> bool
+        ensures { result ≡ bad_row (model self.now.m.now) (letter_of letter) row.i }
+    {
+        let mut j: u8 = 0;
+        for column in columns_of(letter) {
+            if !self.allows(letter, row, j, *column) {
+                return true;
+            }
+            j += cells_of(*column);
+        }
+        false
+    }
+
+    // Refuses the first row of a letter with a number past its range.
+    fn check_letter(&self, letter: Letter) -> Result<(), Refusal>
+        ensures { result ≡ checked (row_faults 6 (model self.now.m.now) (letter_of letter) (bad_row (model self.now.m.now) (letter_of letter))) }
+    {
+        self.check_rows(Rule::Range, letter, |row| self.bad_row(letter, row))
+    }
+
+    // Refuses the first row with a number past its range.
+    #[tactic(auto, unfolding(as5506::specs::Refusals::faults6))]
+    pub fn check_fields(&self) -> Result<(), Refusal>
+        ensures { result ≡ checked (faults6 (model self.now.m.now)) }
+    {
+        check_letters(|letter| self.check_letter(letter))
+    }
 }

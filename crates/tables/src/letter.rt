@@ -1,13 +1,15 @@
 // The letters of the tables, in their order.
 ghost use Rattle.std.specs.Prelude.{◌≡◌, ◌≤◌, ◌<◌};
 ghost use Rattle.lent.specs.Model.{model};
-ghost use Rattle.as5506.specs.Tables.{table, width, count, at};
+ghost use Rattle.as5506.specs.Tables.{table, width, count};
 ghost use Rattle.as5506.specs.Columns.{order, letter_byte};
 ghost use Rattle.as5506.specs.Answers.{refusal, told, row};
 ghost use Rattle.as5506.specs.Lists.{each};
 ghost use Rattle.tables.specs.Answer.{checked};
+ghost use Rattle.tables.specs.Rule.{number_of};
 ghost use Rattle.tables.specs.Letter.{letter_of, Gives};
 
+use crate::Rule;
 use as5506::{LETTERS, Refusal, WIDTHS};
 use lent::Tables;
 
@@ -43,7 +45,7 @@ const ORDER: [Letter; as5506::LETTER_COUNT] = [
     Letter::M,
 ];
 
-// The table of a letter.
+// The table of a letter. By cases: each is a field of its own.
 pub fn table_of<'a>(m: &Tables<'a>, letter: Letter) -> &'a [u32]
     ensures { result.now ≡ table (model m.now) (letter_of letter) }
 {
@@ -79,20 +81,21 @@ pub fn count_of(m: &Tables, letter: Letter) -> usize
     table_of(m, letter).len() / width_of(letter)
 }
 
-// Number j of row i, 0 past the end of the table.
-pub fn field(m: &Tables, letter: Letter, i: usize, j: usize) -> u32
-    requires { (i ≤ 4096) × (j ≤ 4096) }
-    ensures { result ≡ at (model m.now) (letter_of letter) i j }
-{
-    lent::get_or(table_of(m, letter), i * width_of(letter) + j, 0)
+impl Rule {
+    // The number that it has in a refusal.
+    fn number(self) -> u32
+        ensures { result ≡ number_of self }
+    {
+        self as u32
+    }
 }
 
 // A refusal at a row of a letter's table.
-pub fn refused_at(number: u32, letter: Letter, place: u32) -> Refusal
-    ensures { result ≡ told (refusal number (row (letter_of letter) place)) }
+pub fn refused_at(rule: Rule, letter: Letter, place: u32) -> Refusal
+    ensures { result ≡ told (refusal (number_of rule) (row (letter_of letter) place)) }
 {
     Refusal {
-        number,
+        number: rule.number(),
         place,
         letter: LETTERS[letter as usize],
     }

@@ -7,18 +7,18 @@ use as5506::{LETTER_COUNT, Refusal};
 use lent::Tables;
 use std::io::Read;
 
-// The most cases of a file.
-const CASES: usize = 100000;
 // How long a byte table may be, and all tables of numbers together.
 const BYTES: usize = 1000;
 
 const STORE: usize = 131072;
 
 fn print_answer(rt: &impl Print, answer: Result<(), Refusal>) {
-    let _ = match answer {
-        Ok(()) => rt.write_all(b"accepted\n"),
-        Err(r) => print!(rt; "refused {} {} {}\n", r.number, r.letter as char, r.place),
-    };
+    match answer {
+        Ok(()) => cases::print(rt, b"accepted\n"),
+        Err(r) => {
+            let _ = print!(rt; "refused {} {} {}\n", r.number, r.letter as char, r.place);
+        }
+    }
 }
 
 // Of a table, how many numbers it has and how many of them are given.
@@ -38,26 +38,23 @@ fn read_sizes(input: &mut impl Read) -> [Size; LETTER_COUNT] {
     sizes
 }
 
-// The front of what is left of the store, for so many numbers, and what is left behind it.
-fn split(store: &[u32], count: u32) -> (&[u32], &[u32]) {
-    store.split_at(store.len().min(count as usize))
-}
-
-// Reads the given numbers of a table, with the letter in front and the end of the line, into the store.
-fn read_table(input: &mut impl Read, store: &mut [u32], start: usize, given: u32) {
+// Reads the given numbers of a table, with the letter in front and the end of the line, into its part of the store.
+fn read_table(input: &mut impl Read, table: &mut [u32], given: u32) {
     cases::byte(input);
-    for i in 0..given as usize {
-        lent::put(store, start.saturating_add(i), cases::number(input));
+    for place in table.iter_mut().take(given as usize) {
+        *place = cases::number(input);
     }
     cases::byte(input);
 }
 
 // Reads all tables, one behind the other.
 fn read_tables(input: &mut impl Read, store: &mut [u32], sizes: &[Size; LETTER_COUNT]) {
-    let mut start: usize = 0;
+    let mut rest = store;
     for size in sizes {
-        read_table(input, store, start, size.given);
-        start = start.saturating_add(size.all as usize);
+        let end = rest.len().min(size.all as usize);
+        let (table, behind) = rest.split_at_mut(end);
+        read_table(input, table, size.given);
+        rest = behind;
     }
 }
 
@@ -66,9 +63,7 @@ fn answer_for(bytes: &[u8], store: &[u32], sizes: &[Size; LETTER_COUNT]) -> Resu
     let mut tables: [&[u32]; LETTER_COUNT] = [&[]; LETTER_COUNT];
     let mut rest = store;
     for (k, size) in sizes.iter().enumerate() {
-        let (table, behind) = split(rest, size.all);
-        tables[k] = table;
-        rest = behind;
+        (tables[k], rest) = rest.split_at(rest.len().min(size.all as usize));
     }
     let [n, c, f, x, p, i, t, q, u, e, r, m] = tables;
     tables::check_tables(&Tables {
@@ -88,11 +83,8 @@ fn answer_for(bytes: &[u8], store: &[u32], sizes: &[Size; LETTER_COUNT]) -> Resu
     })
 }
 
-// Reads a case and replays it; false where there is none.
-fn next_case(rt: &impl Print, input: &mut impl Read) -> bool {
-    if !cases::begins(input) {
-        return false;
-    }
+// Reads a case and replays it.
+fn replay_case(rt: &impl Print, input: &mut impl Read) {
     let length = cases::number(input);
     let sizes = read_sizes(input);
     let mut bytes = [0u8; BYTES];
@@ -101,14 +93,8 @@ fn next_case(rt: &impl Print, input: &mut impl Read) -> bool {
     let mut store = [0u32; STORE];
     read_tables(input, &mut store, &sizes);
     print_answer(rt, answer_for(&bytes[..end], &store, &sizes));
-    true
 }
 
 fn main(rt: HostRuntime) {
-    let mut input = rt.stdin();
-    for _ in 0..CASES {
-        if !next_case(&rt, &mut input) {
-            return;
-        }
-    }
+    cases::replay_all(&mut rt.stdin(), |input| replay_case(&rt, input));
 }

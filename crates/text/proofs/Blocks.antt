@@ -1,15 +1,14 @@
 -- Laws of a row's text: its block, with the three names that stand with it or in the tables. Assumes nothing.
 use mathlib.Core.Path.{◌≡◌, refl, sym, ap, ap₂, ◌∙◌}
 use mathlib.Core.List.{List, [], ◌∷◌, ◌++◌, append_assoc}
-use Prim.Native.Nat.{ℕ, ◌+◌, ◌-◌, ◌≤◌, ◌<◌}
-use native.Mathlib.Nat.{add-sub_cancel_left}
+use Prim.Native.Nat.{ℕ, ◌+◌, ◌≤◌, ◌<◌}
 use native.Mathlib.Numerals.{add-one}
 use native.Mathlib.Omega.{arith}
-use lib.ListN.{length, get_or, take, drop, length-drop, drop_of_length-le}
-use lib.Seq.{drop-cons, take_all}
+use lib.ListN.{length, get_or, take, drop, drop_of_length-le}
+use lib.Seq.{drop-cons}
 use Rattle.as5506.specs.Lists.{each, bytes_of}
 use Rattle.as5506.specs.Tables.{Tables, name_of}
-use Rattle.as5506.specs.Layout.{path_places, row_numbers, row_back, group_back, names_behind}
+use Rattle.as5506.specs.Layout.{row_back, group_back, names_behind}
 use Rattle.as5506.specs.Text.{column, number_line, text_line, row_text}
 use Rattle.text.specs.Printing.{row_named, group_rows}
 
@@ -26,14 +25,7 @@ pub group-done : (rows : List (List ℕ)) (names : List ℕ) (i : ℕ) → lengt
 unfolding group_rows
 group-done rows names i h = rw (drop_of_length-le rows h)
 
-pub each-done : (f : List ℕ → List ℕ) (rows : List (List ℕ)) (i : ℕ) → length rows ≤ i → each f (drop i rows) ≡ []
-each-done f rows i h = rw (drop_of_length-le rows h)
-
 module _ (b names second third : List ℕ) (e : second ≡ drop (get_or b 4 0) names) (f : third ≡ drop (get_or b 5 0) second) where
-  pub names-behind : (last : List ℕ) → last ≡ drop (get_or b 6 0) third → last ≡ names_behind b names
-  unfolding names_behind
-  names-behind last g = g ∙ ap (drop (get_or b 6 0)) (f ∙ ap (drop (get_or b 5 0)) e)
-
   -- a group row by its names
   pub group-named : (name source destination : List ℕ) → name ≡ take (get_or b 4 0) names → source ≡ take (get_or b 5 0) second
       → destination ≡ take (get_or b 6 0) third → row_text (group_back b names) ≡ row_text (row_named b name source destination)
@@ -47,14 +39,6 @@ unfolding row_back row_named
 traced-named m b name source destination p q r = rw (p, q, r)
 
 -- ---- a row's lines
-
-pub path-within : (b : List ℕ) → take (8 + get_or b 7 0 - 8) (drop 8 b) ≡ take (get_or b 7 0) (drop 8 b)
-path-within b = ap (λ (k : ℕ). take k (drop 8 b)) (add-sub_cancel_left 8 (get_or b 7 0))
-
-pub path-whole : (b : List ℕ) → length b ≡ row_numbers → path_places ≤ get_or b 7 0 → take path_places (drop 8 b) ≡ take (get_or b 7 0) (drop 8 b)
-path-whole b e h =
-    let k : length (drop 8 b) ≡ length b - 8 = length-drop 8 b in
-    take_all path_places (drop 8 b) (omega (arith, k, e)) ∙ sym (take_all (get_or b 7 0) (drop 8 b) (omega (arith, k, e, h)))
 
 pub first-four : (b : List ℕ) → 4 ≤ length b → take 4 b ≡ get_or b 0 0 ∷ get_or b 1 0 ∷ get_or b 2 0 ∷ get_or b 3 0 ∷ []
 first-four [] h = absurd (omega arith)

@@ -33,26 +33,24 @@ pub message-none : (m : Tables) (conn : List ℕ) (code a b : ℕ) → code ≡ 
 unfolding message
 message-none m conn code a b h = ap (λ (k : ℕ). message m conn k a b) h
 
-module _ (m : Tables) (conn name : List ℕ) (code a b : ℕ) (e : name ≡ name_of m a) where
+module _ (m : Tables) (conn : List ℕ) (code a b : ℕ) where
   pub message-endpoint : code ≡ 1 → message m conn code a b ≡ bytes_of "connection '" ++ conn ++ bytes_of "': " ++ bytes_of "missing endpoint"
   unfolding message
   message-endpoint h = ap (λ (k : ℕ). message m conn k a b) h ∙ on-connection conn (bytes_of "missing endpoint")
 
   pub message-source : code ≡ 2 → message m conn code a b
-      ≡ bytes_of "connection '" ++ conn ++ bytes_of "': " ++ (bytes_of "unresolved source subcomponent '" ++ name ++ bytes_of "'")
+      ≡ bytes_of "connection '" ++ conn ++ bytes_of "': " ++ (bytes_of "unresolved source subcomponent '" ++ name_of m a ++ bytes_of "'")
   unfolding message
   message-source h =
       ap (λ (k : ℕ). message m conn k a b) h ∙ on-connection conn (bytes_of "unresolved source subcomponent " ++ quoted (name_of m a))
       ∙ ap (λ (s : List ℕ). bytes_of "connection '" ++ conn ++ bytes_of "': " ++ s) (quoted-end (bytes_of "unresolved source subcomponent ") (bytes_of "'") (name_of m a))
-      ∙ ap (λ (s : List ℕ). bytes_of "connection '" ++ conn ++ bytes_of "': " ++ (bytes_of "unresolved source subcomponent '" ++ s ++ bytes_of "'")) (sym e)
 
   pub message-destination : code ≡ 3 → message m conn code a b
-      ≡ bytes_of "connection '" ++ conn ++ bytes_of "': " ++ (bytes_of "unresolved destination subcomponent '" ++ name ++ bytes_of "'")
+      ≡ bytes_of "connection '" ++ conn ++ bytes_of "': " ++ (bytes_of "unresolved destination subcomponent '" ++ name_of m a ++ bytes_of "'")
   unfolding message
   message-destination h =
       ap (λ (k : ℕ). message m conn k a b) h ∙ on-connection conn (bytes_of "unresolved destination subcomponent " ++ quoted (name_of m a))
       ∙ ap (λ (s : List ℕ). bytes_of "connection '" ++ conn ++ bytes_of "': " ++ s) (quoted-end (bytes_of "unresolved destination subcomponent ") (bytes_of "'") (name_of m a))
-      ∙ ap (λ (s : List ℕ). bytes_of "connection '" ++ conn ++ bytes_of "': " ++ (bytes_of "unresolved destination subcomponent '" ++ s ++ bytes_of "'")) (sym e)
 
   pub message-sizes : code ≡ 4 → message m conn code a b
       ≡ bytes_of "connection '" ++ conn ++ bytes_of "': "

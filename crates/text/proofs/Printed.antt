@@ -1,11 +1,10 @@
 -- Laws of the printed list for callers: the list of the definition is the one that is printed, and what the listings' outputs hold is what blocks of them
 -- hold. Assumes nothing.
-use mathlib.Core.Path.{◌≡◌, refl, ap, ◌∙◌}
-use mathlib.Core.List.{List, [], ◌∷◌, ◌++◌, map, append_assoc}
+use mathlib.Core.Path.{◌≡◌, refl, ap}
+use mathlib.Core.List.{List, [], ◌∷◌, ◌++◌, map}
 use Prim.Native.Nat.{ℕ, zero, suc, ◌≤◌}
 use native.Mathlib.Omega.{arith}
 use lib.ListN.{length, take, drop, length-map}
-use Rattle.std.specs.Borrow.{MutBor}
 use Rattle.std.specs.Simd.{first_chunks}
 use Rattle.as5506.specs.Lists.{each, bytes_of}
 use Rattle.as5506.specs.Tables.{Tables}
@@ -14,12 +13,9 @@ use Rattle.as5506.specs.Rows.{Row, Diag}
 use Rattle.as5506.specs.Tracing.{shown}
 use Rattle.as5506.specs.Listing.{BothLists}
 use Rattle.as5506.specs.Layout.{row_numbers, diag_numbers, row_back, rows_back, group_back, group_rows_back, names_behind, diag_back, diags_back}
-use Rattle.as5506.specs.Text.{column, row_text, diag_text, number_line, text_line, list_text, refusal_text}
+use Rattle.as5506.specs.Text.{row_text, diag_text, number_line, list_text, refusal_text}
 use Rattle.as5506.proofs.Laws.{each_map}
-use Rattle.as5506.specs.declared.Refusal.{Refusal as Told}
-use Rattle.output.specs.Put.{Begins, Put}
-use Rattle.output.specs.declared.Output.{Output}
-use Rattle.text.specs.Printing.{group_rows, list_of, refusal_of, Printed}
+use Rattle.text.specs.Printing.{group_rows, traced_text, told_text, list_of, refusal_of}
 
 pub list-printed : (m : Tables) (b : BothLists) → list_text m b ≡ list_of m (map (shown m) b.traced.rows) b.group.rows b.traced.diags b.group.diags
 unfolding list_text list_of
@@ -61,33 +57,8 @@ group-count (b ∷ bs) names = ap suc (group-count bs (names_behind b names))
 
 pub list-pieces : (m : Tables) (traced group : List (List ℕ)) (names : List ℕ) (diags group_diags : List (List ℕ))
     → list_of m (map (row_back m) traced) (group_rows group names) (map diag_back diags) (map diag_back group_diags)
-    ≡ each (λ b. row_text (row_back m b)) traced ++ each row_text (group_rows group names)
-    ++ each (λ b. diag_text m (diag_back b)) diags ++ each (λ b. diag_text m (diag_back b)) group_diags ++ number_line (bytes_of "Z") (length traced ∷ length group ∷ [])
-unfolding list_of
+    ≡ each (traced_text m) traced ++ each row_text (group_rows group names)
+    ++ each (told_text m) diags ++ each (told_text m) group_diags ++ number_line (bytes_of "Z") (length traced ∷ length group ∷ [])
+unfolding list_of traced_text told_text
 list-pieces m traced group names diags group_diags =
     rw (length-map traced (row_back m), group-count group names, each_map row_text (row_back m) traced, each_map (diag_text m) diag_back diags, each_map (diag_text m) diag_back group_diags)
-
-pub counts-pieces : (a b : ℕ) → number_line (bytes_of "Z") (a ∷ b ∷ []) ≡ bytes_of "Z" ++ column a ++ column b ++ bytes_of "\n"
-unfolding number_line
-counts-pieces a b = simp append_assoc
-
-pub selection-pieces : (rows name : List ℕ) → number_line (bytes_of "M") rows ++ text_line (bytes_of "=") name
-    ≡ bytes_of "M" ++ each column rows ++ bytes_of "\n" ++ (bytes_of "= " ++ name ++ bytes_of "\n")
-unfolding number_line text_line
-selection-pieces rows name = refl
-
-pub refusal-pieces : (r : Told) → refusal_of r ≡ bytes_of "R" ++ column r.number ++ column r.place ++ (32 ∷ r.letter ∷ 10 ∷ [])
-unfolding refusal_of
-refusal-pieces r = refl
-
--- ---- what is printed
-
--- a text from the front of the output on
-pub printed : {t : List ℕ} {lent : MutBor (List ℕ)} {o o' : Output} {z : ℕ} {text' : List ℕ} → Begins lent o → Put t o o' → z ≡ o'.used → text' ≡ o'.bytes.now
-    → Printed t lent.now z text'
-printed {t} {lent} {o} {o'} b p e f = record {
-  fits = λ h.
-      let g = p.added.fits (omega (arith, ap length b.now, b.used, h)) in
-      (omega (arith, e, g.0, b.used), f ∙ g.1 ∙ rw (b.used, b.now) refl);
-  spills = λ h. omega (arith, e, ap length b.now, p.added.spills (omega (arith, b.used)) (omega (arith, ap length b.now, b.used, h)));
-}

@@ -1,12 +1,11 @@
 -- The list as it is printed from what the listings' outputs hold. Assumes nothing.
-use Rattle.std.specs.Prelude.{◌≡◌, List, [], ◌∷◌, ◌++◌, ℕ, ◌+◌, ◌≤◌, ◌<◌, length, get_or, take, drop}
-use Rattle.std.proofs.lemmas.List.Edits.{sets}
+use Rattle.std.specs.Prelude.{List, [], ◌∷◌, ◌++◌, ℕ, length, get_or, take, drop}
 use Rattle.as5506.specs.Lists.{each, bytes_of}
 use Rattle.as5506.specs.Tables.{Tables}
 use Rattle.as5506.specs.Fields.{space}
 use Rattle.as5506.specs.Sheet.{line_feed}
 use Rattle.as5506.specs.Rows.{Row, Diag}
-use Rattle.as5506.specs.Layout.{group_back, names_behind}
+use Rattle.as5506.specs.Layout.{row_back, group_back, names_behind, diag_back}
 use Rattle.as5506.specs.Text.{column, number_line, row_text, diag_text}
 use Rattle.as5506.specs.declared.Refusal.{Refusal}
 
@@ -29,6 +28,13 @@ unfoldable pub group_rows : List (List ℕ) → List ℕ → List Row
 group_rows [] names = []
 group_rows (b ∷ bs) names = group_back b names ∷ group_rows bs (names_behind b names)
 
+-- the text of a traced row, and of a diagnostic, by its block of numbers
+unfoldable pub traced_text : Tables → List ℕ → List ℕ
+traced_text m b = row_text (row_back m b)
+
+unfoldable pub told_text : Tables → List ℕ → List ℕ
+told_text m b = diag_text m (diag_back b)
+
 -- the list of the rows and diagnostics of both listings
 unfoldable pub list_of : Tables → List Row → List Row → List Diag → List Diag → List ℕ
 list_of m traced group diags group_diags =
@@ -38,9 +44,3 @@ list_of m traced group diags group_diags =
 -- the line of a refusal, as it is handed over
 unfoldable pub refusal_of : Refusal → List ℕ
 refusal_of r = bytes_of "R" ++ column r.number ++ column r.place ++ (space ∷ r.letter ∷ line_feed ∷ [])
-
--- a text t is printed into an output: it stands there from the front, and z is its length; or z is one more than the output has, which tells that it is
--- too short
-pub record Printed (t out : List ℕ) (z : ℕ) (out' : List ℕ) : Type 0 where
-  pub fits : length t ≤ length out → (z ≡ length t) × (out' ≡ sets out 0 t)
-  pub spills : length out < length t → z ≡ length out + 1

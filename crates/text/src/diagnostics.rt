@@ -3,9 +3,10 @@ ghost use Rattle.std.specs.Prelude.{◌≡◌, ◌++◌, ltb, get_or};
 ghost use Rattle.as5506.specs.Lists.{each, bytes_of};
 ghost use Rattle.as5506.specs.Layout.{diag_back};
 ghost use Rattle.as5506.specs.Tables.{name_of, x_name};
-ghost use Rattle.as5506.specs.Text.{digits, text_line, message, path_names, diag_text};
+ghost use Rattle.as5506.specs.Text.{digits, text_line, message, path_names};
 ghost use Rattle.lent.specs.Model.{model};
 ghost use Rattle.output.specs.Put.{Put};
+ghost use Rattle.text.specs.Printing.{told_text};
 
 use super::lines;
 use as5506::DIAGNOSTIC_NUMBERS;
@@ -26,6 +27,7 @@ fn put_sizes(a: u32, b: u32, out: &mut Output)
 }
 
 // Prints the message of a diagnostic, by its code: `conn` is its connection's name, a and b its two numbers.
+#[tactic(auto, using(crate::proofs::Pieces::message_steps))]
 fn put_message(m: &Tables, conn: &[u8], code: u32, a: u32, b: u32, out: &mut Output)
     ensures { Put (message (model m.now) conn.now code a b) out.old out.new }
 {
@@ -64,7 +66,9 @@ fn connection_name<'a>(m: &Tables<'a>, i: u32) -> &'a [u8]
     name::name_of(m, connection::name_of(m, i as usize))
 }
 
-// Prints the path names of a diagnostic: of code 5 the connection's and the feature's, else the owner's and the connection's.
+// Prints the path names of a diagnostic, whose block has its code at 0, its connection at 1 and the feature's name at 2: of code 5 the connection's and the
+// feature's, else the owner's and the connection's.
+#[tactic(auto, using(crate::proofs::Pieces::names_steps))]
 fn put_path_names(m: &Tables, block: &[u32; DIAGNOSTIC_NUMBERS], out: &mut Output)
     ensures { Put (each (text_line (bytes_of "@")) (path_names (model m.now) (diag_back block.now) (ltb (get_or block.now 0 0) 5)))
         out.old out.new }
@@ -82,9 +86,10 @@ fn put_path_names(m: &Tables, block: &[u32; DIAGNOSTIC_NUMBERS], out: &mut Outpu
     lines::put_between(b"@ ", feature, b"\n", out);
 }
 
-// Prints a diagnostic from its block of numbers.
+// Prints a diagnostic from its block of numbers: its code, its connection and the two numbers of its message.
+#[tactic(auto, using(crate::proofs::Pieces::diag_put))]
 pub fn put_diagnostic(m: &Tables, block: &[u32; DIAGNOSTIC_NUMBERS], out: &mut Output)
-    ensures { Put (diag_text (model m.now) (diag_back block.now)) out.old out.new }
+    ensures { Put (told_text (model m.now) block.now) out.old out.new }
 {
     out.put(b"D");
     decimal::put_columns(block, out);

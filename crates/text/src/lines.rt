@@ -9,6 +9,7 @@ use as5506::ROW_NUMBERS;
 use output::Output;
 
 // Prints a text with what stands before it and behind it.
+#[tactic(auto, using(crate::proofs::Pieces::three_put))]
 pub fn put_between(before: &[u8], s: &[u8], behind: &[u8], out: &mut Output)
     ensures { Put (before.now ++ s.now ++ behind.now) out.old out.new }
 {
@@ -17,18 +18,15 @@ pub fn put_between(before: &[u8], s: &[u8], behind: &[u8], out: &mut Output)
     out.put(behind);
 }
 
-// The path in a row's block, as much of it as there are places for.
+// The path in a row's block, as much of it as there are places for: how long it is stands at 7, and it begins at 8.
 fn path_of(block: &[u32; ROW_NUMBERS]) -> &[u32]
     ensures { result.now ≡ take (get_or block.now 7 0) (drop 8 block.now) }
 {
-    let len = block[7] as usize;
-    if len < as5506::PATH_PLACES {
-        return &block[8..8 + len];
-    }
-    &block[8..]
+    lent::part(block, 8, block[7] as usize)
 }
 
-// Prints a row from its block of numbers and its three names.
+// Prints a row from its block of numbers, which begins with its connection, kind, source and destination, and its three names.
+#[tactic(auto, using(crate::proofs::Pieces::row_put))]
 pub fn put_row(
     block: &[u32; ROW_NUMBERS],
     name: &[u8],
@@ -50,6 +48,7 @@ pub fn put_row(
 }
 
 // Prints `Z` and two numbers: of a list how many rows each listing has.
+#[tactic(auto, using(crate::proofs::Pieces::counts_put))]
 pub fn put_counts(first: usize, second: usize, out: &mut Output)
     ensures { Put (number_line (bytes_of "Z") (first ∷ second ∷ [])) out.old out.new }
 {

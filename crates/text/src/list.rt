@@ -1,11 +1,12 @@
 // The whole list, and a refusal.
 ghost use Rattle.std.specs.Prelude.{◌≡◌, map, drop};
 ghost use Rattle.as5506.specs.Lists.{each};
-ghost use Rattle.as5506.specs.Layout.{row_back, group_back, names_behind, diag_back};
-ghost use Rattle.as5506.specs.Text.{row_text, diag_text};
+ghost use Rattle.as5506.specs.Layout.{group_back, names_behind};
+ghost use Rattle.as5506.specs.Text.{row_text};
 ghost use Rattle.lent.specs.Model.{model};
+ghost use Rattle.lent.specs.Printed.{Printed};
 ghost use Rattle.output.specs.Put.{Put};
-ghost use Rattle.text.specs.Printing.{group_rows, refusal_of, Printed};
+ghost use Rattle.text.specs.Printing.{group_rows, traced_text, told_text, refusal_of};
 ghost use Rattle.text.specs.Listed.{listings_text};
 
 use super::{diagnostics, lines};
@@ -23,9 +24,10 @@ pub struct Listings<'a> {
     pub group_diagnostics: &'a [[u32; DIAGNOSTIC_NUMBERS]],
 }
 
-// Prints a traced row from its block, whose names stand in the tables.
+// Prints a traced row from its block, which has at 4 to 6 the names of the row, its source and its destination, as rows of the tables.
+#[tactic(auto, using(crate::proofs::Pieces::traced_row_put))]
 fn put_traced_row(m: &Tables, block: &[u32; ROW_NUMBERS], out: &mut Output)
-    ensures { Put (row_text (row_back (model m.now) block.now)) out.old out.new }
+    ensures { Put (traced_text (model m.now) block.now) out.old out.new }
 {
     let name = name::name_of(m, block[4]);
     let source = name::name_of(m, block[5]);
@@ -34,8 +36,9 @@ fn put_traced_row(m: &Tables, block: &[u32; ROW_NUMBERS], out: &mut Output)
 }
 
 // Prints the traced rows.
+#[tactic(auto, using(decimal::proofs::Each::printing_each))]
 fn put_traced(m: &Tables, rows: &[[u32; ROW_NUMBERS]], out: &mut Output)
-    ensures { Put (each (λ b. row_text (row_back (model m.now) b)) rows.now) out.old out.new }
+    ensures { Put (each (traced_text (model m.now)) rows.now) out.old out.new }
 {
     for block in rows {
         put_traced_row(m, block, out);
@@ -46,22 +49,20 @@ fn put_traced(m: &Tables, rows: &[[u32; ROW_NUMBERS]], out: &mut Output)
 fn behind(names: &[u8], len: u32) -> &[u8]
     ensures { result.now ≡ drop len names.now }
 {
-    let len = len as usize;
-    if len < names.len() {
-        &names[len..]
-    } else {
-        &[]
-    }
+    names.get(len as usize..).unwrap_or_default()
 }
 
-// What stands behind the three names of a group row.
+// What stands behind the three names of a group row, whose block has at 4 to 6 how long they are.
+#[tactic(auto, unfolding(as5506::specs::Layout::names_behind))]
 fn names_behind<'a>(block: &[u32; ROW_NUMBERS], names: &'a [u8]) -> &'a [u8]
     ensures { result.now ≡ names_behind block.now names.now }
 {
     behind(behind(behind(names, block[4]), block[5]), block[6])
 }
 
-// Prints a group row from its block, with whose names the composed names begin.
+// Prints a group row from its block, which has at 4 to 6 how long the names of the row, its source and its destination are: with these the composed names
+// begin.
+#[tactic(auto, using(crate::proofs::Pieces::group_row_put))]
 fn put_group_row(block: &[u32; ROW_NUMBERS], names: &[u8], out: &mut Output)
     ensures { Put (row_text (group_back block.now names.now)) out.old out.new }
 {
@@ -74,6 +75,7 @@ fn put_group_row(block: &[u32; ROW_NUMBERS], names: &[u8], out: &mut Output)
 }
 
 // Prints the group rows.
+#[tactic(auto, using(crate::proofs::Pieces::printing_rows))]
 fn put_group(rows: &[[u32; ROW_NUMBERS]], names: &[u8], out: &mut Output)
     ensures { Put (each row_text (group_rows rows.now names.now)) out.old out.new }
 {
@@ -85,36 +87,54 @@ fn put_group(rows: &[[u32; ROW_NUMBERS]], names: &[u8], out: &mut Output)
 }
 
 // Prints diagnostics.
+#[tactic(auto, using(decimal::proofs::Each::printing_each))]
 fn put_diagnostics(m: &Tables, list: &[[u32; DIAGNOSTIC_NUMBERS]], out: &mut Output)
-    ensures { Put (each (λ b. diag_text (model m.now) (diag_back b)) list.now) out.old out.new }
+    ensures { Put (each (told_text (model m.now)) list.now) out.old out.new }
 {
     for block in list {
         diagnostics::put_diagnostic(m, block, out);
     }
 }
 
-// Prints the list: traced rows, group rows, traced diagnostics, group diagnostics, and the number of rows of each listing. How many bytes it has,
-// one more than the output where that is too short.
-pub fn print_list(m: &Tables, list: &Listings, text: &mut [u8]) -> usize
+// Prints the list: traced rows, group rows, traced diagnostics, group diagnostics, and the number of rows of each listing.
+#[tactic(auto, using(crate::proofs::Pieces::list_put))]
+fn put_list(m: &Tables, list: &Listings, out: &mut Output)
+    ensures { Put (listings_text (model m.now) list.now) out.old out.new }
+{
+    put_traced(m, list.traced, out);
+    put_group(list.group, list.names, out);
+    put_diagnostics(m, list.diagnostics, out);
+    put_diagnostics(m, list.group_diagnostics, out);
+    lines::put_counts(list.traced.len(), list.group.len(), out);
+}
+
+// Prints the list: how many bytes it has, none where the output is too short.
+#[tactic(auto, using(crate::proofs::Pieces::printed_pieces))]
+pub fn print_list(m: &Tables, list: &Listings, text: &mut [u8]) -> Option<usize>
     ensures { Printed (listings_text (model m.now) list.now) text.old result text.new }
 {
     let mut out = Output::new(text);
-    put_traced(m, list.traced, &mut out);
-    put_group(list.group, list.names, &mut out);
-    put_diagnostics(m, list.diagnostics, &mut out);
-    put_diagnostics(m, list.group_diagnostics, &mut out);
-    lines::put_counts(list.traced.len(), list.group.len(), &mut out);
+    put_list(m, list, &mut out);
     out.done()
 }
 
-// Prints a refusal: `R`, its number, its place and the letter of its place. How many bytes it has, one more than the output where that is too short.
-pub fn print_refusal(refusal: Refusal, text: &mut [u8]) -> usize
+// Prints a refusal: `R`, its number, its place and the letter of its place.
+#[tactic(auto, using(crate::proofs::Pieces::refusal_put))]
+fn put_refusal(refusal: Refusal, out: &mut Output)
+    ensures { Put (refusal_of refusal) out.old out.new }
+{
+    out.put(b"R");
+    decimal::put_column(refusal.number as usize, out);
+    decimal::put_column(refusal.place as usize, out);
+    out.put(&[b' ', refusal.letter, b'\n']);
+}
+
+// Prints a refusal: how many bytes it has, none where the output is too short.
+#[tactic(auto, using(crate::proofs::Pieces::printed_pieces))]
+pub fn print_refusal(refusal: Refusal, text: &mut [u8]) -> Option<usize>
     ensures { Printed (refusal_of refusal) text.old result text.new }
 {
     let mut out = Output::new(text);
-    out.put(b"R");
-    decimal::put_column(refusal.number as usize, &mut out);
-    decimal::put_column(refusal.place as usize, &mut out);
-    out.put(&[b' ', refusal.letter, b'\n']);
+    put_refusal(refusal, &mut out);
     out.done()
 }

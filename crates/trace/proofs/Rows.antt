@@ -1,51 +1,42 @@
 -- The rows of chains behind a path: where a chain ends, and one step on. Assumes nothing.
 use mathlib.Core.Path.{◌≡◌, refl, sym, ap, ap₂, ◌∙◌}
 use mathlib.Core.List.{List, [], ◌∷◌, ◌++◌, map, append_assoc, append-nil}
-use Prim.Native.Nat.{ℕ, ◌+◌, ◌-◌, ◌*◌, ◌/◌, ◌<◌, ◌≤◌}
+use Prim.Native.Nat.{ℕ, ◌-◌, ◌<◌, ◌≤◌}
 use native.Mathlib.Omega.{arith}
 use lib.ListN.{length}
 use lib.Seq.{sets}
 use Rattle.std.specs.Prelude.{Option, Some, None}
-use Rattle.as5506.specs.Lists.{each, padded}
+use Rattle.as5506.specs.Lists.{each, padded, zeros}
 use Rattle.as5506.specs.Tables.{Tables, source, destination, x_name, x_kind}
 use Rattle.as5506.specs.Tables.{Side as TheSide}
 use Rattle.as5506.specs.Tracing.{Step as TheStep, Chain, Traced, stop, push, chains, append_new}
 use Rattle.as5506.specs.Layout.{traced_block, path_places, row_numbers}
 use Rattle.as5506.proofs.Laws.{each_append, padded-length, each-one}
-use Rattle.lent.proofs.Sets.{sets-append}
+use Rattle.lent.proofs.Sets.{sets-append, sets-whole}
 use Rattle.columns.specs.declared.Side.{Side}
 use Rattle.columns.specs.declared.Side.TheVariants.{Source, Destination}
 use Rattle.columns.specs.Side.{side_of}
 use Rattle.trace.specs.declared.steps.Step.{Step}
-use Rattle.trace.specs.declared.end.End.{End}
 use Rattle.trace.specs.Steps.{steps_from, after_step, Within}
-use Rattle.trace.specs.Ends.{the_end, behind, row_along, rows_at_end, rows_behind, Fits}
-use Rattle.trace.specs.Writing.{Written}
-use Rattle.trace.proofs.Writing.{Remains, written_all, remains-start, remains-turn, remains-full, remains-end}
+use Rattle.trace.specs.Ends.{the_end, behind, row_along, rows_at_end, rows_behind}
+use Rattle.output.specs.declared.blocks.Blocks.{Blocks}
+use Rattle.output.specs.Blocks.{Wrote}
+use Rattle.output.proofs.Writing.{Writing, wrote_as, writing_start, writing_turn, writing_full, writing_end}
 use Rattle.trace.proofs.Chains.{via, chains-on}
 
 -- ---- one row
 
--- the eight numbers in front of a row's places
-abbrev pub head : ℕ → ℕ → ℕ → ℕ → ℕ → ℕ → ℕ → ℕ → List ℕ
-head conn kind src dst name a b len = conn ∷ kind ∷ src ∷ dst ∷ name ∷ a ∷ b ∷ len ∷ []
-
-module _ (m : Tables) (x : ℕ) (s d : Chain) (path : List ℕ) (kind name len : ℕ) (places : List ℕ)
-    (j : path ≡ append_new s.path d.path) (k : kind ≡ x_kind m x) (n : name ≡ x_name m x) (l : len ≡ length path) (p : places ≡ padded path_places path) where
-  block-is : head x kind s.comp d.comp name s.feat d.feat len ++ places ≡ traced_block m (row_along m x s d)
-  unfolding traced_block row_along
-  block-is = rw (k, n, l, p, j)
-
-  pub row_written : (out : List ℕ) (count : ℕ) (out₁ out₂ : List ℕ) → len ≤ path_places → count < length out / row_numbers
-      → out₁ ≡ sets out (count * row_numbers) (head x kind s.comp d.comp name s.feat d.feat len) → out₂ ≡ sets out₁ (count * row_numbers + 8) places
-      → Written row_numbers (traced_block m) (row_along m x s d ∷ []) out count (Some (count + 1)) out₂
-  row_written out count out₁ out₂ h g e f =
-      let b : each (traced_block m) (row_along m x s d ∷ []) ≡ head x kind s.comp d.comp name s.feat d.feat len ++ places = append-nil (traced_block m (row_along m x s d)) ∙ sym block-is in
-      let z : length places ≡ path_places = ap length p ∙ padded-length path_places path (omega (arith, l)) in
-      written_all row_numbers (traced_block m) (row_along m x s d ∷ []) out count (count + 1) refl (omega arith) out₂
-      (ap length b ∙ omega (arith, z))
-      (f ∙ ap (λ (o : List ℕ). sets o (count * row_numbers + 8) places) e
-      ∙ sym (sets-append (head x kind s.comp d.comp name s.feat d.feat len) places out (count * row_numbers)) ∙ ap (sets out (count * row_numbers)) (sym b))
+-- eight numbers and the places behind them, as they are written into zeros, are the row's block
+pub row_is : (m : Tables) (x : ℕ) (s d : Chain) (path : List ℕ) (kind name len : ℕ) (places numbers : List ℕ)
+    → path ≡ append_new s.path d.path → kind ≡ x_kind m x → name ≡ x_name m x → len ≡ length path → len ≤ path_places → places ≡ padded path_places path
+    → numbers ≡ sets (sets (zeros row_numbers) 0 (x ∷ kind ∷ s.comp ∷ d.comp ∷ name ∷ s.feat ∷ d.feat ∷ len ∷ [])) 8 places
+    → numbers ≡ traced_block m (row_along m x s d)
+unfolding traced_block row_along
+row_is m x s d path kind name len places numbers j k n l h p e =
+    let head = x ∷ kind ∷ s.comp ∷ d.comp ∷ name ∷ s.feat ∷ d.feat ∷ len ∷ [] in
+    e ∙ sym (sets-append head places (zeros row_numbers) 0)
+    ∙ sets-whole (head ++ places) (zeros row_numbers) (omega (arith, ap length p, padded-length path_places path (omega (arith, l, h))))
+    ∙ rw (k, n, l, p, j) refl
 
 -- ---- chains behind a path
 
@@ -81,64 +72,56 @@ rows-any : (m : Tables) (x k h : ℕ) (o : Chain) (p : List ℕ) (es : List Chai
 unfolding rows_behind rows_at_end
 rows-any m x k h o p es = refl
 
-module _ (m : Tables) (x k : ℕ) (o : Chain) (p : List ℕ) (c f left : ℕ) (out : List ℕ) (count : ℕ) (q : Option ℕ) (out' : List ℕ) where
-  pub ends_destination : (side : Side) → side ≡ Destination → chains m (side_of side) left c f ≡ stop c f ∷ []
-      → Written row_numbers (traced_block m) (row_along m x o (the_end c f p) ∷ []) out count q out'
-      → Written row_numbers (traced_block m) (rows_behind m (side_of side) x k o p (chains m (side_of side) left c f)) out count q out'
-  ends_destination side e h w = rw (h, e, rows_last m x k o p c f) w
+module _ (m : Tables) (x k : ℕ) (o : Chain) (p : List ℕ) (c f left : ℕ) (side : Side) (e : chains m (side_of side) left c f ≡ stop c f ∷ [])
+    {out out' : Blocks row_numbers} {q : Option (Unit {0})} where
+  pub ends_destination : side ≡ Destination → Wrote (traced_block m) (row_along m x o (the_end c f p) ∷ []) out q out'
+      → Wrote (traced_block m) (rows_behind m (side_of side) x k o p (chains m (side_of side) left c f)) out q out'
+  ends_destination h v = wrote_as v (rw (e, h) (rows_last m x k o p c f))
 
-  pub ends_source : (side : Side) → side ≡ Source → chains m (side_of side) left c f ≡ stop c f ∷ []
-      → Written row_numbers (traced_block m) (rows_behind m destination x left (the_end c f p) o.path (chains m destination k o.comp o.feat)) out count q out'
-      → Written row_numbers (traced_block m) (rows_behind m (side_of side) x k o p (chains m (side_of side) left c f)) out count q out'
-  ends_source side e h w = rw (h, e, rows-over m x k o p c f, rows-any m x k left (the_end c f p) o.path (chains m destination k o.comp o.feat)) w
+  pub ends_source : side ≡ Source → Wrote (traced_block m) (rows_behind m destination x left (the_end c f p) o.path (chains m destination k o.comp o.feat)) out q out'
+      → Wrote (traced_block m) (rows_behind m (side_of side) x k o p (chains m (side_of side) left c f)) out q out'
+  ends_source h v = wrote_as v (rw (e, h) (rows-over m x k o p c f ∙ rows-any m x k left (the_end c f p) o.path (chains m destination k o.comp o.feat)))
 
 -- ---- the tracer's loop: `todo` are the steps that are left
 
 abbrev pub left_rows : Tables → TheSide → ℕ → ℕ → Chain → List ℕ → ℕ → List TheStep → List Traced
 left_rows m s x k o p left todo = rows_behind m s x k o p (each (via m s (left - 1)) todo)
 
-module _ (m : Tables) (s : TheSide) (x k : ℕ) (o : Chain) (p : List ℕ) (left c f : ℕ) (out₀ : List ℕ) (count : ℕ) where
+module _ (m : Tables) (s : TheSide) (x k : ℕ) (o : Chain) (p : List ℕ) (left c f : ℕ) (out₀ : Blocks row_numbers) where
   -- of the rows of the chains behind p, those of the steps that an answer stands for are still to be written
-  pub record Going (out : List ℕ) (done : ℕ) (next : Option Step) : Type 0 where
-    pub remains : Remains row_numbers (traced_block m) (rows_behind m s x k o p (chains m s left c f)) out₀ count out done (left_rows m s x k o p left (after_step m s c f next))
+  pub record Going (out : Blocks row_numbers) (next : Option Step) : Type 0 where
+    pub writing : Writing (traced_block m) (rows_behind m s x k o p (chains m s left c f)) out₀ out (left_rows m s x k o p left (after_step m s c f next))
     pub within : Within m next
 
-  pub going_start : (st : Step) → Within m (Some st) → count ≤ length out₀ / row_numbers → (0 < left) × (steps_from m s c f 0 None ≡ after_step m s c f (Some st)) → Going out₀ count (Some st)
-  going_start st v h b =
-      record { within = v; remains = rw (chains-on m s left c f b.0 _ _ b.1, b.1) (remains-start row_numbers (traced_block m) _ out₀ count h) }
+  pub going_start : (st : Step) → Within m (Some st) → (0 < left) × (steps_from m s c f 0 None ≡ after_step m s c f (Some st)) → Going out₀ (Some st)
+  going_start st v b =
+      record { within = v; writing = writing_start (ap (rows_behind m s x k o p) (chains-on m s left c f b.0 _ _ b.1 ∙ ap (each (via m s (left - 1))) b.1)) }
 
-  pub going_end : (out : List ℕ) (done : ℕ) (next : Option Step) → Going out done next → next ≡ None
-      → Written row_numbers (traced_block m) (rows_behind m s x k o p (chains m s left c f)) out₀ count (Some done) out
-  unfolding rows_behind
-  going_end out done next g e = remains-end row_numbers (traced_block m) _ out₀ count out done _ g.remains (ap (λ (q : Option Step). left_rows m s x k o p left (after_step m s c f q)) e)
+  module _ {out : Blocks row_numbers} {next : Option Step} (g : Going out next) where
+    pub going_end : next ≡ None → Wrote (traced_block m) (rows_behind m s x k o p (chains m s left c f)) out₀ (Some tt) out
+    unfolding rows_behind
+    going_end e = writing_end g.writing (ap (λ (q : Option Step). left_rows m s x k o p left (after_step m s c f q)) e)
 
-  module _ (out : List ℕ) (done : ℕ) (next : Option Step) (g : Going out done next) (st : Step) (e : next ≡ Some st) (p' : List ℕ) (l : p' ≡ p ++ (st.row ∷ []))
-      (q : Option ℕ) (out' : List ℕ) (w : Written row_numbers (traced_block m) (rows_behind m s x k o p' (chains m s (left - 1) st.child st.feature)) out done q out') where
-    split : left_rows m s x k o p left (after_step m s c f next)
-        ≡ rows_behind m s x k o p' (chains m s (left - 1) st.child st.feature) ++ left_rows m s x k o p left (steps_from m s c f st.row (Some st.child))
-    unfolding via
-    split =
-        ap (λ (q : Option Step). left_rows m s x k o p left (after_step m s c f q)) e
-        ∙ rows_append m s x k o p (map (push st.row) (chains m s (left - 1) st.child st.feature)) (each (via m s (left - 1)) (steps_from m s c f st.row (Some st.child)))
-        ∙ ap (λ (r : List Traced). r ++ left_rows m s x k o p left (steps_from m s c f st.row (Some st.child)))
-        (rows-along m s x k o p st.row (chains m s (left - 1) st.child st.feature)
-        ∙ ap (λ (r : List ℕ). rows_behind m s x k o r (chains m s (left - 1) st.child st.feature)) (sym l))
+    module _ {st : Step} (e : next ≡ Some st) {p' : List ℕ} (l : p' ≡ p ++ (st.row ∷ [])) {q : Option (Unit {0})} {out' : Blocks row_numbers}
+        (v : Wrote (traced_block m) (rows_behind m s x k o p' (chains m s (left - 1) st.child st.feature)) out q out') where
+      split : left_rows m s x k o p left (after_step m s c f next)
+          ≡ rows_behind m s x k o p' (chains m s (left - 1) st.child st.feature) ++ left_rows m s x k o p left (steps_from m s c f st.row (Some st.child))
+      unfolding via
+      split =
+          ap (λ (q : Option Step). left_rows m s x k o p left (after_step m s c f q)) e
+          ∙ rows_append m s x k o p (map (push st.row) (chains m s (left - 1) st.child st.feature)) (each (via m s (left - 1)) (steps_from m s c f st.row (Some st.child)))
+          ∙ ap (λ (r : List Traced). r ++ left_rows m s x k o p left (steps_from m s c f st.row (Some st.child)))
+          (rows-along m s x k o p st.row (chains m s (left - 1) st.child st.feature)
+          ∙ ap (λ (r : List ℕ). rows_behind m s x k o r (chains m s (left - 1) st.child st.feature)) (sym l))
 
-    pub going_on : (n : ℕ) (next' : Option Step) → Within m next' → q ≡ Some n → steps_from m s c f st.row (Some st.child) ≡ after_step m s c f next' → Going out' n next'
-    going_on n next' v h a =
-        record { within = v; remains = rw (← a) (remains-turn row_numbers (traced_block m) _ out₀ count out done _ g.remains _ _ split q out' w n h) }
+      pub going_on : q ≡ Some tt → {next' : Option Step} → Within m next' → steps_from m s c f st.row (Some st.child) ≡ after_step m s c f next' → Going out' next'
+      going_on h u a = record { within = u; writing = rw (← a) (writing_turn g.writing v _ split h) }
 
-    pub going_full : q ≡ None → Written row_numbers (traced_block m) (rows_behind m s x k o p (chains m s left c f)) out₀ count None out'
-    going_full = remains-full row_numbers (traced_block m) _ out₀ count out done _ g.remains _ _ split q out' w
+      pub going_full : q ≡ None → {z : Option (Unit {0})} → z ≡ None → Wrote (traced_block m) (rows_behind m s x k o p (chains m s left c f)) out₀ z out'
+      going_full = writing_full g.writing v _ split
 
 -- ---- the tracer ends: the source's steps, then the destination's
 
 abbrev pub phase : Side → ℕ
 phase Source = 1
 phase Destination = 0
-
--- ---- paths fit
-
-pub fits_on : (side : Side) (here deeper other : End) → Fits side here other → length deeper.path + deeper.left ≤ length here.path + here.left → Fits side deeper other
-fits_on Source here deeper other f h = f
-fits_on Destination here deeper other f h = omega (arith, f, h)

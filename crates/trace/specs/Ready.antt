@@ -1,5 +1,5 @@
--- What tracing asks of the tables and the output that it is lent. Assumes nothing.
-use Rattle.std.specs.Prelude.{List, ℕ, ◌/◌, ◌≤◌, length}
+-- What tracing asks of the tables that it is lent. Assumes nothing.
+use Rattle.std.specs.Prelude.{◌≤◌}
 use Rattle.as5506.specs.Tables.{Tables, c_count, x_count}
 
 -- The tables can be traced: they have few components and few connections, so that a row number fits a place of a path. A call hands this on as it is,
@@ -7,8 +7,3 @@ use Rattle.as5506.specs.Tables.{Tables, c_count, x_count}
 pub record Traceable (m : Tables) : Type 0 where
   pub components : c_count m ≤ 4096
   pub connections : x_count m ≤ 4096
-
--- and the first `count` blocks, of w numbers each, lie within the output: the next is written behind them
-pub record Ready (w : ℕ) (m : Tables) (out : List ℕ) (count : ℕ) : Type 0 where
-  pub tables : Traceable m
-  pub room : count ≤ length out / w

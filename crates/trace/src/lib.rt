@@ -7,5 +7,5 @@ mod tracer;
 
 pub use end::End;
 pub use path::Path;
-pub use steps::{Step, next_step};
+pub use steps::{Step, Steps};
 pub use tracer::trace;

@@ -1,18 +1,19 @@
 // The tracer: the rows of all chains that go on from an end.
 ghost use Rattle.std.specs.Prelude.{◌≡◌, [], ◌∷◌, ◌+◌, ◌≤◌, length};
 ghost use Rattle.as5506.specs.Tracing.{append_new, chains, step_limit};
-ghost use Rattle.as5506.specs.Layout.{traced_block, row_numbers};
+ghost use Rattle.as5506.specs.Layout.{traced_block};
 ghost use Rattle.lent.specs.Model.{model};
 ghost use Rattle.columns.specs.Side.{side_of};
 ghost use Rattle.trace.specs.Ends.{chain_places, end_of, row_along, rows_behind, Fits};
-ghost use Rattle.trace.specs.Writing.{Written};
-ghost use Rattle.trace.specs.Ready.{Ready};
+ghost use Rattle.output.specs.Blocks.{Wrote};
+ghost use Rattle.trace.specs.Ready.{Traceable};
 
 use crate::end::End;
-use crate::steps::{first_step, next_step};
+use crate::steps::Steps;
 use as5506::{CHAIN_PLACES, PATH_PLACES, ROW_NUMBERS};
 use columns::{Side, connection};
 use lent::Tables;
+use output::Blocks;
 use path::Path;
 
 // A row's path: the source's connections, then those of the destination that are not yet in it.
@@ -25,59 +26,70 @@ fn join(s: &Path<CHAIN_PLACES>, d: &Path<CHAIN_PLACES>) -> Path<PATH_PLACES>
     path
 }
 
-// Writes the row of a connection from a source end to a destination end, behind the first `count` rows of the output.
-fn put_row(m: &Tables, out: &mut [u32], conn: u32, s: &End, d: &End, count: usize) -> Option<usize>
+// The row of a connection from a source end to a destination end: eight numbers, then the places of its path.
+#[tactic(auto, using(crate::proofs::Rows::row_is))]
+fn row(m: &Tables, conn: u32, s: &End, d: &End) -> [u32; ROW_NUMBERS]
     requires { length d.now.path + d.now.left ≤ step_limit }
-    ensures { Written row_numbers (traced_block (model m.now)) (row_along (model m.now) conn (end_of s.now) (end_of d.now) ∷ []) out.old count result out.new }
+    ensures { result ≡ traced_block (model m.now) (row_along (model m.now) conn (end_of s.now) (end_of d.now)) }
 {
-    if out.len() / ROW_NUMBERS <= count {
-        return None;
-    }
     let path = join(&s.path, &d.path);
-    let row = conn as usize;
+    let i = conn as usize;
     let head = [
         conn,
-        connection::kind_of(m, row),
+        connection::kind_of(m, i),
         s.component,
         d.component,
-        connection::name_of(m, row),
+        connection::name_of(m, i),
         s.feature,
         d.feature,
         path.len() as u32,
     ];
-    let at = count * ROW_NUMBERS;
-    lent::put_all(out, at, &head);
-    lent::put_all(out, at + 8, path.places());
-    Some(count + 1)
+    let mut numbers = [0u32; ROW_NUMBERS];
+    lent::put_all(&mut numbers, 0, &head);
+    lent::put_all(&mut numbers, head.len(), path.places());
+    numbers
 }
 
-// Writes the rows of all chains that go on from `here` towards the side, behind its path, and behind the first `count` rows of the output. The source
-// comes first: then `other` is where the destination starts, and where a source chain has ended, the destination's chains go on from there. Of the
-// destination `other` is the source's end, and where a destination chain has ended, its row is written.
+// Writes that row.
+fn put_row(m: &Tables, out: &mut Blocks<ROW_NUMBERS>, conn: u32, s: &End, d: &End) -> Option<()>
+    requires { length d.now.path + d.now.left ≤ step_limit }
+    ensures { Wrote (traced_block (model m.now)) (row_along (model m.now) conn (end_of s.now) (end_of d.now) ∷ []) out.old result out.new }
+{
+    out.put(&row(m, conn, s, d))
+}
+
+// Writes the rows of all chains that go on from `here` towards the side, behind its path. The source comes first: then `other` is where the
+// destination starts, and where a source chain has ended, the destination's chains go on from there. Of the destination `other` is the source's end,
+// and where a destination chain has ended, its row is written. The steps are sought one behind the other, and are no iterator: it would have to be kept in
+// every deeper call.
 pub fn trace(
     m: &Tables,
-    out: &mut [u32],
+    out: &mut Blocks<ROW_NUMBERS>,
     side: Side,
     conn: u32,
     here: &End,
     other: &End,
-    count: usize,
-) -> Option<usize>
-    requires ready { Ready row_numbers (model m.now) out.old count }
+) -> Option<()>
+    requires ready { Traceable (model m.now) }
     requires fits { Fits side here.now other.now }
-    ensures { Written row_numbers (traced_block (model m.now))
+    ensures { Wrote (traced_block (model m.now))
         (rows_behind (model m.now) (side_of side) conn other.now.left (end_of other.now) here.now.path
         (chains (model m.now) (side_of side) here.now.left here.now.component here.now.feature))
-        out.old count result out.new }
+        out.old result out.new }
 {
-    let Some(first) = first_step(m, side, here.component, here.feature, here.left) else {
+    let steps = Steps {
+        m,
+        side,
+        component: here.component,
+        feature: here.feature,
+    };
+    let Some(first) = steps.first_step(here.left) else {
         return match side {
-            Side::Source => trace(m, out, Side::Destination, conn, other, here, count),
-            Side::Destination => put_row(m, out, conn, other, here, count),
+            Side::Source => trace(m, out, Side::Destination, conn, other, here),
+            Side::Destination => put_row(m, out, conn, other, here),
         };
     };
     let mut next = Some(first);
-    let mut done = count;
     while let Some(step) = next {
         let deeper = End {
             component: step.child as u32,
@@ -85,15 +97,8 @@ pub fn trace(
             path: here.path.with(step.row as u32),
             left: here.left - 1,
         };
-        done = trace(m, out, side, conn, &deeper, other, done)?;
-        next = next_step(
-            m,
-            side,
-            here.component,
-            here.feature,
-            step.row,
-            Some(step.child),
-        );
+        trace(m, out, side, conn, &deeper, other)?;
+        next = steps.next_step(step.row, Some(step.child));
     }
-    Some(done)
+    Some(())
 }

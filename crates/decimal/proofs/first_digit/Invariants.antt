@@ -1,4 +1,4 @@
--- `decimal::first_digit` meets its contract: the loop's invariant is `Subtracting`. Assumes nothing.
+-- `decimal::first_digit` meets its contract. The invariant: the byte has grown as often as the power was subtracted. Assumes nothing.
 use Rattle.decimal.proofs.Spelt.{Subtracting}
 use Rattle.decimal.proofs.first_digit.Given as goal
 

@@ -1,8 +1,6 @@
--- `decimal::put_digits` meets its contract: the loop's invariant is `Printing`: the digits of what is left are still to be printed. Assumes nothing.
-use Prim.Native.Nat.{◌^◌, ◌<◌}
-use Rattle.decimal.specs.Spelt.{spelt}
-use Rattle.output.proofs.Put.{Printing}
+-- `decimal::put_digits` meets its contract. The invariant: the last k digits are left to print. Assumes nothing.
+use Rattle.decimal.proofs.Spelt.{Spelling}
 use Rattle.decimal.proofs.put_digits.Given as goal
 
 abbrev pub invariant-loop-k : goal.invariant-loop-k
-invariant-loop-k l = (l.rest < 10 ^ l.k) × Printing (spelt l.count l.n) l.initial.out l.out (spelt l.k l.rest)
+invariant-loop-k l = Spelling l.count l.n l.initial.out l.out l.k l.rest

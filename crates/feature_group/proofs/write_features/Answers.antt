@@ -1,28 +1,27 @@
 -- `feature_group::write_features` meets its contract: too many visits, too many features, or all of them written. Assumes nothing.
-use mathlib.Core.Path.{refl}
-use native.Mathlib.Omega.{arith}
+use mathlib.Core.Path.{sym, ap, ◌∙◌}
 use Rattle.std.proofs.Common.{rules}
-use Rattle.lent.specs.Model.{model}
 use Rattle.sink.specs.Take.{Ready}
-use Rattle.group_walk.proofs.Calm.{passable-zeros}
-use Rattle.links.specs.Walk.{groups_of}
-use Rattle.feature_group.proofs.Answers.{writes-13, writes-11, writes-all}
+use Rattle.group_walk.proofs.Calm.{calm-zeros}
+use Rattle.feature_group.proofs.Answers.{writes_13, writes_11, writes_all}
 use Rattle.feature_group.proofs.write_features.Goals as goal
 
 pub visit-requires : goal.visit-requires
 unfolding Ready
-visit-requires c = record { ready = tt; deep = rw c.new.ensures (omega arith); passable = passable-zeros _ _ _ 45056 (omega arith, omega arith) }
+visit-requires c =
+    record { ready = tt; known = calm-zeros _ _ _ 45056 }
 
-pub returns-in_default : goal.returns-in_default
-returns-in_default c =
-    writes-13 (model c.args.m.now) (groups_of (model c.args.m.now) c.args.links.now) c.args.to c.args.inverse _ _ _ _ c.new.ensures c.visit.ensures.notes_after c.in_default.is _ c.from.ensures _
+pub returns-in_err-visits : goal.returns-in_err-visits
+returns-in_err-visits c =
+    writes_13 _ _ _ _ _ _ _ _ c.new-2.ensures c.visit.ensures.notes_after
+    _ c.from.ensures _ (sym c.ok_or.ensures.value ∙ c.in_err-visits.was) _ c.from_residual.ensures.1 _
 
-pub returns-then-sink-used : goal.returns-then-sink-used
-returns-then-sink-used c =
-    writes-11 (model c.args.m.now) (groups_of (model c.args.m.now) c.args.links.now) c.args.to c.args.inverse _ _ _ _ c.new.ensures c.visit.ensures.notes_after _ c.in-Some.is refl
-    c.if-sink-used.true _ c.from-then-sink-used.ensures _
+pub returns-in_err-used : goal.returns-in_err-used
+returns-in_err-used c =
+    writes_11 _ _ _ _ _ _ _ _ c.new-2.ensures c.visit.ensures.notes_after
+    _ _ (sym c.ok_or.ensures.value ∙ c.in_ok-visits.was) (ap (λ t. t.used) c.new.ensures) _ c.from-2.ensures _ (sym c.ok_or-2.ensures.value ∙ c.in_err-used.was) _ c.from_residual-in_err-used.ensures.1 _
 
 pub returns : goal.returns
 returns c =
-    writes-all (model c.args.m.now) (groups_of (model c.args.m.now) c.args.links.now) c.args.to c.args.inverse _ _ _ _ c.new.ensures c.visit.ensures.notes_after _ c.in-Some.is refl
-    c.if-sink-used.false _ (search rules)
+    writes_all _ _ _ _ _ _ _ _ c.new-2.ensures c.visit.ensures.notes_after
+    _ _ (sym c.ok_or.ensures.value ∙ c.in_ok-visits.was) (ap (λ t. t.used) c.new.ensures) _ _ (sym c.ok_or-2.ensures.value ∙ c.in_ok-used.was) _ (search rules)

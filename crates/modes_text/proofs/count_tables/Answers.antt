@@ -10,12 +10,8 @@ use Rattle.as5506.specs.Program.{modes_text}
 use Rattle.lent.specs.Model.{model}
 use Rattle.operation_modes.specs.Answer.{modes_told}
 use Rattle.operation_modes.specs.declared.Modes.{Modes}
-use Rattle.shown.proofs.Fits.{refusal-shown, text-shown}
+use Rattle.shown.proofs.Fits.{text-shown}
 use Rattle.modes_text.proofs.count_tables.Goals as goal
-
-pub returns-in-Err : goal.returns-in-Err
-unfolding modes_text
-returns-in-Err c = refusal-shown modes_told modes_line (modes_answer (model c.args.m.now)) _ c.count_selections.ensures _ c.in-Err.is c.tell.ensures
 
 pub returns-in-Ok : goal.returns-in-Ok
 unfolding modes_text modes_line

@@ -1,24 +1,16 @@
 -- `resolver::in_package` meets its contract. A row that is found is within its table, and one law of Steps for each hit. Assumes nothing.
-use native.Mathlib.Omega.{arith}
 use Rattle.lent.specs.Model.{model}
 use Rattle.columns.specs.Reference.{ref_of}
-use Rattle.resolver.proofs.Rows.{impl_row, type_row}
 use Rattle.resolver.proofs.Steps.{impl_some, type_some, group_some}
 use Rattle.resolver.proofs.in_package.Goals as goal
 
-pub field-private-requires : goal.field-private-requires
-field-private-requires c = (omega arith, omega arith, (impl_row (model c.args.m.now) c.args.«package» _ _ _ c.in_ok-row.ensures).0)
-
 pub returns-then-reference-ne-MISSING : goal.returns-then-reference-ne-MISSING
 returns-then-reference-ne-MISSING c =
-    impl_some (model c.args.m.now) c.args.own c.args.«package» (ref_of c.args.reference) c.if-reference-ne-MISSING.true _ _ _ c.in_ok-row.ensures c.field-private.ensures c.if_visible.ensures
-
-pub field-private-requires-in-Some : goal.field-private-requires-in-Some
-field-private-requires-in-Some c = (omega arith, omega arith, (type_row (model c.args.m.now) c.args.«package» _ _ c.in-Some.ensures).0)
+    impl_some (model c.args.m.now) c.args.own c.args.«package» (ref_of c.args.reference) c.if-reference-ne-MISSING.true _ _ _ c.in_ok-row.ensures c.field_at-private.ensures c.if_visible.ensures
 
 pub returns-in-Some : goal.returns-in-Some
 returns-in-Some c =
-    type_some (model c.args.m.now) c.args.own c.args.«package» (ref_of c.args.reference) c.if-reference-ne-MISSING.false _ _ _ c.in-Some.ensures c.field-private-in-Some.ensures c.if_visible-in-Some.ensures
+    type_some (model c.args.m.now) c.args.own c.args.«package» (ref_of c.args.reference) c.if-reference-ne-MISSING.false _ _ _ c.in-Some.ensures c.field_at-private-in-Some.ensures c.if_visible-in-Some.ensures
 
 pub returns : goal.returns
 returns c =

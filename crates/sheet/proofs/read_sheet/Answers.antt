@@ -1,16 +1,19 @@
 -- `sheet::read_sheet`: the tables are cleared, the answer is the check's, and where it is no refusal every table is written from the front of zeros.
 -- Assumes nothing.
-use Rattle.std.proofs.Common.{◌≡◌, ◌≤◌, [], length, sym, ap, ◌∙◌, arith}
+use Rattle.std.proofs.Common.{◌≡◌, ◌≤◌, ◌<◌, List, ℕ, [], true, length, sym, ap, ◌∙◌, arith}
 use Rattle.std.proofs.lemmas.List.Edits.{sets}
 use Rattle.std.proofs.lemmas.Result.{err_from_is_err_and}
 use Rattle.std.specs.Prelude.{Err}
-use Rattle.as5506.specs.Sheet.{Lent, lent_of, sheet_faults, tables_read, read_sheet}
+use Rattle.as5506.specs.Columns.{rank, letter_count}
+use Rattle.as5506.specs.Sheet.{Lent, lent_of, sheet_faults, lines_of, rows_read, tables_read, read_sheet}
 use Rattle.as5506.specs.Tables.{Tables, tables_of, Letter, letter_n, letter_c, letter_f, letter_x, letter_p, letter_i, letter_t, letter_q, letter_u, letter_e, letter_r, letter_m, table}
 use Rattle.as5506.proofs.Letters.{each-letter}
+use Rattle.sheet.proofs.Letters.{rank_below}
 use Rattle.sheet.proofs.Put.{left_on, left-fits, left-written}
+use Rattle.sheet.proofs.Rows.{rows-table}
 use Rattle.sheet.proofs.Whole.{sheet-short, sheet-in-order, lent_is, no-fault, refused-into, cleared-fits, cleared-bytes, read-into}
 use Rattle.sheet.specs.Read.{sheet_read}
-use Rattle.sheet.specs.Steps.{texts, Left}
+use Rattle.sheet.specs.Steps.{texts, in_order, Left}
 use Rattle.sheet.proofs.read_sheet.Goals as goal
 use Rattle.sheet.proofs.read_sheet.Goals.{After-clear_all, After-check_sheet, In_ok-counts, After-put_names-from_c, After-put_rows-from_f, After-put_rows-from_x, After-put_rows-from_p, After-put_rows-from_i, After-put_rows-from_t, After-put_rows-from_q, After-put_rows-from_u, After-put_rows-from_e, After-put_rows-from_r, After-put_rows-from_m}
 
@@ -79,82 +82,43 @@ put_names-from_c-requires c =
       room r letter_n,
     )
 
+-- what the pass of the letter l asks of the rest r that it begins at
+begins : (c : In_ok-counts) (l : Letter) (r : List ℕ) → 0 < rank l → Left c.args.sheet.now (rank l) r
+    → (0 < rank l) × (rank l < letter_count) × (in_order (rank l) (lines_of r) ≡ true) × (length (rows_read l (texts r)) ≤ length (table (cleared (goal.at.In_ok-counts c).After-clear_all) l))
+begins c l r p k = (p, rank_below l, k.order, left-fits _ _ l k _ (rw (← rows-table (texts c.args.sheet.now) l p) (room c l)))
+
 pub put_rows-from_f-requires : goal.put_rows-from_f-requires
-unfolding tables_read
-put_rows-from_f-requires c =
-    let g = goal.at.put_rows-from_f-requires c in
-    let k = left_c g.After-put_names-from_c in
-    (omega arith, omega arith, k.order, left-fits _ _ letter_c k _ (room g.In_ok-counts letter_c))
+put_rows-from_f-requires c = let g = goal.at.put_rows-from_f-requires c in begins g.In_ok-counts letter_c _ (omega arith) (left_c g.After-put_names-from_c)
 
 pub put_rows-from_x-requires : goal.put_rows-from_x-requires
-unfolding tables_read
-put_rows-from_x-requires c =
-    let g = goal.at.put_rows-from_x-requires c in
-    let k = left_f g.After-put_rows-from_f in
-    (omega arith, omega arith, k.order, left-fits _ _ letter_f k _ (room g.In_ok-counts letter_f))
+put_rows-from_x-requires c = let g = goal.at.put_rows-from_x-requires c in begins g.In_ok-counts letter_f _ (omega arith) (left_f g.After-put_rows-from_f)
 
 pub put_rows-from_p-requires : goal.put_rows-from_p-requires
-unfolding tables_read
-put_rows-from_p-requires c =
-    let g = goal.at.put_rows-from_p-requires c in
-    let k = left_x g.After-put_rows-from_x in
-    (omega arith, omega arith, k.order, left-fits _ _ letter_x k _ (room g.In_ok-counts letter_x))
+put_rows-from_p-requires c = let g = goal.at.put_rows-from_p-requires c in begins g.In_ok-counts letter_x _ (omega arith) (left_x g.After-put_rows-from_x)
 
 pub put_rows-from_i-requires : goal.put_rows-from_i-requires
-unfolding tables_read
-put_rows-from_i-requires c =
-    let g = goal.at.put_rows-from_i-requires c in
-    let k = left_p g.After-put_rows-from_p in
-    (omega arith, omega arith, k.order, left-fits _ _ letter_p k _ (room g.In_ok-counts letter_p))
+put_rows-from_i-requires c = let g = goal.at.put_rows-from_i-requires c in begins g.In_ok-counts letter_p _ (omega arith) (left_p g.After-put_rows-from_p)
 
 pub put_rows-from_t-requires : goal.put_rows-from_t-requires
-unfolding tables_read
-put_rows-from_t-requires c =
-    let g = goal.at.put_rows-from_t-requires c in
-    let k = left_i g.After-put_rows-from_i in
-    (omega arith, omega arith, k.order, left-fits _ _ letter_i k _ (room g.In_ok-counts letter_i))
+put_rows-from_t-requires c = let g = goal.at.put_rows-from_t-requires c in begins g.In_ok-counts letter_i _ (omega arith) (left_i g.After-put_rows-from_i)
 
 pub put_rows-from_q-requires : goal.put_rows-from_q-requires
-unfolding tables_read
-put_rows-from_q-requires c =
-    let g = goal.at.put_rows-from_q-requires c in
-    let k = left_t g.After-put_rows-from_t in
-    (omega arith, omega arith, k.order, left-fits _ _ letter_t k _ (room g.In_ok-counts letter_t))
+put_rows-from_q-requires c = let g = goal.at.put_rows-from_q-requires c in begins g.In_ok-counts letter_t _ (omega arith) (left_t g.After-put_rows-from_t)
 
 pub put_rows-from_u-requires : goal.put_rows-from_u-requires
-unfolding tables_read
-put_rows-from_u-requires c =
-    let g = goal.at.put_rows-from_u-requires c in
-    let k = left_q g.After-put_rows-from_q in
-    (omega arith, omega arith, k.order, left-fits _ _ letter_q k _ (room g.In_ok-counts letter_q))
+put_rows-from_u-requires c = let g = goal.at.put_rows-from_u-requires c in begins g.In_ok-counts letter_q _ (omega arith) (left_q g.After-put_rows-from_q)
 
 pub put_rows-from_e-requires : goal.put_rows-from_e-requires
-unfolding tables_read
-put_rows-from_e-requires c =
-    let g = goal.at.put_rows-from_e-requires c in
-    let k = left_u g.After-put_rows-from_u in
-    (omega arith, omega arith, k.order, left-fits _ _ letter_u k _ (room g.In_ok-counts letter_u))
+put_rows-from_e-requires c = let g = goal.at.put_rows-from_e-requires c in begins g.In_ok-counts letter_u _ (omega arith) (left_u g.After-put_rows-from_u)
 
 pub put_rows-from_r-requires : goal.put_rows-from_r-requires
-unfolding tables_read
-put_rows-from_r-requires c =
-    let g = goal.at.put_rows-from_r-requires c in
-    let k = left_e g.After-put_rows-from_e in
-    (omega arith, omega arith, k.order, left-fits _ _ letter_e k _ (room g.In_ok-counts letter_e))
+put_rows-from_r-requires c = let g = goal.at.put_rows-from_r-requires c in begins g.In_ok-counts letter_e _ (omega arith) (left_e g.After-put_rows-from_e)
 
 pub put_rows-from_m-requires : goal.put_rows-from_m-requires
-unfolding tables_read
-put_rows-from_m-requires c =
-    let g = goal.at.put_rows-from_m-requires c in
-    let k = left_r g.After-put_rows-from_r in
-    (omega arith, omega arith, k.order, left-fits _ _ letter_r k _ (room g.In_ok-counts letter_r))
+put_rows-from_m-requires c = let g = goal.at.put_rows-from_m-requires c in begins g.In_ok-counts letter_r _ (omega arith) (left_r g.After-put_rows-from_r)
 
 pub put_rows-requires : goal.put_rows-requires
-unfolding tables_read
-put_rows-requires c =
-    let g = goal.at.put_rows-requires c in
-    let k = left_m g.After-put_rows-from_m in
-    (omega arith, omega arith, k.order, left-fits _ _ letter_m k _ (room g.In_ok-counts letter_m))
+put_rows-requires c = let g = goal.at.put_rows-requires c in begins g.In_ok-counts letter_m _ (omega arith) (left_m g.After-put_rows-from_m)
 
 -- ---- the two ends
 pub returns-in_err-counts : goal.returns-in_err-counts

@@ -9,6 +9,6 @@ use Rattle.shown.proofs.print.Goals as goal
 
 pub returns : goal.returns
 returns g c = λ t says.
-    let k = c.printer-used.auto.arg2 ∙ c.fill.auto.self in
+    let k = c.printer-used.auto.arg2 ∙ c.clear.auto.text in
     shown_at (λ (n : ℕ). text_or_refusal (text_within n t)) k
-    (c.finish.ensures t _ (c.fill.ensures.after (λ y e. e) ∙ ap zeros (sym k)) (says _ _ _ c.printer-used.ensures))
+    (c.finish.ensures t _ (c.clear.ensures ∙ ap zeros (sym k)) (says _ _ _ c.printer-used.ensures))

@@ -1,20 +1,17 @@
 -- The cycle `visit`, `expand_type` and `walk_features` meets its contracts: levels left fall from visit to visit, and a visit that is known is
 -- passed over. Assumes nothing.
 use Rattle.std.proofs.Common.{◌+◌, ◌*◌}
-use Rattle.sink.specs.Take.{held, SameBuffers}
 use Rattle.group_walk.proofs.Parts.{Onward}
 use Rattle.group_walk.proofs.Walk.+expand_type_visit_walk_features.Given as goal
 
 abbrev pub decreases-expand_type : goal.decreases-expand_type
-decreases-expand_type l = 3 * l.left + 2
+decreases-expand_type l = 3 * l.at.now.left + 2
 
 abbrev pub decreases-visit : goal.decreases-visit
-decreases-visit l = 3 * l.left
+decreases-visit l = 3 * l.at.now.left
 
 abbrev pub decreases-walk_features : goal.decreases-walk_features
-decreases-walk_features l = 3 * l.left + 1
+decreases-walk_features l = 3 * l.at.now.left + 1
 
 abbrev pub invariant-walk_features-loop-i : goal.invariant-walk_features-loop-i
-invariant-walk_features-loop-i l =
-    SameBuffers l.initial.sink l.sink
-    × Onward l.self l.row l.inverse l.prefix l.left (held l.initial.sink) l.visits (held l.sink) l.calm l.seen l.i
+invariant-walk_features-loop-i l = Onward l.self l.row l.at l.initial.sink l.visits l.sink l.calm l.seen l.i

@@ -16,12 +16,12 @@ returns-in_default c = put_as (put_none _) (joined_none _ _ (omega (arith, c.in_
 
 pub loop-row-init : goal.loop-row-init
 loop-row-init c =
-    printing_turn (printing_start (joined_some _ _ c.in-len1-up.len_at_least)) (put_as c.put.ensures (sym c.mode_name.ensures)) refl
+    printing_turn (printing_start (joined_some _ _ c.in-len1-up.len_at_least)) (put_as c.put.ensures.put (sym c.mode_name.ensures)) refl
 
 pub loop-row-preserved : goal.loop-row-preserved
 loop-row-preserved c =
     printing_next (behind (model c.args.m.now)) _ _ 0 c.loop-row.invariant c.loop-row-test.true
-    (put_as (c.put-in-loop-row.ensures ▷ c.put-in-loop-row-2.ensures) (ap (λ (l : List ℕ). underscore ∷ l) (sym c.mode_name-in-loop-row.ensures)))
+    (put_as (c.put-in-loop-row.ensures.put ▷ c.put-in-loop-row-2.ensures.put) (ap (λ (l : List ℕ). underscore ∷ l) (sym c.mode_name-in-loop-row.ensures)))
 
 pub returns : goal.returns
 returns c = printing_end c.loop-row.invariant (ap (each (behind (model c.args.m.now))) (drop_of_length-le _ c.loop-row-test.false))

@@ -1,10 +1,9 @@
--- `semantic::Connection::put` meets its contract. The block that is written is the diagnostic's. Assumes nothing.
-use Rattle.semantic.proofs.DiagLaws.{put-written}
-use Rattle.trace.proofs.Writing.{written_over}
+-- `semantic::Connection::put` meets its contract: the block that is put is the diagnostic's. Assumes nothing.
+use mathlib.Core.Path.{refl}
+use Rattle.as5506.specs.Layout.{diag_block}
+use Rattle.output.proofs.Writing.{wrote_block}
 use Rattle.semantic.proofs.Connection.put.Goals as goal
 
-pub returns-then-out-count : goal.returns-then-out-count
-returns-then-out-count c = written_over _ _ _ _ _ c.if-out-count.true
-
 pub returns : goal.returns
-returns c = put-written _ _ _ _ _ _ _ _ c.code.ensures c.if-out-count.false c.put_all.ensures
+unfolding diag_block
+returns c = wrote_block c.put.ensures (rw c.code.ensures refl)

@@ -1,10 +1,10 @@
 -- `semantic::Connection::trace` meets its contract. Assumes nothing.
-use Rattle.semantic.proofs.PairLaws.{rows-faulty, rows-neither}
-use Rattle.semantic.proofs.Parts.{nothing}
+use Rattle.output.proofs.Writing.{wrote_none}
+use Rattle.semantic.proofs.PairLaws.{rows_faulty, rows_neither}
 use Rattle.semantic.proofs.Connection.trace.Goals as goal
 
 pub returns-in-Faulty : goal.returns-in-Faulty
-returns-in-Faulty c = nothing _ _ _ _ _ (rows-faulty _ _ _ c.shape.ensures c.in-Faulty.is) c.requires
+returns-in-Faulty c = search (wrote_none, rows_faulty)
 
 pub returns-in-Neither : goal.returns-in-Neither
-returns-in-Neither c = nothing _ _ _ _ _ (rows-neither _ _ _ c.shape.ensures c.in-Neither.is) c.requires
+returns-in-Neither c = search (wrote_none, rows_neither)

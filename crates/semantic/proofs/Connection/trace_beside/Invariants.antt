@@ -2,8 +2,8 @@
 use Rattle.as5506.specs.Tracing.{named}
 use Rattle.semantic.specs.Rows.{rows_beside}
 use Rattle.columns.specs.Side.{side_of}
-use Rattle.trace.proofs.Writing.{Remains}
-use Rattle.as5506.specs.Layout.{traced_block, row_numbers}
+use Rattle.output.proofs.Writing.{Writing}
+use Rattle.as5506.specs.Layout.{traced_block}
 use Rattle.lent.specs.Model.{model}
 use Rattle.children.specs.Found.{tables_of, children_left}
 use mathlib.Core.Path.{◌≡◌}
@@ -14,6 +14,5 @@ invariant-loop-i l =
     let m = model l.self.m.now in
     record {
       same : tables_of l.i-iterator ≡ m;
-      rows : Remains row_numbers (traced_block m) (rows_beside m l.self.row (side_of l.side) l.far (named m (side_of l.side) l.self.row)) l.initial.out l.count
-          l.out l.done (rows_beside m l.self.row (side_of l.side) l.far (children_left l.i-iterator));
+      rows : Writing (traced_block m) (rows_beside m l.self.row (side_of l.side) l.far (named m (side_of l.side) l.self.row)) l.initial.out l.out (rows_beside m l.self.row (side_of l.side) l.far (children_left l.i-iterator));
     }

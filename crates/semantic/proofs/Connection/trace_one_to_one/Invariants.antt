@@ -2,8 +2,8 @@
 use Rattle.as5506.specs.Tracing.{named}
 use Rattle.semantic.specs.Rows.{rows_zip}
 use Rattle.as5506.specs.Tables.{source, destination}
-use Rattle.trace.proofs.Writing.{Remains}
-use Rattle.as5506.specs.Layout.{traced_block, row_numbers}
+use Rattle.output.proofs.Writing.{Writing}
+use Rattle.as5506.specs.Layout.{traced_block}
 use Rattle.lent.specs.Model.{model}
 use Rattle.children.specs.Found.{tables_of, children_left}
 use Rattle.std.specs.Iterator.Adapters.{zip_first, zip_second}
@@ -16,6 +16,5 @@ invariant-loop-a l =
     record {
       sources : tables_of (zip_first l.a-iterator) ≡ m;
       destinations : tables_of (zip_second l.a-iterator) ≡ m;
-      rows : Remains row_numbers (traced_block m) (rows_zip m l.self.row (named m source l.self.row) (named m destination l.self.row)) l.initial.out l.count
-          l.out l.done (rows_zip m l.self.row (children_left (zip_first l.a-iterator)) (children_left (zip_second l.a-iterator)));
+      rows : Writing (traced_block m) (rows_zip m l.self.row (named m source l.self.row) (named m destination l.self.row)) l.initial.out l.out (rows_zip m l.self.row (children_left (zip_first l.a-iterator)) (children_left (zip_second l.a-iterator)));
     }

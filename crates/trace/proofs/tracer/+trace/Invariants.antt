@@ -13,7 +13,7 @@ decreases-trace l = phase l.side * chain_places + l.here.now.left
 
 abbrev pub invariant-loop-next : goal.invariant-loop-next
 invariant-loop-next l =
-    Going (model l.m) (side_of l.side) l.conn l.other.left (end_of l.other) l.here.path l.here.left l.here.component l.here.feature l.initial.out l.count l.out l.done l.next
+    Going (model l.m) (side_of l.side) l.conn l.other.left (end_of l.other) l.here.path l.here.left l.here.component l.here.feature l.initial.out l.out l.next
 
 abbrev pub decreases-loop-next : goal.decreases-loop-next
 decreases-loop-next l = length (after_step (model l.m) (side_of l.side) l.here.component l.here.feature l.next)
