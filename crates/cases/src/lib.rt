@@ -1,4 +1,4 @@
-// Reads stored cases, for the programs that replay them, and prints what they print of each: a case begins with `V`, and a number stands in six columns
+// Reads stored cases, for the programs that replay them, and prints their texts: a case begins with `V`, and a number stands in six columns
 // as in a sheet. Each function takes the reader, or the printer; the programs hand over standard input and output.
 #![tactic(auto)]
 
@@ -36,11 +36,6 @@ pub fn replay_all<R: Read, F: Fn(&mut R)>(input: &mut R, replay: F)
 // Prints a text as it is.
 pub fn print(rt: &impl Print, text: &[u8]) {
     let _ = rt.write_all(text);
-}
-
-// Prints a space and the number.
-pub fn print_number(rt: &impl Print, n: u64) {
-    let _ = print!(rt; " {n}");
 }
 
 // The next number; `-` is a missing one.

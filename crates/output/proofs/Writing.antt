@@ -3,7 +3,8 @@
 use mathlib.Core.Path.{◌≡◌, refl, sym, ap, ap₂, ◌∙◌, subst}
 use mathlib.Core.List.{List, [], ◌∷◌, ◌++◌, append-nil}
 use Prim.Native.Nat.{ℕ, zero, suc, ◌+◌, ◌-◌, ◌*◌, ◌/◌, ◌≤◌, ◌<◌}
-use native.Mathlib.Nat.{add-mul, add-zero, zero-mul}
+use native.Mathlib.Nat.{add-mul, add-zero, zero-mul, one-mul}
+use Rattle.std.proofs.Math.Nat.{le-div_iff_mul-le, div-lt_iff_lt-mul}
 use native.Mathlib.Omega.{arith}
 use lib.ListN.{length, length-append, take}
 use lib.Seq.{sets, length-sets, take_all, take-nil, take-append-le, take-append-add}
@@ -132,14 +133,25 @@ module _ {A : Type 0} {w : ℕ} {f : A → List ℕ} where
 -- ---- the same of a `Blocks`
 
 module _ {w : ℕ} where
+  -- the blocks that stand there lie within
+  within : (b : Blocks w) → b.count ≤ length b.numbers.now / w
+  within b = (le-div_iff_mul-le b.sized).1 b.inside
+
   -- a block that is put, or finds no room
   module _ (block : List ℕ) (b : Blocks w) where
-    pub put_over : length b.numbers.now / w ≤ b.count → Wrote itself (block ∷ []) b None b
-    put_over h = record { same = refl; written = written_over block b.numbers.now b.count h; full = λ e. omega (arith, h, b.inside) }
+    pub put_over : length b.numbers.now - b.count * w < w → Wrote itself (block ∷ []) b None b
+    put_over h =
+        let n : (b.count + 1) * w ≡ b.count * w + w = add-mul b.count 1 w ∙ ap (λ (k : ℕ). b.count * w + k) (one-mul w) in
+        let less : length b.numbers.now / w < b.count + 1 = (div-lt_iff_lt-mul b.sized).1 (omega (arith, h, n, b.inside)) in
+        let over : length b.numbers.now / w ≤ b.count = omega (arith, less) in
+        record { same = refl; written = written_over block b.numbers.now b.count over; full = λ e. omega (arith, over, within b) }
 
-    pub put_one : (b' : Blocks w) → b'.numbers.ghost_name ≡ b.numbers.ghost_name → length block ≡ w → b.count < length b.numbers.now / w
+    pub put_one : (b' : Blocks w) → b'.numbers.ghost_name ≡ b.numbers.ghost_name → length block ≡ w → w ≤ length b.numbers.now - b.count * w
         → b'.numbers.now ≡ sets b.numbers.now (b.count * w) block → b'.count ≡ b.count + 1 → Wrote itself (block ∷ []) b (Some tt) b'
-    put_one b' n s h u k = record { same = n; written = rw k (written_one block b.numbers.now b.count s h u); full = λ e. absurd (none-some tt (sym e)) }
+    put_one b' n s h u k =
+        let m : (b.count + 1) * w ≡ b.count * w + w = add-mul b.count 1 w ∙ ap (λ (k : ℕ). b.count * w + k) (one-mul w) in
+        let room : b.count < length b.numbers.now / w = (le-div_iff_mul-le b.sized).1 (omega (arith, h, m, b.inside)) in
+        record { same = n; written = rw k (written_one block b.numbers.now b.count s room u); full = λ e. absurd (none-some tt (sym e)) }
 
 module _ {A : Type 0} {w : ℕ} {f : A → List ℕ} where
   -- what stands in the output that was lent
@@ -149,7 +161,7 @@ module _ {A : Type 0} {w : ℕ} {f : A → List ℕ} where
 
   -- nothing
   pub wrote_none : {l : List A} (b : Blocks w) → l ≡ [] → Wrote f l b (Some tt) b
-  wrote_none b e = rw e (record { same = refl; written = written_none b.numbers.now b.count b.inside; full = λ h. absurd (none-some tt (sym h)) })
+  wrote_none b e = rw e (record { same = refl; written = written_none b.numbers.now b.count (within b); full = λ h. absurd (none-some tt (sym h)) })
 
   module _ {b b₁ : Blocks w} {q : Option (Unit {0})} where
     -- the same entries

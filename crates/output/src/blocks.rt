@@ -1,5 +1,5 @@
 // Blocks of numbers, written one behind the other into an output that is lent for them.
-ghost use Rattle.std.specs.Prelude.{◌≡◌, [], ◌∷◌, ◌/◌, ◌≤◌, ◌<◌, length};
+ghost use Rattle.std.specs.Prelude.{◌≡◌, [], ◌∷◌, ◌*◌, ◌≤◌, ◌<◌, length};
 
 // Blocks of N numbers, one behind the other, in an output that is lent for them, and how many of them stand there.
 #[derive(Drop)]
@@ -7,7 +7,7 @@ pub struct Blocks<'a, const N: usize> {
     numbers: &'a mut [u32],
     count: usize,
     ghost sized: { 0 < N },
-    ghost inside: { count ≤ length numbers.now / N },
+    ghost inside: { count * N ≤ length numbers.now },
 }
 
 impl<'a, const N: usize> Blocks<'a, N> {
@@ -25,7 +25,7 @@ impl<'a, const N: usize> Blocks<'a, N> {
     pub fn put(&mut self, block: &[u32; N]) -> Option<()>
         ensures { Wrote itself (block.now ∷ []) self.old result self.new }
     {
-        if self.numbers.len() / N <= self.count {
+        if self.numbers.len() - self.count * N < N {
             return None;
         }
         lent::put_all(self.numbers, self.count * N, block);
