@@ -1,8 +1,10 @@
-// Reads stored cases, for the programs that replay them, and prints their texts: a case begins with `V`, and a number stands in six columns
-// as in a sheet. Each function takes the reader, or the printer; the programs hand over standard input and output.
+// Reads stored cases, for the programs that replay them: a case begins with `V`, and a number stands in six columns as in a sheet. Each function takes
+// the reader; the programs hand over standard input.
 #![tactic(auto)]
 
-ghost use Rattle.std.specs.Prelude.{◌≡◌, ◌≤◌, min, length, drop};
+ghost use Rattle.std.specs.Prelude.{◌≡◌, ◌≤◌, ◌==◌, ◌⊎◌, ℕ, min, length, drop};
+ghost use Rattle.stdio.specs.{Lost};
+ghost use Rattle.cases.specs.{Begins, Taken};
 
 use fields::Mark;
 use std::io::Read;
@@ -10,20 +12,27 @@ use std::io::Read;
 const LINE_FEED: u8 = 10;
 
 // The next byte, a line feed at the end of the file.
-pub fn byte<R: Read>(input: &mut R) -> u8 {
+pub fn byte<R: Read>(input: &mut R) -> u8
+    ensures { Taken (R.remaining input.old) (R.remaining input.new) result }
+{
     let mut byte = [LINE_FEED; 1];
-    let _ = stdio::read_full(input, &mut byte);
-    byte[0]
+    match stdio::read_full(input, &mut byte) {
+        Ok(1) => byte[0],
+        _ => LINE_FEED,
+    }
 }
 
-// Whether a case begins here; at the end of the file none does.
-pub fn begins<R: Read>(input: &mut R) -> bool {
+// Whether a case begins here; at the end of the file none does. (No kind: a byte of the stored cases.)
+pub fn begins<R: Read>(input: &mut R) -> bool
+    ensures { (b : ℕ) × Taken (R.remaining input.old) (R.remaining input.new) b × (result ≡ (b == 86)) }
+{
     byte(input) == b'V'
 }
 
-// Hands the reader to `replay` behind the `V` of each case, until none begins.
+// Hands the reader to `replay` behind the `V` of each case, until none begins: where none does, it takes a byte at most.
 pub fn replay_all<R: Read, F: Fn(&mut R)>(input: &mut R, replay: F)
     requires { F.IsAlwaysCallable replay }
+    ensures { Begins (R.remaining input.old) ⊎ Lost (R.remaining input.old) (R.remaining input.new) 1 }
 {
     for _ in 0..u64::MAX {
         if !begins(input) {
@@ -31,11 +40,6 @@ pub fn replay_all<R: Read, F: Fn(&mut R)>(input: &mut R, replay: F)
         }
         replay(input);
     }
-}
-
-// Prints a text as it is.
-pub fn print(rt: &impl Print, text: &[u8]) {
-    let _ = rt.write_all(text);
 }
 
 // The next number; `-` is a missing one.

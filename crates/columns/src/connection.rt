@@ -40,7 +40,7 @@ pub fn subcomponent_of(m: &Tables, side: Side, i: usize) -> u32
     }
 }
 
-// The feature that it names on a side, or missing.
+// The feature that it names on a side, or missing. By cases, as `subcomponent_of`.
 pub fn feature_of(m: &Tables, side: Side, i: usize) -> u32
     ensures { result ≡ x_feat (model m.now) (side_of side) i }
 {

@@ -44,7 +44,7 @@ impl Mark {
     }
 }
 
-// What follows the spaces in front.
+// What follows the spaces in front. No `for`: it ends at the first byte that is no space.
 #[tactic(auto, using(crate::proofs::Laws::space_laws))]
 fn unspaced(f: &[u8]) -> &[u8]
     ensures { result.now ≡ unspaced f.now }
@@ -72,6 +72,7 @@ fn digits(s: &[u8]) -> Option<u64>
 }
 
 // The same where there is a digit at all, and a 0 in front stands alone: a number that stands by itself, without columns, as an argument of a program.
+// By cases of the bytes: it asks how they begin, and converts nothing.
 #[tactic(auto, using(crate::proofs::Laws::number_laws))]
 pub fn number_in(s: &[u8]) -> Option<u64>
     ensures { result ≡ then_some (is_number s.now) (decimal_from 0 s.now) }

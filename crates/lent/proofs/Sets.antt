@@ -4,7 +4,6 @@ use mathlib.Core.Path.{◌≡◌, refl, sym, ap, ◌∙◌}
 use mathlib.Core.List.{List, [], ◌∷◌, ◌++◌, append-nil, append_assoc}
 use Prim.Native.Nat.{min, ℕ, zero, suc, ◌+◌, ◌-◌, ◌≤◌, ◌<◌}
 use native.Mathlib.Nat.{add-zero, add-suc, suc-add, sub-zero, zero-sub, suc-sub-suc}
-use native.Mathlib.Numerals.{add-one}
 use native.Mathlib.Omega.{arith}
 use lib.ListN.{length, take, drop, get_or, set, length-set, drop_of_length-le}
 use borrow.Rule.Slice.PartMut.{put_mid}
@@ -12,7 +11,7 @@ use native.Mathlib.Decide.{dec_le}
 use Rattle.std.proofs.Math.Nat.{min-le_left, min-le_right, min-eq_left, min-eq_right}
 use Rattle.std.proofs.lemmas.List.{length-take-le}
 use lib.Seq.{drop-drop, take-length}
-use lib.Seq.{sets, sets-eq, length-sets, drop-cons, set_out, get_or-set_other, take-set-le, drop-set-lt, take-nil}
+use lib.Seq.{sets, sets-eq, set_out, get_or-set_other, take-set-le, drop-set-lt, take-nil}
 use Rattle.as5506.specs.Lists.{zeros}
 
 -- ---- writing
@@ -22,10 +21,6 @@ pub sets-append : {A : Type 0} (vs ws l : List A) (i : ℕ) → sets l i (vs ++ 
 sets-append [] ws l i = ap (λ (k : ℕ). sets l k ws) (sym (add-zero i))
 sets-append (v ∷ vs) ws l i =
     sets-append vs ws (set l i v) (suc i) ∙ ap (λ (k : ℕ). sets (sets (set l i v) (suc i) vs) k ws) (suc-add i (length vs) ∙ sym (add-suc i (length vs)))
-
--- one place of the block is written, and the rest of it is left to write: the turn of a loop
-pub sets-step : (vs l : List ℕ) (i j : ℕ) → j < length vs → sets l i (drop j vs) ≡ sets (set l i (get_or vs j 0)) (i + 1) (drop (j + 1) vs)
-sets-step vs l i j h = rw (add-one i, add-one j, drop-cons vs j 0)
 
 -- past the end nothing is written
 pub sets-past : {A : Type 0} (vs l : List A) (i : ℕ) → length l ≤ i → sets l i vs ≡ l
@@ -80,13 +75,6 @@ sets-before (v ∷ vs) l n i h = sets-before vs (set l i v) n (suc i) (omega ari
 pub sets_behind : (vs l : List ℕ) (n i : ℕ) → i + length vs ≤ n → drop n (sets l i vs) ≡ drop n l
 sets_behind [] l n i h = refl
 sets_behind (v ∷ vs) l n i h = sets_behind vs (set l i v) n (suc i) (omega arith) ∙ drop-set-lt n l i v (omega arith)
-
--- a block written over another of its length
-pub sets-again : (vs ws l : List ℕ) → length vs ≡ length ws → length ws ≤ length l → sets (sets l 0 vs) 0 ws ≡ sets l 0 ws
-sets-again vs ws l e h =
-    sets-eq ws (sets l 0 vs) 0 (omega (arith, h, length-sets l 0 vs))
-    ∙ ap (λ (r : List ℕ). ws ++ r) (sets_behind vs l (0 + length ws) 0 (omega (arith, e)))
-    ∙ sym (sets-eq ws l 0 (omega (arith, h)))
 
 -- ---- zeros
 

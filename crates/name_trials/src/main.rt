@@ -3,7 +3,6 @@
 // three rows and a half), then the bytes of both texts. A missing number is the largest row, and as a place the largest place.
 #![tactic(auto)]
 
-use cases::print;
 use lent::Tables;
 use name::ConnectionPattern;
 use std::io::Read;
@@ -13,17 +12,22 @@ const BYTES: usize = 100;
 // How long an output is.
 const LENT: usize = 9;
 
-// A space and the number. (Not in `cases`: the library's printing of numbers, which divides, stands in programs that replay cases alone.)
+// A space and the number. (Not in `cases`: the library's printing, which divides, stands in programs that replay cases alone.)
 fn print_number(rt: &impl Print, n: u64) {
     let _ = print!(rt; " {n}");
 }
 
+// A space and the word.
+fn print_word(rt: &impl Print, word: &str) {
+    let _ = print!(rt; " {word}");
+}
+
 fn print_flag(rt: &impl Print, yes: bool) {
-    print(rt, if yes { b" yes" } else { b" no" });
+    print_word(rt, if yes { "yes" } else { "no" });
 }
 
 fn print_all<T: Copy + Into<u64>>(rt: &impl Print, values: &[T]) {
-    print(rt, b" /");
+    print_word(rt, "/");
     for value in values {
         print_number(rt, (*value).into());
     }
@@ -31,8 +35,8 @@ fn print_all<T: Copy + Into<u64>>(rt: &impl Print, values: &[T]) {
 
 fn print_pattern(rt: &impl Print, p: ConnectionPattern) {
     match p {
-        ConnectionPattern::OneToOne => print(rt, b" one"),
-        ConnectionPattern::AllToAll => print(rt, b" all"),
+        ConnectionPattern::OneToOne => print_word(rt, "one"),
+        ConnectionPattern::AllToAll => print_word(rt, "all"),
     }
 }
 
@@ -55,6 +59,7 @@ fn try_names(rt: &impl Print, a: &[u8], b: &[u8]) {
     print_pattern(rt, name::parse_connection_pattern(a));
 }
 
+// Of the two tables that a case has, and no struct: it is made here, for the calls.
 fn try_rows(rt: &impl Print, bytes: &[u8], n: &[u32], j: u32, k: u32) {
     let none: &[u32] = &[];
     let m = Tables {
@@ -105,15 +110,15 @@ fn try_writes<T: Copy + Into<u64>>(
 
 fn replay(rt: &impl Print, a: &[u8], b: &[u8], j: u32, k: u32, n: &[u32]) {
     let at = place_of(j);
-    print(rt, b"names");
+    let _ = print!(rt; "names");
     try_names(rt, a, b);
-    print(rt, b" rows");
+    print_word(rt, "rows");
     try_rows(rt, a, n, j, k);
-    print(rt, b" reads");
+    print_word(rt, "reads");
     try_reads(rt, a, n, at, place_of(k));
-    print(rt, b" numbers");
+    print_word(rt, "numbers");
     try_writes(rt, &mut [7; LENT], &mut [0; LENT], at, k, n);
-    print(rt, b" bytes");
+    print_word(rt, "bytes");
     try_writes(
         rt,
         &mut [7; LENT],
@@ -122,7 +127,7 @@ fn replay(rt: &impl Print, a: &[u8], b: &[u8], j: u32, k: u32, n: &[u32]) {
         lent::get_or(a, 0, 0),
         b,
     );
-    print(rt, b"\n");
+    let _ = println!(rt);
 }
 
 // Reads a case and replays it.

@@ -1,6 +1,6 @@
 -- The answers and outputs of the two calls, case by case. Assumes nothing.
 use mathlib.Core.Bool.{false}
-use mathlib.Core.Path.{◌≡◌, refl, sym, ap, ap₂, ◌∙◌, subst}
+use mathlib.Core.Path.{◌≡◌, refl, sym, ap, ap₂, ◌∙◌}
 use mathlib.Core.List.{List, [], ◌∷◌}
 use Prim.Native.Nat.{ℕ, ◌≤◌}
 use lib.Dec.{T}
@@ -13,7 +13,7 @@ use Rattle.as5506.specs.Answers.{Refusal, Answer, given, refused, handed}
 use Rattle.as5506.specs.Refusals.{faults, accepted}
 use Rattle.as5506.specs.Modes.{modes_counted, modes_on, modes_answer, Selection, selection_on, selection_answer}
 use Rattle.as5506.proofs.Laws.{zeros-length}
-use Rattle.as5506.proofs.Answers.{is_given}
+use Rattle.as5506.proofs.Answers.{is_given, came-given}
 use Rattle.lent.proofs.Answered.{refused-in, keeps}
 use Rattle.tables.specs.Answer.{Checked, checked}
 use Rattle.tables.proofs.Answers.{accepted-is, refused-is}
@@ -74,12 +74,6 @@ module _ (m : Tables) where
             in-name = refused-in selected_name wanted name name' s.0 i;
           }
 
--- ---- cases of an answer
-
-pub came-given : (a : Answer Selection) → is_err (handed selected a) ≡ false → T (is_given a)
-came-given (given s) h = tt
-came-given (refused r) h = absurd (subst T h tt)
-
 -- ---- THE CALL: rows and name are the outputs at entry, rows₁ and name₁ the cleared ones, rows₂ and name₂ what was written into them
 
 module _ (m : Tables) (k : ℕ) (rows name rows₁ name₁ : List ℕ) (e : rows₁ ≡ zeros (length rows)) (f : name₁ ≡ zeros (length name)) (z : Result Selected Told) (rows₂ name₂ : List ℕ)
@@ -95,7 +89,7 @@ module _ (m : Tables) (k : ℕ) (rows name rows₁ name₁ : List ℕ) (e : rows
 
   pub given_call : is_err z ≡ false → SelectedInto m k rows name z rows₂ name₂
   given_call i =
-      let g : T (is_given answer) = came-given answer (ap is_err (sym told-answer) ∙ i) in
+      let g : T (is_given answer) = came-given selected answer (ap is_err (sym told-answer) ∙ i) in
       record {
         answer = told-answer;
         written-rows = keeps selected_rows answer rows₁ rows₂ (length rows) g e (rw same_answer at s.in_rows);

@@ -9,6 +9,7 @@ use native.Mathlib.Omega.{arith}
 use borrow.Author.Tests.{lt-ltb, le-ltb, ltb-true, ltb-false, eqb-true, eqb-false}
 use lib.Dec.{T, eqb, ltb}
 use lib.ListN.{length, length-append}
+use Rattle.std.proofs.Math.Bool.{or-false}
 use Rattle.std.proofs.lemmas.Bool.Decides.{nat_tests}
 use Rattle.as5506.specs.Lists.{span, up_to, put_if, is_nil}
 use Rattle.as5506.specs.Modes.{selection_limit, is_cut, combinations}
@@ -128,10 +129,6 @@ grown-end ls p front g = (g.0 ∙ ap (λ (l : List (List ℕ)). front ++ l) (non
     none : (b : Bool) → counted_by b [] ≡ []
     none true = refl
     none false = refl
-
-    or-false : (b : Bool) → b || false ≡ b
-    or-false true = refl
-    or-false false = refl
 
 -- ---- the loop
 

@@ -54,7 +54,7 @@ impl Renamed {
 
 // ---- rows and keys
 
-// Whether a field is what a key asks for. "Keys are folded".
+// Whether a field is what a key asks for. "Keys are folded". By cases: each kind of part asks something else.
 #[tactic(auto, unfolding(crate::specs::Keys::has_part))]
 fn has_part(m: &Tables, field: u32, part: Part) -> bool
     ensures { result ≡ has_part (model m.now) field part }

@@ -140,7 +140,7 @@ fn diagnose_all(m: &Tables, out: &mut Blocks<DIAGNOSTIC_NUMBERS>) -> Option<()>
     Some(())
 }
 
-// Writes the diagnostics of all X rows, from the front of the output on.
+// Writes the diagnostics of all X rows, from the front of the output on. It asks for what a `Connection` holds, as `diagnose_all` does.
 pub fn diagnose_connections(m: &Tables, out: &mut [u32]) -> Option<usize>
     requires { Traceable (model m.now) }
     ensures { Written diag_numbers diag_block (traced_diags (model m.now)) out.old 0 result out.new }

@@ -88,7 +88,7 @@ impl Start {
         }
     }
 
-    // How many steps are made from it.
+    // How many steps are made from it. By cases: from the owner itself none is made.
     pub fn limit(self) -> usize
         ensures value { result ≡ limit_of self }
         ensures upper_bound { result ≤ step_limit }

@@ -40,7 +40,7 @@ impl Connection<'_, '_> {
         trace::trace(self.m, out, Side::Source, row, &s, &d)
     }
 
-    // Writes the rows of a pair of which `near` stands on the side and `far` on the other.
+    // Writes the rows of a pair of which `near` stands on the side and `far` on the other. By cases: the source is the first of the two.
     #[tactic(auto, unfolding(crate::specs::Rows::pair_on))]
     fn trace_on(
         &self,
@@ -153,7 +153,7 @@ fn trace_all(m: &Tables, out: &mut Blocks<ROW_NUMBERS>) -> Option<()>
     Some(())
 }
 
-// Writes the rows of all X rows, from the front of the output on.
+// Writes the rows of all X rows, from the front of the output on. It asks for what a `Connection` holds, as `trace_all` does.
 pub fn trace_connections(m: &Tables, out: &mut [u32]) -> Option<usize>
     requires { Traceable (model m.now) }
     ensures { Written row_numbers (traced_block (model m.now)) (traced step_limit (model m.now)) out.old 0 result out.new }

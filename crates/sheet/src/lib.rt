@@ -104,7 +104,7 @@ const FORMS: [Form; LETTER_COUNT] = [
     },
 ];
 
-// The form of the lines of the letter k.
+// The form of the lines of the letter k. Each function that takes a letter's place asks that it is one, since it goes by it into an array as this does.
 fn form_of(k: usize) -> Form
     requires { k < letter_count }
     ensures { FormOf k result }
@@ -326,8 +326,9 @@ fn check_sheet(sheet: &[u8], room: &Sizes) -> Result<Counts, Refusal>
 
 // ---- the tables
 
-// Writes the names one after the other to the byte table, and each one's offset and length there to the table of N, and gives what follows the N lines. No
-// `for`: the loop ends where they do. (`used` is itself written; of `at` holds what `put_rows` says of chunks.)
+// Writes the names one after the other to the byte table, and each one's offset and length there to the table of N, and gives what follows the N lines. Two
+// tables and no struct: each is lent by itself, as to `read_sheet`. No `for`: the loop ends where the lines do. (`used` is itself written; of `at` holds what
+// `put_rows` says of chunks.)
 fn put_names<'a>(sheet: &'a [u8], bytes: &mut [u8], n: &mut [u32]) -> &'a [u8]
     requires { (length sheet.now ≤ 16384) × (in_order 0 (lines_of sheet.now) ≡ true)
         × (length (each line_name (lines_with letter_n (texts sheet.now))) ≤ length bytes.old)

@@ -4,7 +4,6 @@
 #![tactic(auto)]
 
 use as5506::Refusal;
-use cases::print;
 use sheet::Counts;
 use std::io::Read;
 
@@ -15,7 +14,7 @@ const NAMES: usize = 8200;
 
 const OTHERS: usize = 2700;
 
-// A space and the number. (Not in `cases`: the library's printing of numbers, which divides, stands in programs that replay cases alone.)
+// A space and the number. (Not in `cases`: the library's printing, which divides, stands in programs that replay cases alone.)
 fn print_number(rt: &impl Print, n: u64) {
     let _ = print!(rt; " {n}");
 }
@@ -23,7 +22,7 @@ fn print_number(rt: &impl Print, n: u64) {
 fn print_answer(rt: &impl Print, answer: Result<Counts, Refusal>) {
     match answer {
         Ok(k) => {
-            print(rt, b"read");
+            let _ = print!(rt; "read");
             for n in [
                 k.bytes, k.n, k.c, k.f, k.x, k.p, k.i, k.t, k.q, k.u, k.e, k.r, k.m,
             ] {
@@ -31,10 +30,7 @@ fn print_answer(rt: &impl Print, answer: Result<Counts, Refusal>) {
             }
         }
         Err(r) => {
-            print(rt, b"refused");
-            print_number(rt, r.number as u64);
-            print_number(rt, r.place as u64);
-            print_number(rt, r.letter as u64);
+            let _ = print!(rt; "refused {} {} {}", r.number, r.place, r.letter);
         }
     }
 }
@@ -92,7 +88,7 @@ fn replay(rt: &impl Print, sheet: &[u8], ends: [u32; 13]) {
     for table in [&n[..], &c, &f, &x, &p, &i, &t, &q, &u, &e, &r, &m] {
         print_number(rt, checksum(table));
     }
-    print(rt, b"\n");
+    let _ = println!(rt);
 }
 
 // Reads a case and replays it.

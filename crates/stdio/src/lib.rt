@@ -2,14 +2,18 @@
 // be read is no empty sheet, and a list that could not be written is none. Each function takes the streams and the arguments that it uses.
 #![tactic(auto)]
 
-ghost use Rattle.std.specs.Prelude.{◌≤◌, IfOk, IfSome, length};
+ghost use Rattle.std.specs.Prelude.{◌≡◌, ◌≤◌, true, IfOk, OnErr, IfSome, length};
+ghost use Rattle.std.specs.Io.KnownBytes.{Appends};
+ghost use Rattle.stdio.specs.{Filled, Lost};
 
 use std::env::{Env, FillError};
 use std::io::{self, Read, Write};
 
 // Reads into a slice to the end of the input, or until the slice is full: how many bytes were read. No `for`: only the input knows how often.
+#[tactic(auto, using(crate::proofs::Reading::filled_on))]
 pub fn read_full<R: Read>(input: &mut R, into: &mut [u8]) -> io::Result<usize>
-    ensures { IfOk result (λ k. k ≤ length into.new) }
+    ensures read { IfOk result (λ k. Filled (R.remaining input.old) (R.remaining input.new) into.new k) }
+    ensures lost { OnErr result (Lost (R.remaining input.old) (R.remaining input.new) (length into.new)) }
 {
     let mut done = 0;
     while done < into.len() {
@@ -34,7 +38,7 @@ pub fn read_input<R: Read, E: Write>(
     program: &[u8],
     into: &mut [u8],
 ) -> Option<usize>
-    ensures { IfSome result (λ k. k ≤ length into.new) }
+    ensures { IfSome result (λ k. Filled (R.remaining input.old) (R.remaining input.new) into.new k) }
 {
     let read = read_full(input, into).ok();
     if read.is_none() {
@@ -43,16 +47,20 @@ pub fn read_input<R: Read, E: Write>(
     read
 }
 
-// Writes the text of the program of this name to standard output. Where writing fails it says so.
+// Writes the text of the program of this name to standard output: whether it stands there. Where writing fails it says so.
 pub fn write_output<W: Write, E: Write>(
     output: &mut W,
     errors: &mut E,
     program: &[u8],
     text: &[u8],
-) {
-    if output.write_all(text).is_err() {
+) -> bool
+    ensures { result ≡ true → Appends (W.contents output.old) (W.contents output.new) text.now }
+{
+    let written = output.write_all(text).is_ok();
+    if !written {
         say(errors, program, b": standard output could not be written\n");
     }
+    written
 }
 
 // The one argument that the program was started with, behind its own name: there is one, there are no more, and it is a number. The largest number has

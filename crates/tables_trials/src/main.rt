@@ -13,12 +13,10 @@ const BYTES: usize = 1000;
 const STORE: usize = 131072;
 
 fn print_answer(rt: &impl Print, answer: Result<(), Refusal>) {
-    match answer {
-        Ok(()) => cases::print(rt, b"accepted\n"),
-        Err(r) => {
-            let _ = print!(rt; "refused {} {} {}\n", r.number, r.letter as char, r.place);
-        }
-    }
+    let _ = match answer {
+        Ok(()) => print!(rt; "accepted\n"),
+        Err(r) => print!(rt; "refused {} {} {}\n", r.number, r.letter as char, r.place),
+    };
 }
 
 // Of a table, how many numbers it has and how many of them are given.
