@@ -3,11 +3,11 @@ use Rattle.std.specs.Prelude.{◌≡◌, ℕ, List, [], ◌∷◌, ⊤, ◌⊎�
 use Rattle.std.specs.Io.KnownBytes.{Consumes}
 use Rattle.stdio.specs.{Lost}
 
--- its next byte, or a line feed where none could be read
+-- its next byte, or a line feed with at most one byte lost: at the end, or where reading fails
 abbrev pub Taken : Option (List ℕ) → Option (List ℕ) → ℕ → Type 0
 Taken old new b = Consumes old new (b ∷ []) ⊎ ((b ≡ 10) × Lost old new 1)
 
--- a case begins with the next of them: it is a V
+-- its next byte is a V, with which a case begins, or its bytes are not known
 abbrev pub Begins : Option (List ℕ) → Type 0
 Begins None = ⊤
 Begins (Some []) = ⊥

@@ -11,7 +11,7 @@ use std::io::Read;
 
 const LINE_FEED: u8 = 10;
 
-// The next byte, a line feed at the end of the file.
+// The next byte; a line feed at the end of the file, or where reading fails.
 pub fn byte<R: Read>(input: &mut R) -> u8
     ensures { Taken (R.remaining input.old) (R.remaining input.new) result }
 {
@@ -29,7 +29,7 @@ pub fn begins<R: Read>(input: &mut R) -> bool
     byte(input) == b'V'
 }
 
-// Hands the reader to `replay` behind the `V` of each case, until none begins: where none does, it takes a byte at most.
+// Hands the reader to `replay` behind the `V` of each case, until none begins. Where none begins at entry, it takes a byte at most.
 pub fn replay_all<R: Read, F: Fn(&mut R)>(input: &mut R, replay: F)
     requires { F.IsAlwaysCallable replay }
     ensures { Begins (R.remaining input.old) ⊎ Lost (R.remaining input.old) (R.remaining input.new) 1 }
@@ -58,8 +58,8 @@ pub fn numbers<R: Read>(input: &mut R, out: &mut [u32]) {
     }
 }
 
-// Reads so many bytes into the front of a slice, no more than it has places: how many these are. Where reading fails, and behind them, what stands there
-// stays.
+// Reads so many bytes into the front of a slice, no more than it has places: how many these are, whether or not so many could be read. What stands behind
+// them stays.
 pub fn bytes<R: Read>(input: &mut R, out: &mut [u8], len: u32) -> usize
     ensures { (result ≡ min len (length out.old)) × (drop result out.new ≡ drop result out.old) }
 {

@@ -9,7 +9,8 @@ use crate::reference::{Reference, reference_at};
 use as5506::E_NUMBERS;
 use lent::Tables;
 
-// The two kinds of a holder, and the kind of a feature that is a group: numbers, as the tables hold them, since of all kinds only these are asked for.
+// The two kinds of a holder, numbers as the tables hold them, which may be any before they are checked; and the kind of a feature that is a group, a number
+// since no other is asked for.
 pub const COMPONENT_TYPE: u32 = 0;
 
 pub const GROUP_TYPE: u32 = 1;

@@ -44,7 +44,7 @@ impl Mark {
     }
 }
 
-// What follows the spaces in front. No `for`: it ends at the first byte that is no space.
+// What follows the spaces in front. No `for`: nothing is counted; each turn takes one space off, until the first byte is none.
 #[tactic(auto, using(crate::proofs::Laws::space_laws))]
 fn unspaced(f: &[u8]) -> &[u8]
     ensures { result.now ≡ unspaced f.now }
@@ -72,7 +72,7 @@ fn digits(s: &[u8]) -> Option<u64>
 }
 
 // The same where there is a digit at all, and a 0 in front stands alone: a number that stands by itself, without columns, as an argument of a program.
-// By cases of the bytes: it asks how they begin, and converts nothing.
+// By cases of the bytes: it asks how they begin, and hands them on.
 #[tactic(auto, using(crate::proofs::Laws::number_laws))]
 pub fn number_in(s: &[u8]) -> Option<u64>
     ensures { result ≡ then_some (is_number s.now) (decimal_from 0 s.now) }
@@ -105,7 +105,7 @@ impl Field {
         }
     }
 
-    // The number that a table holds for a field that is not long. By cases: no derive knows them.
+    // The number that a table holds for a field that is not long. By cases: a lone `-` is missing, and a bad field, which no table gets, 0.
     fn number(self) -> u32
         requires { Short (shown self) }
         ensures { result ≡ number_of (shown self) }

@@ -16,6 +16,7 @@ fn mode(number: u64, read: &[u8; SHEET_LENT], got: usize, text: &mut [u8; TEXT_L
     on_sheet::on_sheet(Task::Mode(number), lent::part(read, 0, got), text)
 }
 
+// (Each of the three has its own `main` too: one for all would take the program as a closure, with a promise on what it gives, and no line less.)
 fn main(rt: HostRuntime) {
     let Some(number) = stdio::number_argument(&rt, &mut rt.stderr(), b"mode") else {
         return;

@@ -16,6 +16,7 @@ fn modes(read: &[u8; SHEET_LENT], got: usize, text: &mut [u8; TEXT_LENT]) -> usi
     on_sheet::on_sheet(Task::Modes, lent::part(read, 0, got), text)
 }
 
+// (Each of the three has its own `main` too: one for all would take the program as a closure, with a promise on what it gives, and no line less.)
 fn main(rt: HostRuntime) {
     let mut read = [0u8; SHEET_LENT];
     let Some(got) = stdio::read_input(&mut rt.stdin(), &mut rt.stderr(), b"modes", &mut read) else {

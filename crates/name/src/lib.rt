@@ -122,8 +122,8 @@ pub fn parse_connection_pattern(text: &[u8]) -> ConnectionPattern
 }
 
 // Name k of the bytes and the N rows of a byte table, a part of the caller's own bytes. Past the table, or past the bytes, there is nothing of it.
-// In tables that are checked no name is past the bytes, so that is asked first. (Of these two tables and no struct: what it gives is borrowed from the
-// bytes alone.)
+// In tables that are checked no name is past the bytes, so that is asked first. (Of these two tables and no struct, as the definition's
+// `name_in`; `name_of` hands it those of all tables.)
 #[tactic(auto, unfolding(as5506::specs::Tables::name_in))]
 pub fn name_in<'a>(bytes: &'a [u8], n: &[u32], k: u32) -> &'a [u8]
     ensures { result.now ≡ name_in bytes.now n.now k }

@@ -104,7 +104,8 @@ const FORMS: [Form; LETTER_COUNT] = [
     },
 ];
 
-// The form of the lines of the letter k. Each function that takes a letter's place asks that it is one, since it goes by it into an array as this does.
+// The form of the lines of the letter k. Each function that takes a letter's place asks that it is one, since it, or one that it calls, goes by it into an
+// array. (No struct with a ghost field: two of them ask for more of the place, and it would be made of a literal at each `put_rows`.)
 fn form_of(k: usize) -> Form
     requires { k < letter_count }
     ensures { FormOf k result }

@@ -6,6 +6,6 @@ use Rattle.std.specs.Io.KnownBytes.{Consumes, IsAtEnd}
 abbrev pub Filled : Option (List ℕ) → Option (List ℕ) → List ℕ → ℕ → Type 0
 Filled old new into k = (k ≤ length into) × Consumes old new (take k into) × (k < length into → IsAtEnd new)
 
--- some of its bytes, no more than so many
+-- its next bytes are gone, none or more, at most so many
 abbrev pub Lost : Option (List ℕ) → Option (List ℕ) → ℕ → Type 0
 Lost old new most = (bs : List ℕ) × Consumes old new bs × (length bs ≤ most)

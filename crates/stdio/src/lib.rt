@@ -9,7 +9,8 @@ ghost use Rattle.stdio.specs.{Filled, Lost};
 use std::env::{Env, FillError};
 use std::io::{self, Read, Write};
 
-// Reads into a slice to the end of the input, or until the slice is full: how many bytes were read. No `for`: only the input knows how often.
+// Reads into a slice to the end of the input, or until the slice is full: how many bytes were read. Where reading fails, no more
+// bytes are lost than the slice has places. No `for`: only the input knows how often.
 #[tactic(auto, using(crate::proofs::Reading::filled_on))]
 pub fn read_full<R: Read>(input: &mut R, into: &mut [u8]) -> io::Result<usize>
     ensures read { IfOk result (λ k. Filled (R.remaining input.old) (R.remaining input.new) into.new k) }
@@ -47,7 +48,8 @@ pub fn read_input<R: Read, E: Write>(
     read
 }
 
-// Writes the text of the program of this name to standard output: whether it stands there. Where writing fails it says so.
+// Writes the text of the program of this name to standard output. Where it tells true, the whole text stands there behind what did; where writing fails it
+// says so.
 pub fn write_output<W: Write, E: Write>(
     output: &mut W,
     errors: &mut E,

@@ -1,4 +1,4 @@
--- The places that are filled have the reader's next bytes, and every turn that goes on fills one more.
+-- The places that are filled have the reader's next bytes, and every turn that goes on fills at least one more.
 use Rattle.std.proofs.Common.{◌≡◌, length, take, ◌-◌, ◌≤◌}
 use Rattle.std.specs.Io.KnownBytes.{Consumes}
 use Rattle.stdio.proofs.read_full.Given as goal
