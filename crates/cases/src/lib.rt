@@ -2,9 +2,10 @@
 // the reader; the programs hand over standard input.
 #![tactic(auto)]
 
-ghost use Rattle.std.specs.Prelude.{◌≡◌, ◌≤◌, ◌==◌, ◌⊎◌, ℕ, min, length, drop};
+ghost use Rattle.std.specs.Prelude.{◌≡◌, ◌≤◌, ◌==◌, ◌⊎◌, ℕ, min, length, take, drop};
+ghost use Rattle.std.specs.Io.KnownBytes.{Consumes};
 ghost use Rattle.stdio.specs.{Lost};
-ghost use Rattle.cases.specs.{Begins, Taken};
+ghost use Rattle.cases.specs.{Begins, Taken, TakenLine, TakenNumber, TakenNumbers};
 
 use fields::Mark;
 use std::io::Read;
@@ -42,17 +43,24 @@ pub fn replay_all<R: Read, F: Fn(&mut R)>(input: &mut R, replay: F)
     }
 }
 
-// The next number; `-` is a missing one.
-pub fn number<R: Read>(input: &mut R) -> u32 {
+// The next number; `-` is a missing one, and 0 stands for one that could not be read.
+#[tactic(auto, using(crate::proofs::Taking::taken_number))]
+pub fn number<R: Read>(input: &mut R) -> u32
+    ensures { TakenNumber (R.remaining input.old) (R.remaining input.new) result }
+{
     let mut field = [b' '; 6];
-    let _ = stdio::read_full(input, &mut field);
+    let Ok(6) = stdio::read_full(input, &mut field) else {
+        return 0;
+    };
     let mut value = [0u32; 1];
     fields::put_fields(&field, &[Mark::Needed], &mut value, 0);
     value[0]
 }
 
 // The next numbers, as many as the slice has.
-pub fn numbers<R: Read>(input: &mut R, out: &mut [u32]) {
+pub fn numbers<R: Read>(input: &mut R, out: &mut [u32])
+    ensures { TakenNumbers (R.remaining input.old) (R.remaining input.new) out.new }
+{
     for place in out.iter_mut() {
         *place = number(input);
     }
@@ -61,7 +69,8 @@ pub fn numbers<R: Read>(input: &mut R, out: &mut [u32]) {
 // Reads so many bytes into the front of a slice, no more than it has places: how many these are, whether or not so many could be read. What stands behind
 // them stays.
 pub fn bytes<R: Read>(input: &mut R, out: &mut [u8], len: u32) -> usize
-    ensures { (result ≡ min len (length out.old)) × (drop result out.new ≡ drop result out.old) }
+    ensures within { (result ≡ min len (length out.old)) × (drop result out.new ≡ drop result out.old) }
+    ensures read { Consumes (R.remaining input.old) (R.remaining input.new) (take result out.new) ⊎ Lost (R.remaining input.old) (R.remaining input.new) result }
 {
     let end = out.len().min(len as usize);
     let _ = stdio::read_full(input, &mut out[..end]);
@@ -70,7 +79,8 @@ pub fn bytes<R: Read>(input: &mut R, out: &mut [u8], len: u32) -> usize
 
 // Reads the rest of a line, as much of it as there is room for, into the front of a slice: how many bytes it is. What stands behind them stays.
 pub fn line<R: Read>(input: &mut R, out: &mut [u8]) -> usize
-    ensures { (result ≤ length out.old) × (drop result out.new ≡ drop result out.old) }
+    ensures within { (result ≤ length out.old) × (drop result out.new ≡ drop result out.old) }
+    ensures read { TakenLine (R.remaining input.old) (R.remaining input.new) (take result out.new) }
 {
     for (i, place) in out.iter_mut().enumerate() {
         let b = byte(input);

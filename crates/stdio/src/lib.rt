@@ -39,7 +39,8 @@ pub fn read_input<R: Read, E: Write>(
     program: &[u8],
     into: &mut [u8],
 ) -> Option<usize>
-    ensures { IfSome result (λ k. Filled (R.remaining input.old) (R.remaining input.new) into.new k) }
+    ensures read { IfSome result (λ k. Filled (R.remaining input.old) (R.remaining input.new) into.new k) }
+    ensures quiet { IfSome result (λ _. errors.new ≡ errors.old) }
 {
     let read = read_full(input, into).ok();
     if read.is_none() {
@@ -56,7 +57,8 @@ pub fn write_output<W: Write, E: Write>(
     program: &[u8],
     text: &[u8],
 ) -> bool
-    ensures { result ≡ true → Appends (W.contents output.old) (W.contents output.new) text.now }
+    ensures written { result ≡ true → Appends (W.contents output.old) (W.contents output.new) text.now }
+    ensures quiet { result ≡ true → errors.new ≡ errors.old }
 {
     let written = output.write_all(text).is_ok();
     if !written {
@@ -81,7 +83,9 @@ pub fn number_argument<A: Env, E: Write>(
     arguments: &A,
     errors: &mut E,
     program: &[u8],
-) -> Option<u64> {
+) -> Option<u64>
+    ensures { IfSome result (λ _. errors.new ≡ errors.old) }
+{
     let argument = read_argument(arguments);
     if argument.is_none() {
         say(
