@@ -2,6 +2,7 @@
 --
 --     Laws          lists, tests and numbers that may be missing
 --     Scans         what is left of a scan of rows, and what it keeps
+--     Searches      a search for the first place that passes a test; whether a list has a number
 --     Sorted        lists in an order, and rows sorted by keys
 --     Members       the entries of mapped, joined and cut lists; lists of different entries
 --     Letters       the orders of letters agree with each other; the byte that a line begins with
@@ -24,6 +25,7 @@
 --     Trials        the trials, of reading (TrialsRead), resolving and expanding (TrialsFind), listing and printing (TrialsList), as one table
 pub mod Laws
 pub mod Scans
+pub mod Searches
 pub mod Sorted
 pub mod Members
 pub mod Letters

@@ -9,13 +9,10 @@ use crate::reference::{Reference, reference_at};
 use as5506::E_NUMBERS;
 use lent::Tables;
 
-// The two kinds of a holder, numbers as the tables hold them, which may be any before they are checked; and the kind of a feature that is a group, a number
-// since no other is asked for.
-pub const COMPONENT_TYPE: u32 = 0;
+// The two kinds of a holder: numbers as the tables hold them, which may be any before they are checked.
+pub const HOLDER_COMPONENT_TYPE: u32 = 0;
 
-pub const GROUP_TYPE: u32 = 1;
-
-pub const FEATURE_GROUP: u32 = 8;
+pub const HOLDER_GROUP_TYPE: u32 = 1;
 
 // Whether a component type holds it, or a group type.
 pub fn holder_kind_of(m: &Tables, i: usize) -> u32

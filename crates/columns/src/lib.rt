@@ -16,6 +16,9 @@ mod reference;
 pub use field::field_at;
 pub use reference::Reference;
 
+// The kind of a feature that is a group, of F and of E rows: a number as the tables hold it, since no other kind of a feature is asked for.
+pub const FEATURE_GROUP: u32 = 8;
+
 // The two ends of a connection.
 #[derive(Clone, Copy)]
 pub enum Side {

@@ -18,7 +18,7 @@ use Rattle.resolver.specs.declared.Classifier.{Classifier}
 use Rattle.resolver.specs.declared.Classifier.TheVariants.{ComponentType, ComponentImpl, GroupType}
 use Rattle.resolver.specs.Found.{found}
 use Rattle.resolver.proofs.Answers.{meant, means}
-use Rattle.resolver.proofs.Scan.{Searching, search_hit, search_end}
+use Rattle.as5506.proofs.Searches.{Searching, search_hit, search_end}
 use Rattle.endpoint.specs.Ends.{is_group, is_declared}
 
 module _ (m : Tables) where

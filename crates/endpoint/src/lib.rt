@@ -10,7 +10,7 @@ ghost use Rattle.columns.specs.Side.{side_of};
 ghost use Rattle.endpoint.specs.Ends.{expanded, is_group, is_declared};
 
 use as5506::{E_NUMBERS, F_NUMBERS, MISSING};
-use columns::{Reference, Side, component, connection, declared, feature};
+use columns::{FEATURE_GROUP, Reference, Side, component, connection, declared, feature};
 use lent::Tables;
 use resolver::Classifier;
 
@@ -53,12 +53,12 @@ fn is_group_feature(m: &Tables, component: u32, feature: u32, i: usize) -> bool
     ensures { result ≡ is_group (model m.now) component (key (model m.now) feature) i }
 {
     feature::owner_of(m, i) == component
-        && feature::kind_of(m, i) == declared::FEATURE_GROUP
+        && feature::kind_of(m, i) == FEATURE_GROUP
         && name::same_folded_names(m, feature::name_of(m, i), feature)
 }
 
 // Whether a component has such a feature.
-#[tactic(auto, using(resolver::proofs::Scan::search_start, resolver::proofs::Scan::search_miss, crate::proofs::Steps::feature_steps))]
+#[tactic(auto, using(as5506::proofs::Searches::search_start, as5506::proofs::Searches::search_miss, crate::proofs::Steps::feature_steps))]
 fn has_group_feature(m: &Tables, component: u32, feature: u32) -> bool
     ensures { result ≡ is_group_feature (model m.now) component (key (model m.now) feature) }
 {
@@ -76,8 +76,8 @@ fn is_declared_group(m: &Tables, holder: usize, feature: u32, i: usize) -> bool
     ensures { result ≡ is_declared (model m.now) holder (key (model m.now) feature) i }
 {
     declared::holder_of(m, i) as usize == holder
-        && declared::holder_kind_of(m, i) == declared::COMPONENT_TYPE
-        && declared::kind_of(m, i) == declared::FEATURE_GROUP
+        && declared::holder_kind_of(m, i) == declared::HOLDER_COMPONENT_TYPE
+        && declared::kind_of(m, i) == FEATURE_GROUP
         && name::same_folded_names(m, declared::name_of(m, i), feature)
 }
 

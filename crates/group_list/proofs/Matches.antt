@@ -11,7 +11,7 @@ use Rattle.as5506.specs.Groups.{Feature}
 use Rattle.as5506.specs.Rows.{Row, Diag}
 use Rattle.as5506.specs.GroupList.{GroupConnection, group_overrun, overrun, Match, matches_by, matches, match_row, match_diag, rows_matched, diags_matched}
 use Rattle.as5506.specs.Layout.{row_numbers, group_block, diag_block}
-use Rattle.as5506.proofs.Laws.{All, all_map, all-of, all-each, each_same, each_append, each-each, each_map, even-length, not-both}
+use Rattle.as5506.proofs.Laws.{All, all_map, all-of, all-each-of, each_same, each_append, each-each, each_map, even-length, not-both}
 use Rattle.lent.specs.Append.{Filled, filled, append_all, together}
 use Rattle.lent.proofs.Pieces.{all_append}
 use Rattle.sink.specs.declared.Tally.{Tally}
@@ -164,8 +164,7 @@ module _ (m : Tables) where
   unfolding rows_matched
   rows-length ms =
       even-length row_numbers group_block (rows_matched m ms)
-      (all-each (λ (p : Match). Unit {0}) (λ (r : Row). length (group_block r) ≡ row_numbers) (λ (p : Match). match_row m p.connection p.feature p.partner) (λ p u. row-length p.connection p.feature p.partner) ms
-      (all-of (λ (p : Match). Unit {0}) (λ p. tt) ms))
+      (all-each-of (λ (r : Row). length (group_block r) ≡ row_numbers) (λ (p : Match). match_row m p.connection p.feature p.partner) (λ p. row-length p.connection p.feature p.partner) ms)
 
 -- ---- the diagnostics
 

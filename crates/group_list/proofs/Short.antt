@@ -15,7 +15,7 @@ use Rattle.as5506.specs.Resolve.{Resolved, component_type, component_impl, group
 use Rattle.as5506.specs.Groups.{Feature, Expansion, depth_limit, expand_feature_group, expand}
 use Rattle.as5506.specs.GroupList.{is_group_feature, type_of, declared_group, asking_package, classifier_by, declared_by, typed_by, endpoint_by, endpoint, is_group_connection, end_component, GroupConnection, group_connection, group_connections, partner, Match, matches_by, matches}
 use Rattle.as5506.specs.Refusals.{accepted}
-use Rattle.as5506.proofs.Laws.{All, all-of, all-each, all_keep, all-mapped, and_left, and_right}
+use Rattle.as5506.proofs.Laws.{All, all-each, all-each-of, all_keep, all-mapped, and_left, and_right}
 use Rattle.links.specs.Links.{link_of, nested_link, extends_link, inverse_link, links_to}
 use Rattle.links.specs.Walk.{groups_in}
 use Rattle.links.proofs.Tables.{links-linked}
@@ -93,8 +93,8 @@ module _ (m : Tables) (ok : T (accepted m)) where
   unfolding group_connections
   connections-short =
       let xs : List ℕ = keep (is_group_connection m) (up_to (x_count m)) in
-      all-each (λ (x : ℕ). Unit {0}) ShortEnds (λ (x : ℕ). group_connection m x (end_component m source x) (end_component m destination x))
-      (λ x u. connection-short x (end_component m source x) (end_component m destination x)) xs (all-of (λ (x : ℕ). Unit {0}) (λ x. tt) xs)
+      all-each-of ShortEnds (λ (x : ℕ). group_connection m x (end_component m source x) (end_component m destination x))
+      (λ x. connection-short x (end_component m source x) (end_component m destination x)) xs
 
 -- ---- their matches
 

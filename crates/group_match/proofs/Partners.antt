@@ -20,7 +20,7 @@ use Rattle.lent.specs.Append.{append, append_all}
 use Rattle.lent.proofs.Sets.{get_or-zeros}
 use Rattle.sink.specs.declared.Matching.{Matching}
 use Rattle.sink.specs.declared.Purpose.TheVariants.{Count, Match as Matches}
-use Rattle.sink.specs.Take.{Held, kept_name, kept_count, first_place, partner_of, match_block, match_by, taken, Remembered, Memory, Ready}
+use Rattle.sink.specs.Take.{Held, kept_name, kept_count, partner_of, match_block, match_by, taken, Remembered, Memory, Ready}
 use Rattle.sink.proofs.Blocks.{block-length, blocks-length}
 use Rattle.group_walk.specs.Run.{Take, take_all}
 use Rattle.group_match.specs.Matching.{between, match_piece, match_pieces, note_pieces}
@@ -43,7 +43,7 @@ module _ (kept : List ℕ) where
     test i = p (kept_name kept i)
 
     here : (b : Bool) (i : ℕ) (d : Feature) (is : List ℕ) (ds : List Feature) → take feature_numbers (drop (i * feature_numbers) kept) ≡ feature_block d
-        → Agrees (first_place is) (first_of ds) → Agrees (first_place (put_if b i is)) (first_of (put_if b d ds))
+        → Agrees (first_of is) (first_of ds) → Agrees (first_of (put_if b i is)) (first_of (put_if b d ds))
     here true i d is ds e t = e
     here false i d is ds e t = t
 
@@ -53,7 +53,7 @@ module _ (kept : List ℕ) where
 
     -- the blocks of ds stand in `kept` from place i on
     scan : (ds : List Feature) (i : ℕ) (rest : List ℕ) → All (λ d. length d.prefix ≤ depth_limit) ds
-        → drop (i * feature_numbers) kept ≡ each feature_block ds ++ rest → Agrees (first_place (keep test (span i (length ds)))) (named p ds)
+        → drop (i * feature_numbers) kept ≡ each feature_block ds ++ rest → Agrees (first_of (keep test (span i (length ds)))) (named p ds)
     scan [] i rest t q = tt
     scan (d ∷ ds) i rest t q =
         let after : List ℕ = each feature_block ds ++ rest in
@@ -95,9 +95,9 @@ module _ (m : Tables) (size : ℕ) (x : Expansion) (fine : All (Fine size) x.fea
   partner-kept f =
       let p : ℕ → Bool = λ k. same_bytes (key m f.name) (key m k) in
       let kept : List ℕ = first_blocks size x in
-      subst (λ (o : Option Feature). Agrees kept (first_place (keep (test kept p) (up_to (kept_count kept)))) o)
+      subst (λ (o : Option Feature). Agrees kept (first_of (keep (test kept p) (up_to (kept_count kept)))) o)
       (first-of-firsts p x.features (zeros size) (λ k z. absurd (z (get_or-zeros size k))))
-      (subst (λ (k : ℕ). Agrees kept (first_place (keep (test kept p) (up_to k))) (named p gs)) (sym count-firsts)
+      (subst (λ (k : ℕ). Agrees kept (first_of (keep (test kept p) (up_to k))) (named p gs)) (sym count-firsts)
       (scan kept p gs 0 [] firsts-short (sym (append-nil kept))))
 
 -- ---- what a walk of the source leaves, where each of its features finds its partner

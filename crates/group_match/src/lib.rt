@@ -3,8 +3,9 @@
 // the destination: the first feature of an equal name is among them.
 #![tactic(auto)]
 
-ghost use Rattle.std.specs.Prelude.{false, ◌≡◌, [], ◌/◌, ◌≤◌, ◌<◌, T, length};
-ghost use Rattle.as5506.specs.Tables.{width, letter_u, x_count};
+ghost use Rattle.std.specs.Prelude.{false, ◌≡◌, [], suc, ◌≤◌, ◌<◌, T, length};
+ghost use Rattle.as5506.specs.Tables.{count, letter_u, x_count};
+ghost use Rattle.as5506.specs.Groups.{depth_limit};
 ghost use Rattle.as5506.specs.Refusals.{accepted};
 ghost use Rattle.as5506.specs.GroupList.{endpoint as the_endpoint};
 ghost use Rattle.lent.specs.Model.{model};
@@ -43,7 +44,7 @@ struct GroupConnection {
 // outputs go on behind what is used.
 fn walk_group(walk: &Walk, sink: &mut Sink, calm: &mut [u32], to: u32) -> Option<u32>
     requires { Ready walk.now.purpose (model walk.now.tables.now) (cleared (held sink.old)).memo }
-    ensures walked { state_of result (held sink.new) ≡ run (does walk.now) (going (cleared (held sink.old)) 0) (visit_link (groups walk.now) 11 to false []) }
+    ensures walked { state_of result (held sink.new) ≡ run (does walk.now) (going (cleared (held sink.old)) 0) (visit_link (groups walk.now) (suc depth_limit) to false []) }
     ensures names { length sink.new.memo.now ≡ length sink.old.memo.now }
     ensures same { SameBuffers sink.old sink.new }
 {
@@ -68,7 +69,7 @@ fn keep_firsts<'a>(
     to: u32,
 ) -> Option<usize>
     requires { RoomReady (model m.now) memo.old kept.old }
-    ensures { KeepsFirsts (visit_link (groups_of (model m.now) links.now) 11 to false []) result (length memo.old) kept.new }
+    ensures { KeepsFirsts (visit_link (groups_of (model m.now) links.now) (suc depth_limit) to false []) result (length memo.old) kept.new }
 {
     let walk = Walk {
         tables: m,
@@ -142,7 +143,7 @@ fn match_groups<'a>(
 
 // The link of the group that a feature of a component stands for, if it stands for one.
 fn group_link(m: &Tables, component: u32, feature: u32) -> Option<u32>
-    requires { length m.now.u.now / width letter_u ≤ 4096 }
+    requires { count (model m.now) letter_u ≤ 4096 }
     ensures { (l : Links) → LinkedBy (model m.now) l → group_at (groups_of (model m.now) l) result ≡ the_endpoint (model m.now) component feature }
 {
     let group = endpoint::endpoint(m, component, feature)?;

@@ -1,5 +1,5 @@
 -- What the three routines of the walk do, part by part: a group type, a visit, a row. Each part goes on where the last one ended. Assumes nothing.
-use mathlib.Core.Bool.{Bool, true, false, not, ◌&&◌}
+use mathlib.Core.Bool.{true, false, not, ◌&&◌}
 use mathlib.Core.Path.{◌≡◌, refl, sym, ap, subst, ◌∙◌}
 use mathlib.Core.List.{List, [], ◌∷◌, ◌++◌}
 use Prim.Native.Nat.{ℕ, ◌+◌, ◌*◌, ◌-◌, ◌/◌, ◌≤◌, ◌<◌}
@@ -7,6 +7,7 @@ use native.Mathlib.Omega.{arith}
 use borrow.Author.Tests.{eqb-true}
 use Rattle.std.specs.Prelude.{Option, Some, None}
 use Rattle.std.specs.Option.{option_eq}
+use Rattle.std.proofs.lemmas.Bool.{and_parts}
 use lib.Dec.{eqb}
 use lib.ListN.{length, set, get_or}
 use Rattle.as5506.specs.Groups.{Feature, Expansion}
@@ -86,10 +87,6 @@ module _ {w : Walk} {h : Held} {calm : List ℕ} {at : Position} {visits : ℕ} 
 
 -- ---- a visit
 
-and-both : (a b : Bool) → a && b ≡ true → (a ≡ true) × (b ≡ true)
-and-both true b e = (refl, e)
-and-both false b e = absurd (cc)
-
 -- as much of an output is used
 same_use : (u v : Option ℕ) → option_eq eqb u v ≡ true → u ≡ v
 same_use None None e = refl
@@ -162,7 +159,7 @@ module _ {w : Walk} {h : Held} {calm : List ℕ} (s : VisitReady w h calm) (at :
               → (calm₂ : List ℕ) → calm₂ ≡ set calm₁ (to * levels + (at.left - 1)) (v - visits) → CalmAfter (Some v) (groups w) (dulls w) t calm₂
           unfolding CalmAfter
           expanded_calm calm₁ k e calm₂ p =
-              let same = and-both _ _ e in
+              let same = and_parts _ _ e in
               rw p (quiet-put (does w) (dulls w) (law w) (groups w) v t h visits to at.left some_left (omega (arith, at.fits)) at.inverse at.prefix
               expanded_done calm₁ (same_use _ _ same.0) (same_use _ _ same.1) (after-done (groups w) (dulls w) r t calm₁ v q k))
 

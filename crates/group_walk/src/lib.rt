@@ -49,7 +49,8 @@ fn turn(inverse: bool, direction: u32) -> u32
 fn belongs(m: &Tables, row: u32, i: usize) -> bool
     ensures { result ≡ eqb (e_holder (model m.now) i) row && eqb (e_holder_kind (model m.now) i) 1 }
 {
-    declared::holder_of(m, i) == row && declared::holder_kind_of(m, i) == declared::GROUP_TYPE
+    declared::holder_of(m, i) == row
+        && declared::holder_kind_of(m, i) == declared::HOLDER_GROUP_TYPE
 }
 
 // What a walk goes over, and what for. What it carries is a `Sink`, with `calm` beside it.

@@ -3,15 +3,15 @@
 // are fixed memory, four bytes a link.
 #![tactic(auto)]
 
-ghost use Rattle.std.specs.Prelude.{◌≡◌, ◌/◌, ◌≤◌, length};
+ghost use Rattle.std.specs.Prelude.{◌≡◌, ◌≤◌};
 ghost use Rattle.std.proofs.lemmas.List.Edits.{sets};
-ghost use Rattle.as5506.specs.Tables.{width, letter_u, letter_e, count, present};
+ghost use Rattle.as5506.specs.Tables.{letter_u, letter_e, count, present};
 ghost use Rattle.lent.specs.Model.{model};
 ghost use Rattle.columns.specs.Reference.{ref_of};
 ghost use Rattle.links.specs.Links.{link_of, link_in, extends_link, inverse_link, nested_link, links_to, LinkedInto};
 
 use as5506::{E_NUMBERS, MISSING, U_NUMBERS};
-use columns::{Reference, declared, group_type};
+use columns::{FEATURE_GROUP, Reference, declared, group_type};
 use lent::{Tables, get_or};
 use resolver::Classifier;
 
@@ -79,8 +79,8 @@ impl Linker<'_, '_> {
     fn link_feature(&self, row: usize) -> u32
         ensures { result ≡ nested_link (model self.now.m.now) row }
     {
-        if declared::holder_kind_of(self.m, row) != declared::GROUP_TYPE
-            || declared::kind_of(self.m, row) != declared::FEATURE_GROUP
+        if declared::holder_kind_of(self.m, row) != declared::HOLDER_GROUP_TYPE
+            || declared::kind_of(self.m, row) != FEATURE_GROUP
         {
             return MISSING;
         }
@@ -101,7 +101,7 @@ impl Linker<'_, '_> {
 
 // The link of a reference that is asked from the package named `from`; `UNFOUND` where it names no group type.
 pub fn link(m: &Tables, from: u32, reference: Reference) -> u32
-    requires { length m.now.u.now / width letter_u ≤ 4096 }
+    requires { count (model m.now) letter_u ≤ 4096 }
     ensures { result ≡ link_of (model m.now) from (ref_of reference) }
 {
     Linker { m }.link(from, reference)
@@ -109,7 +109,7 @@ pub fn link(m: &Tables, from: u32, reference: Reference) -> u32
 
 // Writes the links of all group types and their features.
 pub fn link_groups(m: &Tables, nested: &mut [u32], extends: &mut [u32], inverse: &mut [u32])
-    requires { length m.now.u.now / width letter_u ≤ 4096 }
+    requires { count (model m.now) letter_u ≤ 4096 }
     ensures { LinkedInto (model m.now) nested.old extends.old inverse.old nested.new extends.new inverse.new }
 {
     let linker = Linker { m };

@@ -1,11 +1,10 @@
 -- What an answer that gives both lists holds, for callers: no more than there is room for, and short paths; and the outputs that a program lends.
 -- Assumes nothing.
 use mathlib.Core.Bool.{Bool}
-use mathlib.Core.Path.{◌≡◌, sym, subst}
+use mathlib.Core.Path.{◌≡◌, subst}
 use mathlib.Core.List.{List, [], ◌∷◌, ◌++◌}
-use Rattle.std.specs.Prelude.{Result, Ok, Option, None, Some}
-use Prim.Native.Nat.{ℕ, ◌*◌, ◌/◌, ◌≤◌}
-use native.Mathlib.Nat.{div-mul-le_self, mul-le-mul_right, le_trans}
+use Rattle.std.specs.Prelude.{Option, None, Some}
+use Prim.Native.Nat.{ℕ, ◌*◌, ◌≤◌}
 use native.Mathlib.Omega.{arith}
 use lib.Dec.{T, ltb, nltb→le}
 use lib.ListN.{length, length-replicate}
@@ -20,13 +19,10 @@ use Rattle.as5506.specs.Listing.{Room, TracedList, GroupList, BothLists, rows_ov
 use Rattle.as5506.specs.Layout.{row_numbers, diag_numbers, room_in}
 use Rattle.as5506.specs.Program.{names_lent}
 use Rattle.as5506.specs.Program.{room as room_lent}
-use Rattle.as5506.specs.declared.Refusal.{Refusal as Told}
-use Rattle.as5506.proofs.Answers.{handed-ok}
-use Rattle.as5506.proofs.Laws.{All, all-of, all-each, nil-left, nil-right, nil-when}
+use Rattle.as5506.proofs.Laws.{All, all-each-of, nil-left, nil-right, nil-when}
 use Rattle.as5506.proofs.Back.{ShortPath, ShortRow}
 use Rattle.as5506.proofs.Ends.{traced-short}
-use Rattle.listing.specs.declared.Both.{Both}
-use Rattle.listing.specs.Answer.{listed, Outputs, outputs, answer_for, BothInto}
+use Rattle.listing.specs.Answer.{Outputs, outputs, answer_for}
 
 -- ---- what holds of an answer that is given
 
@@ -93,8 +89,7 @@ row-short m b s (Some d) = (omega arith, tt)
 rows_short : (m : Tables) (ms : List Match) → All ShortRow (group_list_of m ms).rows
 unfolding group_list_of rows_matched
 rows_short m ms =
-    all-each (λ (p : Match). Unit {0}) ShortRow (λ (p : Match). match_row m p.connection p.feature p.partner)
-    (λ p u. row-short m p.connection p.feature p.partner) ms (all-of (λ (p : Match). Unit {0}) (λ p. tt) ms)
+    all-each-of ShortRow (λ (p : Match). match_row m p.connection p.feature p.partner) (λ p. row-short m p.connection p.feature p.partner) ms
 
 within-fits : (room : Room) (names : ℕ) (over : Bool) (g : GroupList) → All ShortRow g.rows → Holds (GroupFits room) (group_within room names over g)
 unfolding group_within
@@ -141,9 +136,6 @@ both-fit room room' names m = after-fits room room' names m (traced_answer room 
 
 -- ---- what a call leaves
 
-within : (n w k : ℕ) → k ≤ n / w → k * w ≤ n
-within n w k h = le_trans (mul-le-mul_right w h) (div-mul-le_self n w)
-
 abbrev pub traced_room : Outputs → Room
 traced_room o = room_in (length o.rows) (length o.diags)
 
@@ -152,25 +144,6 @@ group_room o = room_in (length o.group-rows) (length o.group-diags)
 
 pub fit : (m : Tables) (o : Outputs) → Holds (BothFit (traced_room o) (group_room o)) (answer_for m o)
 fit m o = both-fit (traced_room o) (group_room o) (length o.names) m
-
--- rows and diagnostics, as many as the answer counts, lie within their outputs
-pub record Within (o : Outputs) (b : Both) : Type 0 where
-  pub rows : b.traced.rows * row_numbers ≤ length o.rows
-  pub diags : b.traced.diagnostics * diag_numbers ≤ length o.diags
-  pub group-rows : b.group.rows * row_numbers ≤ length o.group-rows
-  pub group-diags : b.group.diagnostics * diag_numbers ≤ length o.group-diags
-
-pub counts-within : (m : Tables) (o : Outputs) (z : Result Both Told) (p : Outputs) → BothInto m o z p → (b : Both) → z ≡ Ok b → Within o b
-counts-within m o z p h b e =
-    let x = handed-ok listed z (answer_for m o) h.answer b e in
-    let f = holds (BothFit (traced_room o) (group_room o)) (answer_for m o) (fit m o) x.0 x.1 in
-    subst (λ (c : Both). Within o c) (sym x.2)
-    (record {
-      rows = within (length o.rows) row_numbers (length x.0.traced.rows) f.traced.rows;
-      diags = within (length o.diags) diag_numbers (length x.0.traced.diags) f.traced.diags;
-      group-rows = within (length o.group-rows) row_numbers (length x.0.group.rows) f.group.rows;
-      group-diags = within (length o.group-diags) diag_numbers (length x.0.group.diags) f.group.diags;
-    })
 
 -- ---- the outputs that a program lends
 

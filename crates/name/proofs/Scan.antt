@@ -1,29 +1,21 @@
 -- Laws of tests of all bytes of a name, and of the name up to its first bracket. Assumes nothing.
-use mathlib.Core.Bool.{Bool, true, false, ◌||◌, cond}
-use mathlib.Core.Path.{◌≡◌, refl, sym, ap, ap₂, ◌∙◌}
+use mathlib.Core.Bool.{Bool, true, false, cond}
+use mathlib.Core.Path.{◌≡◌, refl, sym, ap, ◌∙◌}
 use mathlib.Core.List.{List, [], ◌∷◌}
 use Prim.Native.Nat.{ℕ, suc, ◌+◌, ◌≤◌}
 use lib.Dec.{eqb, ltb}
 use lib.ListN.{length, take}
 use borrow.Author.Tests.{ltb-false, le-leb}
 use native.Mathlib.Omega.{arith}
-use Rattle.std.proofs.lemmas.Bool.Decides.{nat_tests}
 use Rattle.std.proofs.lemmas.List.{take_all}
 use Rattle.std.specs.Prelude.{Option, Some, None}
-use Rattle.std.specs.List.{list_any, list_all, position_or_len}
-use Rattle.as5506.specs.Lists.{all_of, has}
+use Rattle.std.specs.List.{list_all, position_or_len}
+use Rattle.as5506.specs.Lists.{all_of}
 use Rattle.as5506.specs.Names.{name_byte, good_name, bracket, base_name}
 
 pub all-is : (p : ℕ → Bool) (s : List ℕ) → list_all p s ≡ all_of p s
 all-is p [] = refl
 all-is p (x ∷ s) = rw (all-is p s)
-
-eqb-swap : (a b : ℕ) → eqb a b ≡ eqb b a
-eqb-swap a b = grind (arith, nat_tests)
-
-pub any-has : (b : ℕ) (s : List ℕ) → list_any (λ x. eqb x b) s ≡ has b s
-any-has b [] = refl
-any-has b (x ∷ s) = ap₂ ◌||◌ (eqb-swap x b) (any-has b s)
 
 pub good-is : (s : List ℕ) (z : Bool) → 1 ≤ length s → length s ≤ 63 → z ≡ all_of name_byte s → z ≡ good_name s
 unfolding good_name

@@ -15,7 +15,7 @@ use Rattle.as5506.specs.Lists.{each}
 use Rattle.as5506.proofs.Laws.{each_append}
 use Rattle.lent.proofs.Sets.{sets-append}
 use Rattle.output.specs.declared.blocks.Blocks.{Blocks}
-use Rattle.output.specs.Blocks.{Tells, fitting, Written, BeginsBlocks, Wrote, told, itself}
+use Rattle.output.specs.Blocks.{Tells, fitting, Written, BeginsBlocks, Wrote, count_told, itself}
 
 -- where all find room, all are those that do
 all_fit : {A : Type 0} (w : ℕ) (l : List A) (out : List ℕ) (count r : ℕ) → r ≡ count + length l → r ≤ length out / w → fitting w l out count ≡ l
@@ -156,7 +156,7 @@ module _ {w : ℕ} where
 module _ {A : Type 0} {w : ℕ} {f : A → List ℕ} where
   -- what stands in the output that was lent
   pub written_lent : {l : List A} {lent : MutBor (List ℕ)} {b b' : Blocks w} {q : Option (Unit {0})} → BeginsBlocks lent b → Wrote f l b q b'
-      → Written w f l lent.now 0 (told q b'.count) b'.numbers.now
+      → Written w f l lent.now 0 (count_told q b'.count) b'.numbers.now
   written_lent s v = rw (← s.now, ← s.count) v.written
 
   -- nothing
@@ -177,7 +177,7 @@ module _ {A : Type 0} {w : ℕ} {f : A → List ℕ} where
     wrote_full {s = s} v e k t =
         record {
           same = v.same;
-          written = rw k (written_full (subst (λ (o : Option (Unit {0})). Written w f s b.numbers.now b.count (told o b₁.count) b₁.numbers.now) e v.written) t);
+          written = rw k (written_full (subst (λ (o : Option (Unit {0})). Written w f s b.numbers.now b.count (count_told o b₁.count) b₁.numbers.now) e v.written) t);
           full = λ h. v.full e;
         }
 
@@ -185,7 +185,7 @@ module _ {A : Type 0} {w : ℕ} {f : A → List ℕ} where
     wrote_then {s = s} v e u =
         record {
           same = u.same ∙ v.same;
-          written = written_then (subst (λ (o : Option (Unit {0})). Written w f s b.numbers.now b.count (told o b₁.count) b₁.numbers.now) e v.written) u.written;
+          written = written_then (subst (λ (o : Option (Unit {0})). Written w f s b.numbers.now b.count (count_told o b₁.count) b₁.numbers.now) e v.written) u.written;
           full = u.full;
         }
 

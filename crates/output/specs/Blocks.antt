@@ -33,13 +33,13 @@ pub record BeginsBlocks {w : ℕ} (lent : MutBor (List ℕ)) (b : Blocks w) : Ty
   pub count : b.count ≡ 0
 
 -- how many blocks stand there, where a call tells that all found room
-abbrev pub told : Option (Unit {0}) → ℕ → Option ℕ
-told None count = None
-told (Some u) count = Some count
+abbrev pub count_told : Option (Unit {0}) → ℕ → Option ℕ
+count_told None count = None
+count_told (Some u) count = Some count
 
 -- The entries l are written, each as a block f, behind the blocks that stand in b, as many as find room: q tells whether all do, and b' is what is left.
 -- Where not all do, as many blocks stand there as there is room for.
 pub record Wrote {A : Type 0} {w : ℕ} (f : A → List ℕ) (l : List A) (b : Blocks w) (q : Option (Unit {0})) (b' : Blocks w) : Type 0 where
   pub same : b'.numbers.ghost_name ≡ b.numbers.ghost_name
-  pub written : Written w f l b.numbers.now b.count (told q b'.count) b'.numbers.now
+  pub written : Written w f l b.numbers.now b.count (count_told q b'.count) b'.numbers.now
   pub full : q ≡ None → b'.count ≡ length b'.numbers.now / w

@@ -1,15 +1,12 @@
 -- A path's places: a list, and zeros behind it. Assumes nothing.
-use mathlib.Core.Bool.{Bool, true, false, ◌||◌, cond, false≢true}
-use mathlib.Core.Path.{◌≡◌, refl, sym, ap, ap₂, ◌∙◌, subst}
+use mathlib.Core.Bool.{Bool, true, false, cond}
+use mathlib.Core.Path.{◌≡◌, refl, sym, ap, ◌∙◌}
 use mathlib.Core.List.{List, [], ◌∷◌, ◌++◌}
 use Prim.Native.Nat.{ℕ, suc, ◌+◌, ◌<◌, ◌≤◌}
 use native.Mathlib.Numerals.{add-one}
 use native.Mathlib.Omega.{arith}
-use lib.Dec.{T, eqb, eqb→eq}
 use lib.ListN.{length, get_or, take, drop, set, length-append, drop_of_length-le}
 use lib.Seq.{drop-cons, take-append_seam, take-suc-set}
-use borrow.Author.Tests.{eq-eqb, ne_eqb}
-use Rattle.std.specs.List.{list_any}
 use Rattle.as5506.specs.Lists.{has, zeros, padded}
 use Rattle.as5506.specs.Tracing.{append_new}
 use Rattle.lent.proofs.Sets.{drop-zeros}
@@ -39,18 +36,6 @@ module _ (n : ℕ) (l : List ℕ) (h : length l ≤ n) where
   pub places_of : (copied : List ℕ) → copied ≡ l → copied ++ drop (length l) (zeros n) ≡ padded n (take (length l) (copied ++ drop (length l) (zeros n)))
   unfolding padded
   places_of copied e = rw (front-of copied e, e, drop-zeros (length l) n) refl
-
--- whether a number is among them
-eqb-sym : (x y : ℕ) → eqb x y ≡ eqb y x
-eqb-sym x y = go (eqb x y) refl
-  where
-    go : (b : Bool) → eqb x y ≡ b → eqb x y ≡ eqb y x
-    go true e = e ∙ sym (eq-eqb y x (sym (eqb→eq x y (subst T (sym e) tt))))
-    go false e = e ∙ sym (ne_eqb y x (λ z. false≢true (sym e ∙ eq-eqb x y (sym z))))
-
-pub has_any : (v : ℕ) (l : List ℕ) → list_any (λ y. eqb y v) l ≡ has v l
-has_any v [] = refl
-has_any v (x ∷ xs) = ap₂ ◌||◌ (eqb-sym x v) (has_any v xs)
 
 -- those that are new, one after the other
 pub one_more : (p : List ℕ) (v : ℕ) → length (p ++ (v ∷ [])) ≡ length p + 1

@@ -3,12 +3,10 @@ use mathlib.Core.Bool.{Bool, true, false}
 use mathlib.Core.Path.{◌≡◌, refl}
 use mathlib.Core.List.{List, [], ◌∷◌, ◌++◌}
 use Prim.Native.Nat.{ℕ}
-use native.Mathlib.Omega.{arith}
 use lib.ListN.{length}
 use borrow.Author.Tests.{eq-eqb}
 use Rattle.as5506.specs.Tables.{Tables, present, source, destination, c_parent, x_owner, x_sub}
 use Rattle.as5506.specs.Tables.{Side as TheSide}
-use Rattle.as5506.specs.Rows.{diag}
 use Rattle.as5506.specs.Tracing.{named, one_to_one, no_child, unequal, shape, diags_by, diags_at, across}
 use Rattle.name.specs.declared.ConnectionPattern.{ConnectionPattern}
 use Rattle.name.specs.declared.ConnectionPattern.TheVariants.{AllToAll}
@@ -24,10 +22,6 @@ module _ (code x sub k : ℕ) where
   pub side_none : (l : List ℕ) → k ≡ length l → (k ≡ 0 → ⊥) → no_child code x sub l ≡ []
   side_none [] e h = absurd (h e)
   side_none (a ∷ l) e h = refl
-
-  pub side_one : (l : List ℕ) → k ≡ length l → k ≡ 0 → no_child code x sub l ≡ diag code x sub 0 ∷ []
-  side_one [] e h = refl
-  side_one (a ∷ l) e h = absurd (omega (arith, e, h))
 
 pub counts_equal : (one : Bool) (x a b : ℕ) → a ≡ b → unequal one x a b ≡ []
 counts_equal true x a b e = rw (eq-eqb a b e)

@@ -27,14 +27,9 @@ use Rattle.sheet.specs.declared.Seen.{Seen}
 use Rattle.as5506.specs.declared.Refusal.{Refusal as Told}
 use Rattle.std.specs.Prelude.{Ok, Err, Option, Some, None}
 use Rattle.std.proofs.lemmas.Option.{none-some, same_Some}
+use Rattle.std.proofs.lemmas.Bool.{and_parts}
 use Rattle.fields.specs.Fields.{columns_of}
 use Rattle.fields.proofs.Laws.{plain-fits}
-
--- ---- a test's parts, from the whole
-
-pub both : (a b : Bool) → (a && b) ≡ true → (a ≡ true) × (b ≡ true)
-both true b e = (refl, e)
-both false b e = (e, cc)
 
 -- ---- no. 4
 
@@ -63,15 +58,15 @@ module _ (s : List ℕ) where
 
     -- a row that keeps the rules is as long as they say
     pub row-size : keeps_rules l s ≡ true → length s ≡ 1 + line_bytes (columns l)
-    row-size e = eqb-true (length s) (1 + line_bytes (columns l)) (both (eqb (length s) (1 + line_bytes (columns l))) (fields_fit (columns l) (drop 1 s)) (sym row-rules ∙ e)).0
+    row-size e = eqb-true (length s) (1 + line_bytes (columns l)) (and_parts (eqb (length s) (1 + line_bytes (columns l))) (fields_fit (columns l) (drop 1 s)) (sym row-rules ∙ e)).0
 
   -- a name that keeps the rules has 1 to 63 bytes
   pub name-size : keeps_rules letter_n s ≡ true → (3 ≤ length s) × (length s ≤ 65)
   unfolding keeps_rules good_name
   name-size e =
-      let g = (both (eqb (get_or s 1 0) space) (good_name (line_name s)) e).1 in
-      let a = both (leb 1 (length (line_name s))) (leb (length (line_name s)) 63 && all_of name_byte (line_name s)) g in
-      let b = both (leb (length (line_name s)) 63) (all_of name_byte (line_name s)) a.1 in
+      let g = (and_parts (eqb (get_or s 1 0) space) (good_name (line_name s)) e).1 in
+      let a = and_parts (leb 1 (length (line_name s))) (leb (length (line_name s)) 63 && all_of name_byte (line_name s)) g in
+      let b = and_parts (leb (length (line_name s)) 63) (all_of name_byte (line_name s)) a.1 in
       let d = length-drop 2 s in
       (omega (arith, leb-true 1 (length (line_name s)) a.0), omega (arith, leb-true (length (line_name s)) 63 b.0))
 

@@ -2,9 +2,8 @@
 use mathlib.Core.Bool.{Bool, true, false, cond}
 use mathlib.Core.List.{List, [], ◌∷◌, map}
 use mathlib.Core.Path.{◌≡◌, refl, sym, ap, ◌∙◌}
-use Prim.Native.Nat.{ℕ, zero, suc, ◌+◌, ◌≤◌, ◌<◌}
+use Prim.Native.Nat.{ℕ, suc, ◌+◌, ◌≤◌, ◌<◌}
 use native.Mathlib.Decide.{dec_le}
-use native.Mathlib.Nat.{not-suc-le-zero, le_of_suc-le-suc}
 use native.Mathlib.Omega.{arith}
 use borrow.Author.Tests.{eqb-true, eq-eqb}
 use lib.Dec.{eqb}
@@ -15,7 +14,9 @@ use Rattle.as5506.specs.Sheet.{letter_of}
 use Rattle.as5506.specs.Tables.{Letter, letter_n, width}
 use Rattle.as5506.proofs.Letters.{each-letter, row-cells as width-cells, letter-byte as begins-with, byte-letter as begun-by, byte-some}
 use Rattle.std.specs.Prelude.{Option, Some, None, MatchOption}
+use Rattle.std.proofs.lemmas.List.{get_or-map}
 use Rattle.std.proofs.lemmas.Option.{none-some, same_Some}
+use Rattle.as5506.proofs.Laws.{up_to-entry}
 use Rattle.sheet.proofs.Lines.{index_found, index_none}
 use Rattle.sheet.specs.Steps.{letter_at, place_of, rank_of, index_of}
 
@@ -30,28 +31,11 @@ same-letter a b e = sym (letter_at_lem a) ∙ ap letter_at e ∙ letter_at_lem b
 pub rank_below : (l : Letter) → rank l < letter_count
 rank_below = each-letter (λ l. rank l < letter_count) (omega arith) (omega arith) (omega arith) (omega arith) (omega arith) (omega arith) (omega arith) (omega arith) (omega arith) (omega arith) (omega arith) (omega arith)
 
-mapped_at : (f : Letter → ℕ) (ls : List Letter) (k : ℕ) → k < length ls → get_or (map f ls) k 0 ≡ f (get_or ls k letter_n)
-mapped_at f [] k h = absurd (not-suc-le-zero h)
-mapped_at f (l ∷ ls) zero h = refl
-mapped_at f (l ∷ ls) (suc k) h = mapped_at f ls k (le_of_suc-le-suc h)
-
 entry : (f : Letter → ℕ) (k : ℕ) → k < letter_count → get_or (map f order) k 0 ≡ f (letter_at k)
-entry f = mapped_at f order
-
-span-at : (i n k : ℕ) → k < n → get_or (span i n) k 0 ≡ i + k
-span-at i zero k h = absurd (not-suc-le-zero h)
-span-at i (suc n) zero h = omega arith
-span-at i (suc n) (suc k) h = span-at (suc i) n k (le_of_suc-le-suc h) ∙ omega arith
+entry f k h = get_or-map f order k letter_n 0 h
 
 pub rank-at : (k : ℕ) → k < letter_count → rank (letter_at k) ≡ k
-rank-at k h = sym (entry rank k h) ∙ span-at 0 letter_count k h ∙ omega arith
-
--- tables that agree by letter agree at each place
-pub same_at : {A B C : Type 0} (f : A → C) (g : B → C) (d : A) (e : B) (xs : List A) (ys : List B) (k : ℕ) → k < length ys → map f xs ≡ map g ys → f (get_or xs k d) ≡ g (get_or ys k e)
-same_at f g d e xs [] k h q = absurd (not-suc-le-zero h)
-same_at f g d e [] (y ∷ ys) k h q = absurd (let z : ◌≡◌ {A = ℕ} 0 (length (map g (y ∷ ys))) = ap length q in omega arith)
-same_at f g d e (x ∷ xs) (y ∷ ys) zero h q = ap (λ cs. get_or cs 0 (f x)) q
-same_at f g d e (x ∷ xs) (y ∷ ys) (suc k) h q = same_at f g d e xs ys k (le_of_suc-le-suc h) (ap (drop 1) q)
+rank-at k h = sym (entry rank k h) ∙ up_to-entry letter_count k 0 h
 
 -- as5506::WIDTHS and LETTERS
 abbrev pub widths : List ℕ

@@ -14,7 +14,8 @@ use Rattle.std.proofs.lemmas.Option.{none-some}
 use Rattle.as5506.specs.Columns.{rank, letter_byte, columns, line_bytes}
 use Rattle.as5506.specs.Sheet.{Line, ended, unended, text_of, letter_of, lines_of, lines_with, keeps_rules, line_feed}
 use Rattle.as5506.specs.Tables.{Letter}
-use Rattle.sheet.proofs.Check.{both, row-size}
+use Rattle.std.proofs.lemmas.Bool.{and_parts}
+use Rattle.sheet.proofs.Check.{row-size}
 use Rattle.sheet.proofs.Letters.{same-letter, letter-byte, byte-within, same_byte, other_byte}
 use Rattle.sheet.proofs.Lines.{index-within, stop_of, no_lines, last_line, next-line}
 use Rattle.sheet.proofs.Rows.{none-with, other-line}
@@ -35,8 +36,8 @@ first_of k s ls e = go (letter_of s) refl e
     go : (o : Option Letter) → letter_of s ≡ o → (keeps_letter s o && leb k (rank_of o) && in_order (rank_of o) ls) ≡ true → First k s ls
     go None q e = absurd (false≢true e)
     go (Some l) q e =
-        let a = both (keeps_rules l s && leb k (rank l)) (in_order (rank l) ls) e in
-        let b = both (keeps_rules l s) (leb k (rank l)) a.0 in
+        let a = and_parts (keeps_rules l s && leb k (rank l)) (in_order (rank l) ls) e in
+        let b = and_parts (keeps_rules l s) (leb k (rank l)) a.0 in
         record { letter = l; known = q; rules = b.0; order = leb-true k (rank l) b.1; rest = a.1 }
 
 pub first-in : (k : ℕ) (s : List ℕ) (ls : List Line) (l : Letter) → letter_of s ≡ Some l → keeps_rules l s ≡ true → k ≤ rank l → in_order (rank l) ls ≡ true → in_order k (ended s ∷ ls) ≡ true

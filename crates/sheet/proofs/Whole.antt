@@ -15,7 +15,8 @@ use Rattle.as5506.specs.Sheet.{Line, ended, unended, text_of, lines_of, lines_wi
 use Rattle.as5506.specs.Tables.{Tables, Letter, letter_n, table, width}
 use Rattle.as5506.specs.declared.Refusal.{Refusal as Told}
 use Rattle.lent.proofs.Padded.{padded-is}
-use Rattle.sheet.proofs.Check.{both, Good, good, earlier-none, earlier-than}
+use Rattle.std.proofs.lemmas.Bool.{and_parts}
+use Rattle.sheet.proofs.Check.{Good, good, earlier-none, earlier-than}
 use Rattle.as5506.proofs.Letters.{each-letter}
 use Rattle.sheet.proofs.Letters.{byte-letter}
 use Rattle.sheet.proofs.Order.{first-in}
@@ -68,7 +69,7 @@ module _ (lent : Lent) where
   unfolding has_place
   place_of before l s g h =
       let e : g.letter ≡ l = cc (g.known, byte-letter s l h) in
-      let b = both (leb (suc (length (lines_with l before)) * width l) (lent.numbers l)) (not (is_n l) || leb (name_bytes (s ∷ before)) lent.bytes)
+      let b = and_parts (leb (suc (length (lines_with l before)) * width l) (lent.numbers l)) (not (is_n l) || leb (name_bytes (s ∷ before)) lent.bytes)
       (subst (λ (m : Letter). has_place lent before m s ≡ true) e g.place) in
       (leb-true (suc (length (lines_with l before)) * width l) (lent.numbers l) b.0, b.1)
 

@@ -1,62 +1,36 @@
 -- Laws of the search for a partner: its loop, that its answer is a kept feature, and its memory. Assumes nothing.
-use mathlib.Core.Bool.{Bool, true, false}
+use mathlib.Core.Bool.{Bool}
 use mathlib.Core.Path.{◌≡◌, refl, sym, ap, ◌∙◌}
-use mathlib.Core.List.{List, [], ◌∷◌}
-use Prim.Native.Nat.{ℕ, zero, suc, ◌+◌, ◌-◌, ◌*◌, ◌≤◌, ◌<◌}
-use native.Mathlib.Nat.{sub-zero}
+use mathlib.Core.List.{List}
+use Prim.Native.Nat.{ℕ, zero, suc, ◌+◌, ◌*◌, ◌≤◌, ◌<◌}
 use native.Mathlib.Omega.{arith}
 use Rattle.std.specs.Prelude.{Option, Some, None, IfSome}
 use Rattle.std.proofs.lemmas.Option.{none-some, same_Some}
 use lib.ListN.{length, get_or, set}
 use lib.Seq.{set-get_or}
-use Rattle.as5506.specs.Lists.{span, up_to, keep, same_bytes}
+use Rattle.as5506.specs.Lists.{up_to, keep, same_bytes}
 use Rattle.as5506.specs.Tables.{Tables, name_of}
 use Rattle.as5506.specs.Names.{key, same_folded}
-use Rattle.as5506.proofs.Laws.{All, all_keep, up_to-below}
-use Rattle.as5506.proofs.Scans.{keep-hit, keep-miss, keep-done}
+use Rattle.as5506.proofs.Laws.{all_first, all_keep, up_to-below}
 use Rattle.as5506.specs.Layout.{feature_numbers}
 use Rattle.name.proofs.Compare.{keys-folded}
-use Rattle.sink.specs.Take.{kept_count, kept_name, first_place, partner_of, code_of, Remembered, answer_of, Memory}
+use Rattle.sink.specs.Take.{kept_count, kept_name, partner_of, code_of, Remembered, answer_of, Memory}
 
--- ---- the loop: no feature before place i is the partner
+-- ---- the loop: whether a kept feature passes is what comparing the names says
 
-module _ (m : Tables) (kept : List ℕ) (name : ℕ) where
-  abbrev test : ℕ → Bool
-  test i = same_bytes (key m name) (key m (kept_name kept i))
+abbrev pub test : Tables → List ℕ → ℕ → ℕ → Bool
+test m kept name i = same_bytes (key m name) (key m (kept_name kept i))
 
-  pub record Searching (i : ℕ) : Type 0 where
-    pub within : i ≤ kept_count kept
-    pub left : first_place (keep test (span i (kept_count kept - i))) ≡ partner_of m kept name
-
-  pub searching_start : Searching 0
-  unfolding partner_of
-  searching_start = record { within = omega arith; left = rw sub-zero }
-
-  module _ (i : ℕ) (s : Searching i) where
-    module _ (h : i < kept_count kept) where
-      tested : (r : Bool) → same_folded (name_of m name) (name_of m (kept_name kept i)) ≡ r → test i ≡ r
-      tested r e = sym (keys-folded m name (kept_name kept i)) ∙ e
-
-      pub searching_turn : same_folded (name_of m name) (name_of m (kept_name kept i)) ≡ false → Searching (i + 1)
-      searching_turn e = record { within = omega arith; left = sym (ap first_place (keep-miss test i (kept_count kept) h (tested false e))) ∙ s.left }
-
-      pub searching_hit : same_folded (name_of m name) (name_of m (kept_name kept i)) ≡ true → Some i ≡ partner_of m kept name
-      searching_hit e = sym (ap first_place (keep-hit test i (kept_count kept) h (tested true e))) ∙ s.left
-
-    pub searching_end : kept_count kept ≤ i → None ≡ partner_of m kept name
-    searching_end h = sym (ap first_place (keep-done test i (kept_count kept) h)) ∙ s.left
+pub tested : (m : Tables) (kept : List ℕ) (name i : ℕ) (r : Bool) → r ≡ same_folded (name_of m name) (name_of m (kept_name kept i)) → test m kept name i ≡ r
+tested m kept name i r e = sym (e ∙ keys-folded m name (kept_name kept i))
 
 -- ---- the partner is one of the features that were kept
-
-all-first : (n : ℕ) (is : List ℕ) → All (λ j. j < n) is → (i : ℕ) → Some i ≡ first_place is → i < n
-all-first n [] a i e = absurd (none-some i (sym e))
-all-first n (j ∷ is) a i e = rw (same_Some _ _ e) a.0
 
 pub partner_below : (m : Tables) (kept : List ℕ) (name i : ℕ) → Some i ≡ partner_of m kept name → i < kept_count kept
 unfolding partner_of
 partner_below m kept name i e =
     let n : ℕ = kept_count kept in
-    all-first n (keep (test m kept name) (up_to n)) (all_keep (λ j. j < n) (λ j. j < n) (test m kept name) (λ j t h. h) (up_to n) (up_to-below n)) i e
+    all_first (λ j. j < n) (keep (test m kept name) (up_to n)) (all_keep (λ j. j < n) (λ j. j < n) (test m kept name) (λ j t h. h) (up_to n) (up_to-below n)) i e
 
 -- what the calls of a match ask for
 pub partner_few : (m : Tables) (kept : List ℕ) (name : ℕ) (z : Option ℕ) → z ≡ partner_of m kept name → kept_count kept ≤ 4096 → IfSome z (λ i. i < 4096)

@@ -1,6 +1,6 @@
 -- What is done with a feature of an expansion: for each purpose of a walk. Assumes nothing.
-use Rattle.std.specs.Prelude.{Bool, true, false, ◌≡◌, List, [], ◌∷◌, ◌++◌, ℕ, zero, suc, ◌+◌, ◌-◌, ◌*◌, ◌/◌, ◌≤◌, eqb, length, get_or, take, drop, set, Option, Some, None}
-use Rattle.as5506.specs.Lists.{keep, up_to, zeros, same_bytes}
+use Rattle.std.specs.Prelude.{Bool, true, false, ◌≡◌, List, ◌∷◌, ◌++◌, ℕ, zero, suc, ◌+◌, ◌-◌, ◌*◌, ◌/◌, ◌≤◌, eqb, length, get_or, take, drop, set, Option, Some, None}
+use Rattle.as5506.specs.Lists.{keep, up_to, first_of, zeros, same_bytes}
 use Rattle.as5506.specs.Tables.{Tables}
 use Rattle.as5506.specs.Names.{key}
 use Rattle.as5506.specs.Groups.{Feature as Meant}
@@ -55,13 +55,9 @@ kept_name kept i = get_or kept (i * feature_numbers) 0
 abbrev pub kept_block : List ℕ → ℕ → List ℕ
 kept_block kept i = take feature_numbers (drop (i * feature_numbers) kept)
 
-abbrev pub first_place : List ℕ → Option ℕ
-first_place [] = None
-first_place (i ∷ is) = Some i
-
 -- "the first destination feature whose last name is equal folded": its place among those that were kept
 unfoldable pub partner_of : Tables → List ℕ → ℕ → Option ℕ
-partner_of m kept name = first_place (keep (λ i. same_bytes (key m name) (key m (kept_name kept i))) (up_to (kept_count kept)))
+partner_of m kept name = first_of (keep (λ i. same_bytes (key m name) (key m (kept_name kept i))) (up_to (kept_count kept)))
 
 -- the numbers of a row that a match leaves unused
 abbrev pub spare_numbers : ℕ

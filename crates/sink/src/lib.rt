@@ -139,7 +139,7 @@ fn comes_first(memo: &mut [u32], name: u32) -> bool
 
 impl Matching<'_> {
     // The first of the kept features whose name is equal folded to a name.
-    #[tactic(auto, using(crate::proofs::Search::searching_start, crate::proofs::Search::searching_turn, crate::proofs::Search::searching_hit, crate::proofs::Search::searching_end))]
+    #[tactic(auto, unfolding(crate::specs::Take::partner_of), using(as5506::proofs::Searches::search_start, as5506::proofs::Searches::search_hit, as5506::proofs::Searches::search_miss, as5506::proofs::Searches::search_end, crate::proofs::Search::tested))]
     fn find_partner(&self, m: &Tables, name: u32) -> Option<usize>
         ensures { result ≡ partner_of (model m.now) self.now.kept.now name }
     {

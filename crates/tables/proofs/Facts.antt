@@ -8,15 +8,15 @@ use Prim.Native.Nat.{ℕ, ◌+◌, ◌%◌, ◌≤◌, ◌<◌}
 use lib.ListN.{length}
 use lib.Dec.{T, eqb, ltb, eqb→eq, ltb→lt, nltb→le}
 use borrow.Author.Tests.{eq-eqb, ne_eqb}
-use Rattle.as5506.specs.Lists.{up_to, is_nil, each}
+use Rattle.as5506.specs.Lists.{is_nil, each}
 use Rattle.as5506.specs.Tables.{Tables, missing, present, Letter, letter_n, letter_c, letter_f, letter_x, letter_p, letter_i, letter_t, letter_q, letter_u, letter_e, letter_r, letter_m, table, width, count, at, n_start, n_length, name_of, c_count, c_name, c_parent, c_package, c_type, c_pattern, c_place, f_name, f_owner, f_kind, Side, source, destination, x_count, x_name, x_owner, x_kind, x_sub, x_feat, Ref, p_name, i_package, i_name, t_package, t_name, t_private, q_package, q_type, q_impl, q_private, u_package, u_name, u_private, u_extends, u_inverse_of, e_holder_kind, e_holder, e_name, e_kind, e_direction, e_classifier, r_package, r_what, r_alias, r_original_package, r_original_name, m_name, m_owner}
 use Rattle.as5506.specs.Columns.{order, Meaning, name, row_in, holder, below, anything, Column, needed, optional, long, field_cells, columns}
 use Rattle.as5506.specs.Names.{good_name}
 use Rattle.as5506.specs.Answers.{Refusal, refusal, row}
 use Rattle.as5506.specs.Refusals.{row_faults, broken_rows, too_many_rows, bad_name, faults10, holder_letter, in_range, good_long, allows, allows_from, bad_row, faults6, faults7, bad_end, bad_ref, bad_rename, faults8, clashes, place_key, faults16, faults9, faults, accepted}
-use Rattle.as5506.proofs.Laws.{All, up_to-at, and_left, and_right, not-not, nil-left, nil-right, nil-when, nil-each, nil-keep}
+use Rattle.as5506.proofs.Laws.{All, and_left, and_right, not-not, nil-left, nil-right, nil-when, nil-each}
 use Rattle.as5506.proofs.Whole.{Sound}
-use Rattle.as5506.proofs.Accepted.{some-component, sound}
+use Rattle.as5506.proofs.Accepted.{some-component, sound, no_row}
 use Rattle.as5506.proofs.Keys.{Unique, keys-unique}
 use Rattle.tables.specs.Ends.{bad_ends, bad_references, bad_classifier}
 use Rattle.tables.specs.Keys.{key_p, key_t, key_q, key_u, key_r}
@@ -134,9 +134,6 @@ joined xs (ys ∷ yss) = joined (xs ++ ys) yss
 joined-nil : (xs : List Refusal) (yss : List (List Refusal)) → T (is_nil (joined xs yss)) → T (is_nil xs) × All (λ ys. T (is_nil ys)) yss
 joined-nil xs [] t = (t, tt)
 joined-nil xs (ys ∷ yss) t = let h = joined-nil (xs ++ ys) yss t in (nil-left xs ys h.0, (nil-right xs ys h.0, h.1))
-
-no_row : (number : ℕ) (m : Tables) (l : Letter) (p : ℕ → Bool) → T (is_nil (row_faults number m l p)) → (i : ℕ) → i < count m l → T (not (p i))
-no_row number m l p t i h = up_to-at (λ i. T (not (p i))) (count m l) i (nil-keep (λ i. refusal number (row l i)) p (up_to (count m l)) t) h
 
 -- ---- 6: what the columns of a row say
 module _ (m : Tables) (i : ℕ) where

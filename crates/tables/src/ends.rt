@@ -14,7 +14,7 @@ use as5506::{MISSING, Refusal};
 use columns::{Reference, Side, component, connection, declared, group_type};
 use lent::Tables;
 
-// The kind of a rename that is of a package. A number, since no other is asked for here. (`resolver`'s enum of these kinds is private to it.)
+// The kind of a rename that is of a package. A number, since no other is asked for here.
 const PACKAGE: u32 = 0;
 
 // Whether component i is the first and has a parent, or has none that is smaller.

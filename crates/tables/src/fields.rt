@@ -127,7 +127,7 @@ impl FewRows<'_, '_> {
             Meaning::Row(letter) => (v as usize) < self.count_of(letter),
             Meaning::Holder => {
                 let holder = if declared::holder_kind_of(self.m, row.i)
-                    == declared::COMPONENT_TYPE
+                    == declared::HOLDER_COMPONENT_TYPE
                 {
                     Letter::T
                 } else {
@@ -140,7 +140,8 @@ impl FewRows<'_, '_> {
         }
     }
 
-    // Whether the field of a row from number j on is in its range.
+    // Whether the field of a row from number j on is in its range. (That j is small, so that the numbers behind it have
+    // a place in a byte too.)
     fn allows(&self, letter: Letter, row: RowNumber, j: u8, column: Column) -> bool
         requires { j ≤ 27 }
         ensures { result ≡ allows (model self.now.m.now) (letter_of letter) row.i j (column_of column) }

@@ -2,7 +2,7 @@
 // letters in their order and over the rows of each; the lowest bad row of the first bad table is the refusal's place.
 #![tactic(auto)]
 
-ghost use Rattle.std.specs.Prelude.{◌≡◌, ◌≤◌};
+ghost use Rattle.std.specs.Prelude.{◌≡◌, ◌<◌};
 ghost use Rattle.lent.specs.Model.{model};
 ghost use Rattle.as5506.specs.Refusals.{faults};
 ghost use Rattle.tables.specs.Answer.{checked};
@@ -42,11 +42,11 @@ struct FewRows<'a, 'b> {
     ghost few: { Few (model m.now) },
 }
 
-// The number of a row, at most 4,096, so that the place of its numbers in a table is within `usize`.
+// The number of a row, below 4,096, so that the place of its numbers in a table is within `usize`.
 #[derive(Clone, Copy)]
 struct RowNumber {
     i: usize,
-    ghost small: { i ≤ 4096 },
+    ghost small: { i < 4096 },
 }
 
 // What the tables are refused for, if anything: one check after the other. After `check_few` no table has more than 4,096 rows.

@@ -17,7 +17,7 @@ use Rattle.lent.proofs.Pieces.{all_fit, all-full, all-length}
 use Rattle.output.specs.Put.{Put, output_of}
 use Rattle.output.specs.declared.Output.{Output}
 use Rattle.output.proofs.Put.{Printing, put_as, put_none, printing_start, printing_turn, printing_end, ◌▷◌}
-use Rattle.text.specs.Printing.{row_named, group_rows, traced_text, told_text, list_of, refusal_of}
+use Rattle.text.specs.Printing.{row_named, group_rows, traced_text, diagnostic_text, list_of, refusal_of}
 use Rattle.text.proofs.Blocks.{group-named, traced-named, row-pieces, group-next, group-done}
 use Rattle.text.proofs.Printed.{list-pieces}
 use Rattle.text.proofs.Messages.{message-none, message-endpoint, message-source, message-destination, message-sizes, path-owner, path-feature, diag-pieces, at_line}
@@ -49,12 +49,12 @@ module _ {o o₁ o₂ o₃ : Output} where
 
     pub diag_put : {o₅ o₆ : Output} (m : Tables) (b name : List ℕ) → length b ≡ diag_numbers → name ≡ name_of m (x_name m (get_or b 1 0))
         → Put (bytes_of "D") o o₁ → Put (each column b) o₁ o₂ → Put (bytes_of "\n! ") o₂ o₃ → Put (message m name (get_or b 0 0) (get_or b 2 0) (get_or b 3 0)) o₃ o₄ → Put (bytes_of "\n") o₄ o₅
-        → Put (each (text_line (bytes_of "@")) (path_names m (diag_back b) (ltb (get_or b 0 0) 5))) o₅ o₆ → Put (told_text m b) o o₆
-    unfolding told_text
+        → Put (each (text_line (bytes_of "@")) (path_names m (diag_back b) (ltb (get_or b 0 0) 5))) o₅ o₆ → Put (diagnostic_text m b) o o₆
+    unfolding diagnostic_text
     diag_put m b name h e p q r s t u = put_as (p ▷ q ▷ r ▷ s ▷ t ▷ u) (diag-pieces m b name h e)
 
 pub list_put : {o o₁ o₂ o₃ o₄ o₅ : Output} (m : Tables) (traced group : List (List ℕ)) (names : List ℕ) (diags group_diags : List (List ℕ))
-    → Put (each (traced_text m) traced) o o₁ → Put (each row_text (group_rows group names)) o₁ o₂ → Put (each (told_text m) diags) o₂ o₃ → Put (each (told_text m) group_diags) o₃ o₄
+    → Put (each (traced_text m) traced) o o₁ → Put (each row_text (group_rows group names)) o₁ o₂ → Put (each (diagnostic_text m) diags) o₂ o₃ → Put (each (diagnostic_text m) group_diags) o₃ o₄
     → Put (number_line (bytes_of "Z") (length traced ∷ length group ∷ [])) o₄ o₅
     → Put (list_of m (map (row_back m) traced) (group_rows group names) (map diag_back diags) (map diag_back group_diags)) o o₅
 list_put m traced group names diags group_diags p q r s t = put_as (p ▷ q ▷ r ▷ s ▷ t) (list-pieces m traced group names diags group_diags)

@@ -15,7 +15,7 @@ use Rattle.as5506.specs.Listing.{BothLists}
 use Rattle.as5506.specs.Layout.{row_numbers, diag_numbers, row_back, rows_back, group_back, group_rows_back, names_behind, diag_back, diags_back}
 use Rattle.as5506.specs.Text.{row_text, diag_text, number_line, list_text, refusal_text}
 use Rattle.as5506.proofs.Laws.{each_map}
-use Rattle.text.specs.Printing.{group_rows, traced_text, told_text, list_of, refusal_of}
+use Rattle.text.specs.Printing.{group_rows, traced_text, diagnostic_text, list_of, refusal_of}
 
 pub list-printed : (m : Tables) (b : BothLists) → list_text m b ≡ list_of m (map (shown m) b.traced.rows) b.group.rows b.traced.diags b.group.diags
 unfolding list_text list_of
@@ -58,7 +58,7 @@ group-count (b ∷ bs) names = ap suc (group-count bs (names_behind b names))
 pub list-pieces : (m : Tables) (traced group : List (List ℕ)) (names : List ℕ) (diags group_diags : List (List ℕ))
     → list_of m (map (row_back m) traced) (group_rows group names) (map diag_back diags) (map diag_back group_diags)
     ≡ each (traced_text m) traced ++ each row_text (group_rows group names)
-    ++ each (told_text m) diags ++ each (told_text m) group_diags ++ number_line (bytes_of "Z") (length traced ∷ length group ∷ [])
-unfolding list_of traced_text told_text
+    ++ each (diagnostic_text m) diags ++ each (diagnostic_text m) group_diags ++ number_line (bytes_of "Z") (length traced ∷ length group ∷ [])
+unfolding list_of traced_text diagnostic_text
 list-pieces m traced group names diags group_diags =
     rw (length-map traced (row_back m), group-count group names, each_map row_text (row_back m) traced, each_map (diag_text m) diag_back diags, each_map (diag_text m) diag_back group_diags)

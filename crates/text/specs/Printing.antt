@@ -32,8 +32,8 @@ group_rows (b ∷ bs) names = group_back b names ∷ group_rows bs (names_behind
 unfoldable pub traced_text : Tables → List ℕ → List ℕ
 traced_text m b = row_text (row_back m b)
 
-unfoldable pub told_text : Tables → List ℕ → List ℕ
-told_text m b = diag_text m (diag_back b)
+unfoldable pub diagnostic_text : Tables → List ℕ → List ℕ
+diagnostic_text m b = diag_text m (diag_back b)
 
 -- the list of the rows and diagnostics of both listings
 unfoldable pub list_of : Tables → List Row → List Row → List Diag → List Diag → List ℕ

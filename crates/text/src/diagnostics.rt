@@ -6,7 +6,7 @@ ghost use Rattle.as5506.specs.Tables.{name_of, x_name};
 ghost use Rattle.as5506.specs.Text.{digits, text_line, message, path_names};
 ghost use Rattle.lent.specs.Model.{model};
 ghost use Rattle.output.specs.Put.{Put};
-ghost use Rattle.text.specs.Printing.{told_text};
+ghost use Rattle.text.specs.Printing.{diagnostic_text};
 
 use super::lines;
 use as5506::DIAGNOSTIC_NUMBERS;
@@ -89,7 +89,7 @@ fn put_path_names(m: &Tables, block: &[u32; DIAGNOSTIC_NUMBERS], out: &mut Outpu
 // Prints a diagnostic from its block of numbers: its code, its connection and the two numbers of its message.
 #[tactic(auto, using(crate::proofs::Pieces::diag_put))]
 pub fn put_diagnostic(m: &Tables, block: &[u32; DIAGNOSTIC_NUMBERS], out: &mut Output)
-    ensures { Put (told_text (model m.now) block.now) out.old out.new }
+    ensures { Put (diagnostic_text (model m.now) block.now) out.old out.new }
 {
     out.put(b"D");
     decimal::put_columns(block, out);

@@ -47,7 +47,7 @@ pub fn put_row(
     put_between(b"> ", destination, b"\n", out);
 }
 
-// Prints `Z` and two numbers: of a list how many rows each listing has.
+// Prints `Z` and two numbers: of a list how many rows each listing has, of selections how many there are and whether they are cut.
 #[tactic(auto, using(crate::proofs::Pieces::counts_put))]
 pub fn put_counts(first: usize, second: usize, out: &mut Output)
     ensures { Put (number_line (bytes_of "Z") (first ∷ second ∷ [])) out.old out.new }

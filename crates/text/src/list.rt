@@ -6,7 +6,7 @@ ghost use Rattle.as5506.specs.Text.{row_text};
 ghost use Rattle.lent.specs.Model.{model};
 ghost use Rattle.lent.specs.Printed.{Printed};
 ghost use Rattle.output.specs.Put.{Put};
-ghost use Rattle.text.specs.Printing.{group_rows, traced_text, told_text, refusal_of};
+ghost use Rattle.text.specs.Printing.{group_rows, traced_text, diagnostic_text, refusal_of};
 ghost use Rattle.text.specs.Listed.{listings_text};
 
 use super::{diagnostics, lines};
@@ -89,7 +89,7 @@ fn put_group(rows: &[[u32; ROW_NUMBERS]], names: &[u8], out: &mut Output)
 // Prints diagnostics.
 #[tactic(auto, using(decimal::proofs::Each::printing_each))]
 fn put_diagnostics(m: &Tables, list: &[[u32; DIAGNOSTIC_NUMBERS]], out: &mut Output)
-    ensures { Put (each (told_text (model m.now)) list.now) out.old out.new }
+    ensures { Put (each (diagnostic_text (model m.now)) list.now) out.old out.new }
 {
     for block in list {
         diagnostics::put_diagnostic(m, block, out);

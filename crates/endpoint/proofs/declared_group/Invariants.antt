@@ -2,7 +2,7 @@
 use Rattle.as5506.specs.Tables.{letter_e, count}
 use Rattle.as5506.specs.Names.{key}
 use Rattle.lent.specs.Model.{model}
-use Rattle.resolver.proofs.Scan.{Searching}
+use Rattle.as5506.proofs.Searches.{Searching}
 use Rattle.endpoint.specs.Ends.{is_declared}
 use Rattle.endpoint.proofs.declared_group.Given as goal
 

@@ -2,7 +2,7 @@
 use Rattle.as5506.specs.Tables.{letter_f, count}
 use Rattle.as5506.specs.Names.{key}
 use Rattle.lent.specs.Model.{model}
-use Rattle.resolver.proofs.Scan.{Searching}
+use Rattle.as5506.proofs.Searches.{Searching}
 use Rattle.endpoint.specs.Ends.{is_group}
 use Rattle.endpoint.proofs.has_group_feature.Given as goal
 

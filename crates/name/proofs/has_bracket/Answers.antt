@@ -1,6 +1,6 @@
 -- `name::has_bracket` meets its contract. Assumes nothing.
 use Rattle.std.proofs.Common.{◌∙◌}
-use Rattle.name.proofs.Scan.{any-has}
+use Rattle.as5506.proofs.Searches.{any-has}
 use Rattle.name.proofs.has_bracket.Goals as goal
 
 pub returns : goal.returns

@@ -2,7 +2,7 @@
 use Rattle.std.proofs.Common.{◌/◌, length}
 use Rattle.lent.specs.Model.{model}
 use Rattle.resolver.specs.Keys.{row_has_key}
-use Rattle.resolver.proofs.Scan.{Searching}
+use Rattle.as5506.proofs.Searches.{Searching}
 use Rattle.resolver.proofs.find_row.Given as goal
 
 abbrev pub invariant-loop-row : goal.invariant-loop-row
