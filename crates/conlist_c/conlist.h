@@ -1,11 +1,17 @@
 /* The library for C. Each slice crosses as two arguments, a pointer and a count; an answer is told in numbers.
 
    No pointer is null, and no slice that is written overlaps another. A slice of `uint32_t` holds whole rows, one behind the other: of the tables
-   N C F X P I T Q U E R M a row has 2 9 3 7 1 2 3 4 9 8 5 3 numbers, of a listing 49, of diagnostics 4, of an expansion 14, of a selection of modes 1.
+   N C F X P I T Q U E R M a row has 2 9 3 7 1 2 3 4 9 8 5 3 numbers, of links 2, of a listing 49, of diagnostics 4, of an expansion 14, of a selection of
+   modes 1.
    The numbers of a C row are name, parent, present, high, low, package, type, pattern and place. Present, high and low are the array index, of 64 bits:
    1, its high 32 bits and its low 32 bits, or three zeros where it is missing; with present above 1, or 0 and other bits set, a call refuses with 6. Any
    other number that is missing is 4294967295. The numbers of an M row are name, owner component and initial, 0 or 1, none of which may be missing.
    `bytes` holds the bytes of the tables' names, and `names` takes the three names of each group row, unseparated.
+
+   `links` takes the link table, which a listing fills once the tables are checked, and by which it then goes: a row for each component, in the order of
+   the rows of C, of its first child and its next sibling, in the order of their places; each is missing where there is none, and the root has no
+   sibling. There have to be at least as many whole rows of it as there are components. With fewer, a call refuses with 22, behind the refusals of tables
+   and before those of a list; the place of 22 is 0, and its letter `-`.
 
    Afterwards an output holds its rows from the front and zeros behind, or zeros alone where the call refuses; that of text holds the list, or the
    line of a refusal, and zeros behind. */
@@ -58,38 +64,41 @@ void conlist_expand_feature_group(CONLIST_TABLES, uint32_t *out, size_t out_leng
 
 /* Lists as `compute_semantic_connections` does. `told` then holds 0, the rows and the diagnostics that were written, or a refusal's number, place and
    letter. */
-void conlist_compute_semantic_connections(CONLIST_TABLES, uint32_t *rows, size_t rows_length, uint32_t *diagnostics,
-                                          size_t diagnostics_length, uint64_t told[3]);
+void conlist_compute_semantic_connections(CONLIST_TABLES, uint32_t *links, size_t links_length, uint32_t *rows,
+                                          size_t rows_length, uint32_t *diagnostics, size_t diagnostics_length,
+                                          uint64_t told[3]);
 
 /* Lists as `expand_feature_group_connections` does. `told` then holds 0, the rows and the diagnostics that were written, or a refusal's number, place
    and letter. */
-void conlist_expand_feature_group_connections(CONLIST_TABLES, uint32_t *rows, size_t rows_length, uint8_t *names,
-                                              size_t names_length, uint32_t *diagnostics, size_t diagnostics_length,
-                                              uint64_t told[3]);
+void conlist_expand_feature_group_connections(CONLIST_TABLES, uint32_t *links, size_t links_length, uint32_t *rows,
+                                              size_t rows_length, uint8_t *names, size_t names_length,
+                                              uint32_t *diagnostics, size_t diagnostics_length, uint64_t told[3]);
 
 /* Lists as `list_connections` does. `told` then holds 0, the traced rows and diagnostics and the group rows and diagnostics that were written, or a
    refusal's number, place and letter and two zeros. */
-void conlist_list_connections(CONLIST_TABLES, uint32_t *rows, size_t rows_length, uint32_t *diagnostics,
-                              size_t diagnostics_length, uint32_t *group_rows, size_t group_rows_length, uint8_t *names,
-                              size_t names_length, uint32_t *group_diagnostics, size_t group_diagnostics_length,
-                              uint64_t told[5]);
+void conlist_list_connections(CONLIST_TABLES, uint32_t *links, size_t links_length, uint32_t *rows, size_t rows_length,
+                              uint32_t *diagnostics, size_t diagnostics_length, uint32_t *group_rows,
+                              size_t group_rows_length, uint8_t *names, size_t names_length,
+                              uint32_t *group_diagnostics, size_t group_diagnostics_length, uint64_t told[5]);
 
 /* The same three with the diagnostics in records of the caller's, `out`. There is room for as many as there are records, and for no more than a quarter of
    the `numbers`; beyond that the call refuses with 12. The numbers hold the diagnostics too. */
-void conlist_compute_semantic_connections_with_records(CONLIST_TABLES, uint32_t *rows, size_t rows_length,
-                                                       uint32_t *numbers, size_t numbers_length,
-                                                       struct conlist_diagnostic *out, size_t out_length,
-                                                       uint64_t told[3]);
+void conlist_compute_semantic_connections_with_records(CONLIST_TABLES, uint32_t *links, size_t links_length,
+                                                       uint32_t *rows, size_t rows_length, uint32_t *numbers,
+                                                       size_t numbers_length, struct conlist_diagnostic *out,
+                                                       size_t out_length, uint64_t told[3]);
 
-void conlist_expand_feature_group_connections_with_records(CONLIST_TABLES, uint32_t *rows, size_t rows_length,
-                                                           uint8_t *names, size_t names_length, uint32_t *numbers,
+void conlist_expand_feature_group_connections_with_records(CONLIST_TABLES, uint32_t *links, size_t links_length,
+                                                           uint32_t *rows, size_t rows_length, uint8_t *names,
+                                                           size_t names_length, uint32_t *numbers,
                                                            size_t numbers_length, struct conlist_diagnostic *out,
                                                            size_t out_length, uint64_t told[3]);
 
-void conlist_list_connections_with_records(CONLIST_TABLES, uint32_t *rows, size_t rows_length, uint32_t *numbers,
-                                           size_t numbers_length, struct conlist_diagnostic *out, size_t out_length,
-                                           uint32_t *group_rows, size_t group_rows_length, uint8_t *names,
-                                           size_t names_length, uint32_t *group_numbers, size_t group_numbers_length,
+void conlist_list_connections_with_records(CONLIST_TABLES, uint32_t *links, size_t links_length, uint32_t *rows,
+                                           size_t rows_length, uint32_t *numbers, size_t numbers_length,
+                                           struct conlist_diagnostic *out, size_t out_length, uint32_t *group_rows,
+                                           size_t group_rows_length, uint8_t *names, size_t names_length,
+                                           uint32_t *group_numbers, size_t group_numbers_length,
                                            struct conlist_diagnostic *group_out, size_t group_out_length,
                                            uint64_t told[5]);
 

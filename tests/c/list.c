@@ -1,6 +1,7 @@
 /* Prints the connection list of a sheet on standard input, as conlist does; then reads the sheet into tables, and sees that the calls over tables
-   agree with one another: the listings each by itself and both in one call, and diagnostics as numbers and as records. Then it gives two components
-   modes, and asks for their selections. Last it changes the array indices: any bits list the same, and numbers that no index has are refused. */
+   agree with one another: the listings each by itself and both in one call, and diagnostics as numbers and as records; and that each leaves the link
+   table, or refuses where there is no room for it. Then it gives two components modes, and asks for their selections. Last it changes the array indices:
+   any bits list the same, and numbers that no index has are refused. */
 #include "conlist.h"
 #include <stdio.h>
 #include <stdlib.h>
@@ -42,9 +43,17 @@ enum { LETTERS(NUMBERS_OF) };
 /* the three numbers of an array index in a row of C: whether there is one, its high 32 bits and its low 32 bits */
 enum { index_present = 2, index_high, index_low };
 
+/* the parent and the place in a row of C, and a number that is missing */
+enum { parent = 1, place = 8 };
+#define MISSING UINT32_MAX
+
+/* the numbers of a row of links: the first child and the next sibling */
+enum { first_child, next_sibling, numbers_of_links };
+
 /* the outputs of a listing by itself, and of both in one call */
 static uint32_t rows[64 * 49], diagnostics[64 * 4], group_rows[64 * 49], group_diagnostics[64 * 4], features[64 * 14];
 static uint32_t both_rows[64 * 49], both_diagnostics[64 * 4], both_group_rows[64 * 49], both_group_diagnostics[64 * 4];
+static uint32_t links[96 * numbers_of_links];
 static uint8_t names[4096], both_names[4096];
 static struct conlist_diagnostic records[64], group_records[64];
 
@@ -57,8 +66,12 @@ static void expect(bool holds, const char *what) {
 
 _Static_assert(sizeof(struct conlist_diagnostic) == 16, "a record is four numbers");
 
+/* Fills the link table with what no call leaves. */
+static void spoil_links(void) { memset(links, 0xA5, sizeof links); }
+
 /* Fills the outputs of the calls with records with what no call leaves. */
 static void spoil(void) {
+    spoil_links();
     memset(both_rows, 0xA5, sizeof both_rows);
     memset(both_diagnostics, 0xA5, sizeof both_diagnostics);
     memset(both_group_rows, 0xA5, sizeof both_group_rows);
@@ -66,6 +79,37 @@ static void spoil(void) {
     memset(both_group_diagnostics, 0xA5, sizeof both_group_diagnostics);
     memset(records, 0xA5, sizeof records);
     memset(group_records, 0xA5, sizeof group_records);
+}
+
+/* So many numbers of a slice are zero. */
+static void expect_zeros(const uint32_t *slice, size_t length, const char *what) {
+    for (size_t at = 0; at < length; at++) expect(slice[at] == 0, what);
+}
+
+/* The place of a component among its siblings, behind all where there is none. */
+static uint32_t place_of(uint32_t component) {
+    return component == MISSING ? MISSING : c[component * numbers_of_c + place];
+}
+
+/* The link table, of which so many numbers were lent, holds of each component the child with the least place, and the sibling with the next place; zeros
+   stand behind, and what was not lent is as it was. */
+static void expect_links(size_t lent) {
+    uint32_t count = (uint32_t)read[rows_of_c];
+    for (uint32_t row = 0; row < count; row++) {
+        uint32_t child = MISSING, sibling = MISSING;
+        for (uint32_t other = 0; other < count; other++) {
+            uint32_t owner = c[other * numbers_of_c + parent];
+            if (owner == row && place_of(other) < place_of(child)) child = other;
+            if (owner == c[row * numbers_of_c + parent] && place_of(other) > place_of(row) &&
+                place_of(other) < place_of(sibling))
+                sibling = other;
+        }
+        const uint32_t *own = &links[row * numbers_of_links];
+        expect(own[first_child] == child && own[next_sibling] == sibling, "another link table");
+    }
+    size_t used = count * numbers_of_links;
+    expect_zeros(links + used, lent - used, "unused output of links is not zero");
+    for (size_t at = lent; at < COUNT(links); at++) expect(links[at] == 0xA5A5A5A5, "links that were not lent are written");
 }
 
 /* They hold what the calls over numbers left, the diagnostics as numbers and as records. */
@@ -81,6 +125,41 @@ static void expect_group(void) {
     expect(memcmp(both_group_diagnostics, group_diagnostics, sizeof group_diagnostics) == 0,
            "other numbers of group diagnostics");
     expect(memcmp(group_records, group_diagnostics, sizeof group_diagnostics) == 0, "another group record");
+}
+
+/* A link table with one number too few is refused, before rows that are too short, and every output is left zero. */
+static void expect_too_few_links(void) {
+    size_t length = read[rows_of_c] * numbers_of_links - 1;
+    uint64_t told[5];
+    for (int call = 0; call < 6; call++) {
+        size_t lent = call < 3 ? COUNT(both_rows) : 0;
+        spoil();
+        switch (call % 3) {
+        case 0:
+            conlist_compute_semantic_connections(TABLES, links, length, both_rows, lent, WHOLE(both_diagnostics), told);
+            break;
+        case 1:
+            conlist_expand_feature_group_connections(TABLES, links, length, both_group_rows, lent, WHOLE(both_names),
+                                                     WHOLE(both_group_diagnostics), told);
+            break;
+        default:
+            conlist_list_connections(TABLES, links, length, both_rows, lent, WHOLE(both_diagnostics), both_group_rows,
+                                     lent, WHOLE(both_names), WHOLE(both_group_diagnostics), told);
+            expect(told[3] == 0 && told[4] == 0, "more than a refusal of links is told");
+        }
+        expect(told[0] == 22 && told[1] == 0 && told[2] == '-', "too few links are not refused");
+        expect_zeros(links, length, "refused output of links is not zero");
+        if (call % 3 != 1) {
+            expect_zeros(both_rows, lent, "refused output of rows is not zero");
+            expect_zeros(WHOLE(both_diagnostics), "refused output of diagnostics is not zero");
+        }
+        if (call % 3 != 0) {
+            expect_zeros(both_group_rows, lent, "refused output of group rows is not zero");
+            expect_zeros(WHOLE(both_group_diagnostics), "refused output of group diagnostics is not zero");
+            for (size_t at = 0; at < COUNT(both_names); at++)
+                expect(both_names[at] == 0, "refused output of names is not zero");
+        }
+    }
 }
 
 /* The bytes of a joined name: those of these two names, with an underscore between them. */
@@ -147,17 +226,20 @@ static void expect_modes(void) {
     read[rows_of_m] = 0;
 }
 
-/* Array indices of all bits list the same. */
+/* Array indices of all bits list the same, with no more links than there are components. */
 static void expect_any_index(void) {
     for (uint64_t row = 0; row < read[rows_of_c]; row++) {
         uint32_t *component = &c[row * numbers_of_c];
         if (component[index_present] == 1) component[index_high] = component[index_low] = UINT32_MAX;
     }
     uint64_t told[3];
-    conlist_compute_semantic_connections(TABLES, WHOLE(both_rows), WHOLE(both_diagnostics), told);
-    expect(told[0] == 0, "array indices of all bits are refused");
+    size_t enough = read[rows_of_c] * numbers_of_links;
+    spoil_links();
+    conlist_compute_semantic_connections(TABLES, links, enough, WHOLE(both_rows), WHOLE(both_diagnostics), told);
+    expect(told[0] == 0, "array indices of all bits, or just enough links, are refused");
     expect(memcmp(both_rows, rows, sizeof rows) == 0 && memcmp(both_diagnostics, diagnostics, sizeof diagnostics) == 0,
            "another traced list with array indices of all bits");
+    expect_links(enough);
 }
 
 /* The last component with these numbers in place of its array index is refused 6 at its row. */
@@ -180,10 +262,17 @@ int main(void) {
     uint64_t checked[3], traced[3], grouped[3], both[5], expanded[3];
     conlist_check_tables(TABLES, checked);
     expect(checked[0] == 0 && checked[1] == 0 && checked[2] == 0, "the tables are refused");
-    conlist_compute_semantic_connections(TABLES, WHOLE(rows), WHOLE(diagnostics), traced);
-    conlist_expand_feature_group_connections(TABLES, WHOLE(group_rows), WHOLE(names), WHOLE(group_diagnostics), grouped);
-    conlist_list_connections(TABLES, WHOLE(both_rows), WHOLE(both_diagnostics), WHOLE(both_group_rows), WHOLE(both_names),
-                             WHOLE(both_group_diagnostics), both);
+    spoil_links();
+    conlist_compute_semantic_connections(TABLES, WHOLE(links), WHOLE(rows), WHOLE(diagnostics), traced);
+    expect_links(COUNT(links));
+    spoil_links();
+    conlist_expand_feature_group_connections(TABLES, WHOLE(links), WHOLE(group_rows), WHOLE(names),
+                                             WHOLE(group_diagnostics), grouped);
+    expect_links(COUNT(links));
+    spoil_links();
+    conlist_list_connections(TABLES, WHOLE(links), WHOLE(both_rows), WHOLE(both_diagnostics), WHOLE(both_group_rows),
+                             WHOLE(both_names), WHOLE(both_group_diagnostics), both);
+    expect_links(COUNT(links));
     expect(traced[0] == 0 && grouped[0] == 0 && both[0] == 0, "a listing is refused");
     expect(both[1] == traced[1] && both[2] == traced[2] && both[3] == grouped[1] && both[4] == grouped[2], "other counts");
     expect(memcmp(both_rows, rows, sizeof rows) == 0 && memcmp(both_diagnostics, diagnostics, sizeof diagnostics) == 0,
@@ -194,21 +283,27 @@ int main(void) {
 
     uint64_t recorded[5];
     spoil();
-    conlist_list_connections_with_records(TABLES, WHOLE(both_rows), WHOLE(both_diagnostics), WHOLE(records),
-                                          WHOLE(both_group_rows), WHOLE(both_names), WHOLE(both_group_diagnostics),
-                                          WHOLE(group_records), recorded);
+    conlist_list_connections_with_records(TABLES, WHOLE(links), WHOLE(both_rows), WHOLE(both_diagnostics),
+                                          WHOLE(records), WHOLE(both_group_rows), WHOLE(both_names),
+                                          WHOLE(both_group_diagnostics), WHOLE(group_records), recorded);
     expect(memcmp(recorded, both, sizeof both) == 0, "other counts with records");
+    expect_links(COUNT(links));
     expect_traced();
     expect_group();
     spoil();
-    conlist_compute_semantic_connections_with_records(TABLES, WHOLE(both_rows), WHOLE(both_diagnostics), WHOLE(records),
-                                                      recorded);
+    conlist_compute_semantic_connections_with_records(TABLES, WHOLE(links), WHOLE(both_rows), WHOLE(both_diagnostics),
+                                                      WHOLE(records), recorded);
     expect(memcmp(recorded, traced, sizeof traced) == 0, "other counts with traced records");
+    expect_links(COUNT(links));
     expect_traced();
-    conlist_expand_feature_group_connections_with_records(TABLES, WHOLE(both_group_rows), WHOLE(both_names),
-                                                          WHOLE(both_group_diagnostics), WHOLE(group_records), recorded);
+    spoil_links();
+    conlist_expand_feature_group_connections_with_records(TABLES, WHOLE(links), WHOLE(both_group_rows),
+                                                          WHOLE(both_names), WHOLE(both_group_diagnostics),
+                                                          WHOLE(group_records), recorded);
     expect(memcmp(recorded, grouped, sizeof grouped) == 0, "other counts with group records");
+    expect_links(COUNT(links));
     expect_group();
+    expect_too_few_links();
 
     /* the first number of a package is its name; a group type begins with its package and its name */
     for (uint64_t row = 0; row < read[rows_of_u]; row++) {

@@ -47,6 +47,12 @@ _LACKING = ("With no modes at all the number is 0 and nothing is cut; else cut i
 _20 = ("A selection number not below the number of selections is refused as 20, after the tables' "
        "checks; a selection longer than its output is then the existing 11, and a joined name longer "
        "than its output the existing 14.")
+_LINKS = ("build once a first child per component and a next sibling per child, in a lent table that the "
+          "listing itself fills, and walk these.")
+_WALK = ("Prove that the walk gives the same children in the same order as a scan by place for each "
+         "accepted model.")
+_ROW_OF_LINKS = "The link table is an output, its row the first child and the next sibling, missing as in 01."
+_22 = "One of fewer whole rows than components is refused as 22, after the tables' checks and 21."
 _STEP = ("a connection of that component with a source subcomponent, no destination subcomponent, "
          "its destination feature byte-equal, and one found child.")
 _CHILD = ("byte-equal names; if none and the wanted name has no `[`, children with an array index "
@@ -204,6 +210,18 @@ RULES = {
     "place of six digits": _PLACE,
     "equal places of two parents": _16,
     "root's place is a child's": _16,
+    # links
+    "links: a single component": _ROW_OF_LINKS,
+    "links: component without children": _ROW_OF_LINKS,
+    "links: one child": _LINKS,
+    "links: several children": _LINKS,
+    "links: children below the root": _LINKS,
+    "links: first child is not the lowest row of its owner's": _WALK,
+    "links: next sibling of a smaller row": _WALK,
+    "links: next sibling beyond a row between": _WALK,
+    "links: place of another owner's child between": _WALK,
+    "links: last child, with another owner's behind its place": _WALK,
+    "links: root has no next sibling": _ROW_OF_LINKS,
     # children
     "byte-equal child": _CHILD,
     "byte-equal child hides array children": _CHILD,
@@ -354,6 +372,8 @@ RULES_BEYOND_SHEETS = {
     "10: name length": _10,
     "10: name byte": _10,
     "mode 11": _20,
+    "22": _22,
+    "22: last row not whole": _22,
 }
 
 marks = collections.Counter()
@@ -497,10 +517,10 @@ def ends_of(row):
 
 
 # "The table is the order of checks."; "refused as 16, checked after 7." (02, i) "refused as
-# 20, after the tables' checks" (02, xi): the numbers of each place. A selection of modes has
-# 11 and 14 too, after 20.
+# 20, after the tables' checks" (02, xi) "refused as 22, after the tables' checks and 21." (02,
+# xiii): the numbers of each place. A selection of modes has 11 and 14 too, after 20.
 REFUSALS = {"sheet": [1], "line": [2, 3, 4, 5], "tables": [10, 6, 7, 16, 8, 9], "modes": [20],
-            "lists": [13, 11, 14, 12], "text": [15]}
+            "links": [22], "lists": [13, 11, 14, 12], "text": [15]}
 BEFORE_LISTINGS = REFUSALS["sheet"] + REFUSALS["line"] + REFUSALS["tables"]
 
 Refusal = collections.namedtuple("Refusal", "number letter place")
@@ -922,6 +942,7 @@ class Model:
                         for values in rows["R"]}
 
         # Answers already given, so that equal questions are asked once.
+        self.links = None
         self.found_children = {}
         self.found_steps = {}
         self.chain_counts = {}
@@ -931,6 +952,95 @@ class Model:
         """(package or None, type, implementation or None), or None where missing."""
         package, type_name, implementation = map(self.name, reference_of(row, word))
         return None if type_name is None else (package, type_name, implementation)
+
+
+# ---------------------------------------------------------------------------
+# Children by links. What follows asks for children by a scan, `Model.children`, as before:
+# "No other answer changes." (02, xiii)
+
+Links = collections.namedtuple("Links", "first_child next_sibling")
+
+# A row of the table has so many numbers.
+LINKS_WIDTH = len(Links._fields)
+
+# What the programs lend, in rows: "96 of each other letter", so of C too.
+CONLIST_LINKS = 96
+
+
+# "build once a first child per component and a next sibling per child" (02, xiii), by their
+# places: "the children of a cabinet must come in the order of the drawing." (02, i)
+def links_of(model):
+    """The Links of each component, what is missing None. The root is nobody's child."""
+    if model.links is None:
+        components = model.rows["C"]
+
+        def first_of(parent, least=0):
+            """The child of least place, of those that have this parent and this place or a later one."""
+            rows = [row for row, values in enumerate(components)
+                    if values.parent == parent and values.place >= least]
+            return min(rows, key=lambda row: components[row].place, default=None)
+
+        model.links = [Links(first_of(row),
+                             None if values.parent is None else first_of(values.parent, values.place + 1))
+                       for row, values in enumerate(components)]
+        mark_links(model, model.links)
+    return model.links
+
+
+# "and walk these." (02, xiii)
+def walk(links, owner):
+    """The children of a component as a walk of the links comes to them."""
+    child = links[owner].first_child
+    while child is not None:
+        yield child
+        child = links[child].next_sibling
+
+
+# "One of fewer whole rows than components is refused as 22" (02, xiii)
+def lacks_links(model, rows_room):
+    """Has a link table of so many whole rows too few of them?"""
+    lacks = rows_room < len(links_of(model))
+    mark("22", lacks)
+    return lacks
+
+
+# "The link table is an output, its row the first child and the next sibling, missing as in
+# 01." (02, xiii) "After success unused output is zero." "an output holds the whole rows in it."
+def link_table(model, length):
+    """What a call that gives its lists leaves in a link table of so many numbers that is lent
+    for it, or the number of the refusal. After any refusal of the call all of them are 0."""
+    if lacks_links(model, length // LINKS_WIDTH):
+        mark("22: last row not whole", length == len(model.links) * LINKS_WIDTH - 1)
+        return 22
+    used = [MISSING if row is None else row for links in links_of(model) for row in links]
+    return used + [0] * (length - len(used))
+
+
+def mark_links(model, links):
+    """For the marks only: what the components are like, and which of them are linked."""
+    components = model.rows["C"]
+    mark("links: a single component", len(links) == 1)
+    for row, (first, following) in enumerate(links):
+        mark("links: component without children", first is None)
+        if first is not None:
+            children = model.children[row]
+            mark("links: one child" if len(children) == 1 else "links: several children")
+            mark("links: children below the root", row > 0)
+            mark("links: first child is not the lowest row of its owner's", first != min(children))
+        parent, place = components[row].parent, components[row].place
+        behind = [other for other in components if other.place > place]
+        if parent is None:
+            mark("links: root has no next sibling", bool(behind))
+            continue
+        others = [other.place for other in behind if other.parent not in (None, parent)]
+        if following is None:
+            mark("links: last child, with another owner's behind its place", bool(others))
+            continue
+        mark("links: next sibling of a smaller row", following < row)
+        mark("links: next sibling beyond a row between",
+             any(row < other < following for other in model.children[parent]))
+        mark("links: place of another owner's child between",
+             any(other < components[following].place for other in others))
 
 
 # ---------------------------------------------------------------------------
@@ -1330,9 +1440,13 @@ Row = collections.namedtuple("Row", "connection kind source_component destinatio
 Diagnostic = collections.namedtuple("Diagnostic", "code connection first second")
 
 
-# "`compute_semantic_connections`, per X row:"
-def traced_listing(model, rows_room, diagnostics_room, limit=MAX_STEPS):
+# "`compute_semantic_connections`, per X row:" "a lent table that the listing itself fills"
+# (02, xiii)
+def traced_listing(model, rows_room, diagnostics_room, limit=MAX_STEPS, links_room=CONLIST_LINKS):
     """(rows, diagnostics), or the number of the refusal."""
+    # 22: "One of fewer whole rows than components"
+    if lacks_links(model, links_room):
+        return 22
     diagnostics = []
     work = []  # per X row: what stands at either end, and how the two are paired
     total = 0
@@ -1536,9 +1650,12 @@ def expanded_name(group, feature):
 # "`expand_feature_group_connections`, per X row of kind 2 with both ends: first found
 # child, or the owner where no subcomponent is named; skip if none.
 # `expand_endpoint_feature_group` on both, always; if either gives none (an empty
-# expansion is not none), skip."
-def group_listing(model, rows_room, diagnostics_room, composed_room):
+# expansion is not none), skip." "a lent table that the listing itself fills" (02, xiii)
+def group_listing(model, rows_room, diagnostics_room, composed_room, links_room=CONLIST_LINKS):
     """(rows, diagnostics, composed bytes), or the number of the refusal."""
+    # 22: "One of fewer whole rows than components"
+    if lacks_links(model, links_room):
+        return 22
     work = []
     total = total_diagnostics = 0
     for x, values in enumerate(model.rows["X"]):
@@ -1644,19 +1761,20 @@ Listings = collections.namedtuple("Listings", "traced_rows traced_diagnostics "
 
 # "The traced listing ends, refusals included, before the group listing starts."
 def listings(bytes_table, tables, traced_rows, traced_diagnostics,
-             group_rows, group_diagnostics, composed_room):
+             group_rows, group_diagnostics, composed_room, links_room=CONLIST_LINKS):
     """Listings over accepted tables with outputs of these sizes (in rows, diagnostics
     and bytes), or the number of the refusal."""
     return listings_of_model(Model(bytes_table, tables), traced_rows, traced_diagnostics,
-                             group_rows, group_diagnostics, composed_room)
+                             group_rows, group_diagnostics, composed_room, links_room)
 
 
+# Both lists are made over one link table.
 def listings_of_model(model, traced_rows, traced_diagnostics,
-                      group_rows, group_diagnostics, composed_room):
-    traced = traced_listing(model, traced_rows, traced_diagnostics)
+                      group_rows, group_diagnostics, composed_room, links_room=CONLIST_LINKS):
+    traced = traced_listing(model, traced_rows, traced_diagnostics, links_room=links_room)
     if isinstance(traced, int):
         return traced
-    group = group_listing(model, group_rows, group_diagnostics, composed_room)
+    group = group_listing(model, group_rows, group_diagnostics, composed_room, links_room)
     if isinstance(group, int):
         return group
     return Listings(*traced, *group)

@@ -1,7 +1,7 @@
 //! A sheet with what both sides are asked to do with it.
 
 use oracle::model::Renames;
-use oracle::sheet::Sheet;
+use oracle::sheet::{Sheet, rows_lent};
 use oracle::stream::Case;
 use oracle::{MOST_VISITS, Options, endpoint, listing, traced};
 
@@ -15,7 +15,8 @@ use crate::{plain, quick};
 const MOST_ROWS: u64 = 300_000;
 const MOST_COMPARISONS: u64 = 20_000_000;
 
-/// The numbers of a row and of a diagnostic in their outputs.
+/// The numbers of a row of links, of a row of a listing and of a diagnostic in their outputs.
+const LINK_NUMBERS: usize = 2;
 const ROW_NUMBERS: usize = 49;
 const DIAGNOSTIC_NUMBERS: usize = 4;
 
@@ -81,6 +82,7 @@ pub fn numbers(text: &[u8]) -> Vec<Numbers> {
 pub struct Lent {
     tables: Tables,
     text: Vec<u8>,
+    links: Vec<u32>,
     rows: Vec<u32>,
     diagnostics: Vec<u32>,
     group_rows: Vec<u32>,
@@ -95,6 +97,7 @@ impl Lent {
         Lent {
             tables: Tables::of(&accepted(sheet)),
             text: vec![0; listing::TEXT_BYTES],
+            links: vec![0; rows_lent(b'C') * LINK_NUMBERS],
             group_rows: rows.clone(),
             rows,
             names: vec![0; listing::COMPOSED_BYTES],
@@ -117,7 +120,7 @@ impl Lent {
             names: &mut self.names,
             group_diagnostics: &mut self.group_diagnostics,
         };
-        library::list_connections(&self.tables, outputs)
+        library::list_connections(&self.tables, &mut self.links, outputs)
     }
 
     /// The checks alone.

@@ -1,6 +1,7 @@
 //! By instructions: how many a call takes, counted by callgrind. It runs this program again, which makes the calls in an order that both
 //! know.
 
+use std::collections::HashMap;
 use std::fs;
 use std::path::Path;
 use std::process::Command;
@@ -143,8 +144,8 @@ impl Counts {
     }
 }
 
-/// The instructions of every call for these cases. `folder` is made for what callgrind writes, and removed.
-fn count(cases: &[&Case], folder: &Path) -> Vec<u64> {
+/// Of every call for these cases what is read from the file that callgrind writes of it. `folder` is made for these files, and removed.
+fn count<T>(cases: &[&Case], folder: &Path, read: impl Fn(&Path) -> T) -> Vec<T> {
     if folder.exists() {
         fs::remove_dir_all(folder).expect("a folder to remove");
     }
@@ -167,9 +168,9 @@ fn count(cases: &[&Case], folder: &Path) -> Vec<u64> {
     assert!(status.success(), "valgrind says {status}");
     let files = (1..).map(|number| folder.join(format!("call.{number}")));
     let files = files.take_while(|file| file.exists());
-    let totals = files.map(|file| total(&file)).collect();
+    let counts = files.map(|file| read(&file)).collect();
     fs::remove_dir_all(folder).expect("a folder to remove");
-    totals
+    counts
 }
 
 /// The instructions that a file of callgrind's is about.
@@ -180,6 +181,63 @@ fn total(file: &Path) -> u64 {
     total
         .and_then(|total| total.parse().ok())
         .expect("a line with the total")
+}
+
+/// The crates that look for children.
+const SEARCH: [&str; 1] = ["children::"];
+
+/// The instructions that a file of callgrind's is about, and those of them that are for a search: of a call of a function of these crates
+/// by one of another, what is spent until it returns.
+fn search(file: &Path) -> (u64, u64) {
+    let text = fs::read_to_string(file).expect("a file of callgrind's");
+    let (mut names, mut own, mut called, mut sum) = (HashMap::new(), false, false, 0);
+    let mut lines = text.lines();
+    while let Some(line) = lines.next() {
+        let (what, value) = line.split_once('=').unwrap_or((line, ""));
+        // A name stands behind its number where the number comes first.
+        let (number, name) = value.split_once(' ').unwrap_or((value, ""));
+        let mut searches = || {
+            let known = names.entry(number.to_string());
+            *known.or_insert_with(|| SEARCH.iter().any(|own| name.starts_with(own)))
+        };
+        match what {
+            "fn" => own = searches(),
+            "cfn" => called = searches(),
+            "calls" => {
+                let spent = lines.next().and_then(|line| line.split(' ').nth(1));
+                let spent: u64 = spent.and_then(|spent| spent.parse().ok()).expect("a count");
+                sum += if called && !own { spent } else { 0 };
+            }
+            _ => {}
+        }
+    }
+    (total(file), sum)
+}
+
+/// How many of the library's instructions, sheet bytes to text bytes, are for the search for children.
+pub fn print_search(classes: &[Subject], folder: &Path) {
+    println!(
+        "{:24} {:>14} {:>14} {:>8}",
+        "sheet", "ours", "search", "percent"
+    );
+    for subject in classes {
+        let ours = |case: &Case| Case {
+            text: Vec::new(),
+            ..case.clone()
+        };
+        let cases: Vec<Case> = subject.cases.iter().map(ours).collect();
+        let counts = count(&cases.iter().collect::<Vec<_>>(), folder, search);
+        // Of the three calls for a case the first is the whole.
+        let whole = counts.iter().step_by(3);
+        let (ours, search) = whole.fold((0, 0), |sum, own| (sum.0 + own.0, sum.1 + own.1));
+        let percent = search as f64 * 100.0 / ours as f64;
+        println!(
+            "{:24} {:>14} {:>14} {percent:>8.1}",
+            subject.name,
+            grouped(ours),
+            grouped(search)
+        );
+    }
 }
 
 fn times(ours: u64, original: u64) -> String {
@@ -275,7 +333,7 @@ fn print_steps(rows: &[(&Subject, Counts)]) {
 pub fn print(classes: &[Subject], growing: &[Subject], folder: &Path) {
     let subjects = || classes.iter().chain(growing);
     let cases: Vec<&Case> = subjects().flat_map(|subject| &subject.cases).collect();
-    let mut counts = count(&cases, folder).into_iter();
+    let mut counts = count(&cases, folder, total).into_iter();
     let mut rows: Vec<(&Subject, Counts)> = subjects()
         .map(|subject| (subject, Counts::of(subject, &mut counts)))
         .collect();

@@ -1,5 +1,6 @@
 //! `bench_list FOLDER`: what the proved library and the original take for the same work, by time; `bench_list FOLDER --instructions`: by
-//! instructions. FOLDER has the sheets of `groups.py`. The second starts `bench_list --calls STREAM`, which makes the calls that are counted.
+//! instructions; `bench_list FOLDER --search`: how much of ours is for the search for children. FOLDER has the sheets of `groups.py`. The
+//! second and the third start `bench_list --calls STREAM`, which makes the calls that are counted.
 
 mod case;
 mod figures;
@@ -66,8 +67,14 @@ fn main() {
             let (classes, growing) = (subjects::classes(groups), subjects::growing());
             instructions::print(&classes, &growing, &groups.join("calls"));
         }
+        [folder, "--search"] => {
+            let groups = Path::new(folder);
+            instructions::print_search(&subjects::classes(groups), &groups.join("calls"));
+        }
         _ => {
-            eprintln!("usage: bench_list FOLDER [--instructions], FOLDER filled by groups.py");
+            eprintln!(
+                "usage: bench_list FOLDER [--instructions | --search], FOLDER filled by groups.py"
+            );
             std::process::exit(2);
         }
     }

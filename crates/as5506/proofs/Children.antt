@@ -1,12 +1,12 @@
 -- The children of a component, in the order of the drawing. Assumes nothing.
 use mathlib.Core.Bool.{Bool, true, false, ◌&&◌}
 use mathlib.Core.Logic.{inl, inr}
-use mathlib.Core.Path.{◌≡◌, sym, ap, ◌∙◌}
+use mathlib.Core.Path.{◌≡◌, sym, ◌∙◌}
 use mathlib.Core.List.{List, [], ◌∷◌}
 use Prim.Native.Nat.{ℕ, ◌<◌}
 use native.Mathlib.Omega.{arith}
 use lib.Dec.{T, eqb, eqb→eq, eqb_refl}
-use Rattle.as5506.specs.Lists.{up_to, keep, has, sort_by}
+use Rattle.as5506.specs.Lists.{up_to, keep, has}
 use Rattle.as5506.specs.Tables.{Tables, letter_c, rows_naming, c_count, c_parent, c_place, children_of}
 use Rattle.as5506.specs.Names.{bracket}
 use Rattle.as5506.specs.Tracing.{is_named, is_element, or_elements, found_children}
@@ -16,8 +16,7 @@ use Rattle.as5506.specs.Refusals.{place_key, faults16, accepted}
 use Rattle.as5506.proofs.Laws.{all_in, in_all}
 use Rattle.as5506.proofs.Accepted.{no-16}
 use Rattle.as5506.proofs.Keys.{keys-unique}
-use Rattle.as5506.proofs.Sorted.{kept_in, in_kept, up_to-in, in-up_to, Ordered, ordered-with, ordered-keep, ordered_same, up_to-ordered, sorted-in, in-sorted, Before, sorted-ordered, sorted-keep, sorted-same}
-use Rattle.as5506.proofs.Scans.{keep-both}
+use Rattle.as5506.proofs.Sorted.{kept_in, in_kept, up_to-in, in-up_to, Ordered, ordered-with, ordered-keep, ordered_same, up_to-ordered, sorted-in, in-sorted, Before, sorted-ordered, sorted-same}
 
 -- ---- THE SAME CHILDREN as the rows that name the parent, whatever the tables
 
@@ -37,7 +36,7 @@ unfolding rows_naming
 rows-ordered m c = ordered-keep ◌<◌ (λ i. eqb (c_parent m i) c) (up_to (c_count m)) (up_to-ordered (c_count m))
 
 -- in the order of their places, of equal places by row, whatever the tables
-children-ordered : (m : Tables) (c : ℕ) → Ordered (Before (c_place m)) (children_of m c)
+pub children-ordered : (m : Tables) (c : ℕ) → Ordered (Before (c_place m)) (children_of m c)
 children-ordered m c = sorted-ordered (c_place m) (rows_naming m letter_c (c_parent m) c) (rows-ordered m c)
 
 -- WHAT A NAME FINDS are those of the children that pass a test, whatever the tables
@@ -49,12 +48,6 @@ found-kept m c w P kept = go (has bracket w) (keep (is_named m w) (children_of m
     go b (i ∷ l) h = h
     go true [] h = h
     go false [] h = kept (is_element m w)
-
--- those that pass a test, as a scan of all rows finds them (the next of them: sorted-next)
-pub children-kept : (m : Tables) (c : ℕ) (p : ℕ → Bool) → keep p (children_of m c) ≡ sort_by (c_place m) (keep (λ i. eqb (c_parent m i) c && p i) (up_to (c_count m)))
-unfolding rows_naming
-children-kept m c p =
-    sorted-keep (c_place m) p (rows_naming m letter_c (c_parent m) c) (rows-ordered m c) ∙ ap (sort_by (c_place m)) (keep-both p (λ i. eqb (c_parent m i) c) (up_to (c_count m)))
 
 -- ---- WHERE PLACES RISE WITH THE ROWS, the children come by row
 

@@ -12,6 +12,7 @@
 --     Accepted      accepted tables have it
 --     Keys          the definition's clashes, and keys without one
 --     Children      children in the order of the drawing: the rows that name the parent, ascending by place
+--     Links         02 (xiii): children by links, what a link table holds, and that the walk along it gives the children by place
 --     Ends          where chains end, and how long their paths are
 --     Limit         tracing with and without a limit of steps
 --     Demand        demand 3 over the definition
@@ -37,6 +38,7 @@ pub mod Ends
 pub mod Accepted
 pub mod Keys
 pub mod Children
+pub mod Links
 pub mod Demand
 pub mod Back
 pub mod Output

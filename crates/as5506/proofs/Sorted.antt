@@ -1,5 +1,5 @@
 -- Laws of lists in an order, each entry before all later ones, and of rows sorted by keys. Assumes nothing.
-use mathlib.Core.Bool.{Bool, true, false, ◌&&◌, ◌||◌, cond}
+use mathlib.Core.Bool.{Bool, true, false, cond}
 use mathlib.Core.Logic.{◌⊎◌, inl, inr, ⊎_elim}
 use mathlib.Core.Path.{◌≡◌, refl, sym, ap, ap₂, ◌∙◌, subst}
 use mathlib.Core.List.{List, [], ◌∷◌}
@@ -8,11 +8,10 @@ use native.Mathlib.Decide.{dec_le}
 use native.Mathlib.Omega.{arith}
 use borrow.Author.Tests.{ltb-true, ltb-false}
 use lib.ListN.{length}
-use lib.Dec.{T, eqb, ltb, eqb→eq, ltb→lt, lt→ltb, eqb_refl}
+use lib.Dec.{T, ltb}
 use Rattle.as5506.specs.Lists.{span, up_to, put_if, keep, insert_by, sort_by}
 use Rattle.as5506.specs.Followed.{In}
-use Rattle.as5506.specs.Drawing.{is_before}
-use Rattle.as5506.proofs.Laws.{All, all_map, all_keep, all_in, in_all, and_left, and_right, and_both, or_left, or_right}
+use Rattle.as5506.proofs.Laws.{All, all_map, all_keep, all_in, in_all}
 
 -- ---- members
 
@@ -39,7 +38,8 @@ module _ {A : Type 0} where
   in_kept p (x ∷ xs) a (inl e) t = put_in (p x) x (keep p xs) a (inl (e, subst (λ (y : A). T (p y)) e t))
   in_kept p (x ∷ xs) a (inr i) t = put_in (p x) x (keep p xs) a (inr (in_kept p xs a i t))
 
-span-in : (i n a : ℕ) → In a (span i n) → (i ≤ a) × (a < i + n)
+-- the entries of a span
+pub span-in : (i n a : ℕ) → In a (span i n) → (i ≤ a) × (a < i + n)
 span-in i zero a h = absurd h
 span-in i (suc n) a (inl e) = (omega (arith, e), omega (arith, e))
 span-in i (suc n) a (inr h) = let g = span-in (suc i) n a h in (omega (arith, g.0), omega (arith, g.1))
@@ -114,7 +114,7 @@ module _ {A : Type 0} where
       back : (a : A) → In a ys → In a xs
       back a i = strip y x ys xs q.0 (sym e) a i (g a (inr i))
 
-span-ordered : (i n : ℕ) → Ordered ◌<◌ (span i n)
+pub span-ordered : (i n : ℕ) → Ordered ◌<◌ (span i n)
 span-ordered i zero = tt
 span-ordered i (suc n) = (in_all (λ a. i < a) (span (suc i) n) (λ a h. (span-in (suc i) n a h).0), span-ordered (suc i) n)
 
@@ -217,55 +217,7 @@ module _ (key : ℕ → ℕ) where
   sorted-ordered [] o = tt
   sorted-ordered (i ∷ is) o = insert-ordered i (sort_by key is) (all-sorted (λ j. i < j) is o.0) (sorted-ordered is o.1)
 
-  -- a test may come before or after
-  pub sorted-keep : (p : ℕ → Bool) (l : List ℕ) → Ordered ◌<◌ l → keep p (sort_by key l) ≡ sort_by key (keep p l)
-  sorted-keep p l o =
-      ordered_same Before before-once (keep p (sort_by key l)) (sort_by key (keep p l)) (ordered-keep Before p (sort_by key l) (sorted-ordered l o))
-      (sorted-ordered (keep p l) (ordered-keep ◌<◌ p l o))
-      (λ a h. let k = kept_in p (sort_by key l) a h in in-sorted (keep p l) a (in_kept p l a (sorted-in l a k.0) k.1))
-      (λ a h. let k = kept_in p l a (sorted-in (keep p l) a h) in in_kept p (sort_by key l) a (in-sorted l a k.0) k.1)
-
   -- what is in order stays as it is
   pub sorted-same : (l : List ℕ) → Ordered ◌<◌ l → Ordered (λ i j. key i < key j) l → sort_by key l ≡ l
   sorted-same l o r =
       ordered_same Before before-once (sort_by key l) l (sorted-ordered l o) (ordered-weaker (λ i j. key i < key j) Before (λ i j h. inl h) l r) (sorted-in l) (in-sorted l)
-
-  -- ---- the scan for the next: the test of the order, and the rows behind row b
-
-  pub is-before : (i j : ℕ) → T (is_before key i j) → Before i j
-  is-before i j t = go (ltb (key i) (key j)) refl t
-    where
-      go : (b : Bool) → ltb (key i) (key j) ≡ b → T (b || (eqb (key i) (key j) && ltb i j)) → Before i j
-      go true e u = inl (ltb-true (key i) (key j) e)
-      go false e u = inr (eqb→eq (key i) (key j) (and_left (eqb (key i) (key j)) (ltb i j) u), ltb→lt i j (and_right (eqb (key i) (key j)) (ltb i j) u))
-
-  pub before-is : (i j : ℕ) → Before i j → T (is_before key i j)
-  before-is i j (inl a) = or_left (ltb (key i) (key j)) _ (lt→ltb (key i) (key j) a)
-  before-is i j (inr a) = or_right (ltb (key i) (key j)) _ (and_both (eqb (key i) (key j)) (ltb i j) (subst (λ (k : ℕ). T (eqb (key i) k)) a.0 (eqb_refl (key i))) (lt→ltb i j a.1))
-
-  -- those that pass a test, behind row b
-  abbrev pub pass_behind : (ℕ → Bool) → ℕ → ℕ → Bool
-  pass_behind p b j = p j && is_before key b j
-
-  -- THE NEXT: of the rows that pass the test, b stands before every other; it comes first, and then those behind it
-  pub sorted-next : (p : ℕ → Bool) (n b : ℕ) → b < n → T (p b) → ((j : ℕ) → j < n → T (p j) → (j ≡ b) ⊎ Before b j)
-      → sort_by key (keep p (up_to n)) ≡ b ∷ sort_by key (keep (pass_behind p b) (up_to n))
-  sorted-next p n b lb pb least =
-      ordered_same Before before-once (sort_by key (keep p (up_to n))) (b ∷ sort_by key (keep (pass_behind p b) (up_to n)))
-      (sorted-ordered (keep p (up_to n)) (ordered-keep ◌<◌ p (up_to n) (up_to-ordered n))) (
-        in_all (Before b) (sort_by key (keep (pass_behind p b) (up_to n))) (λ a h. is-before b a (and_right (p a) (is_before key b a) (kept_in (pass_behind p b) (up_to n) a (sorted-in (keep (pass_behind p b) (up_to n)) a h)).1)),
-        sorted-ordered (keep (pass_behind p b) (up_to n)) (ordered-keep ◌<◌ (pass_behind p b) (up_to n) (up_to-ordered n)),
-      )
-      forth back
-    where
-      forth : (a : ℕ) → In a (sort_by key (keep p (up_to n))) → In a (b ∷ sort_by key (keep (pass_behind p b) (up_to n)))
-      forth a h =
-          let k = kept_in p (up_to n) a (sorted-in (keep p (up_to n)) a h) in
-          ⊎_elim (λ e. inl e) (λ o. inr (in-sorted (keep (pass_behind p b) (up_to n)) a (in_kept (pass_behind p b) (up_to n) a k.0 (and_both (p a) (is_before key b a) k.1 (before-is b a o)))))
-          (least a (up_to-in n a k.0) k.1)
-
-      back : (a : ℕ) → In a (b ∷ sort_by key (keep (pass_behind p b) (up_to n))) → In a (sort_by key (keep p (up_to n)))
-      back a (inl e) = in-sorted (keep p (up_to n)) a (subst (λ (c : ℕ). In c (keep p (up_to n))) (sym e) (in_kept p (up_to n) b (in-up_to n b lb) pb))
-      back a (inr h) =
-          let k = kept_in (pass_behind p b) (up_to n) a (sorted-in (keep (pass_behind p b) (up_to n)) a h) in
-          in-sorted (keep p (up_to n)) a (in_kept p (up_to n) a k.0 (and_left (p a) (is_before key b a) k.1))

@@ -10,7 +10,7 @@ use lib.ListN.{length, get_or, take, drop}
 use lib.Pointwise.{pointwise, pointwise_decides}
 use Rattle.std.specs.Prelude.{Option, None, Some}
 use Rattle.as5506.specs.Lists.{keep, each, first_of, same_bytes, bytes_of}
-use Rattle.as5506.specs.Tables.{Tables, count, missing, two_to32, Letter, letter_n, letter_c, letter_f, letter_x, letter_p, letter_i, letter_t, letter_q, letter_u, letter_e, letter_r, letter_m, table, name_of, Ref, ref}
+use Rattle.as5506.specs.Tables.{Tables, count, c_count, missing, two_to32, Letter, letter_n, letter_c, letter_f, letter_x, letter_p, letter_i, letter_t, letter_q, letter_u, letter_e, letter_r, letter_m, table, name_of, Ref, ref}
 use Rattle.as5506.specs.Names.{good_name, folded, base_name, is_one_to_one}
 use Rattle.as5506.specs.Answers.{Place, nowhere, line, row, Refusal, refusal, Answer, given, refused}
 use Rattle.as5506.specs.Sheet.{Lent, is_n, lent_of, read_sheet, table_after, bytes_after}
@@ -20,9 +20,10 @@ use Rattle.as5506.specs.Resolve.{Resolved, component_type, component_impl, group
 use Rattle.as5506.specs.Groups.{Feature, Expansion, expand}
 use Rattle.as5506.specs.Rows.{Row}
 use Rattle.as5506.specs.Tracing.{found_children, rows, unlimited, step_limit}
+use Rattle.as5506.specs.Links.{link_table, first_in, walk}
 use Rattle.as5506.specs.GroupList.{GroupConnection}
-use Rattle.as5506.specs.Listing.{Room, BothLists, group_of, expansion_within, expand_answer, traced_answer, group_answer, both_answer}
-use Rattle.as5506.specs.Layout.{room_in, output, feature_numbers, traced_row_numbers, traced_diag_numbers, group_row_numbers, group_diag_numbers, expansion_numbers, composed_names, of_traced, of_group}
+use Rattle.as5506.specs.Listing.{Room, TracedList, GroupList, BothLists, group_of, expansion_within, expand_answer, traced_answer, group_answer, both_answer}
+use Rattle.as5506.specs.Layout.{room_in, links_in, links_of, output, feature_numbers, traced_row_numbers, traced_diag_numbers, group_row_numbers, group_diag_numbers, expansion_numbers, composed_names, of_traced, of_group}
 use Rattle.as5506.specs.Modes.{modal, selections_of, is_cut, Modes, modes_answer, Selection, selection_answer}
 use Rattle.as5506.specs.Text.{column}
 use Rattle.as5506.specs.Program.{rows_lent, lent, text_lent, conlist_text, text_after, conlist, modes, mode}
@@ -236,10 +237,17 @@ selection_rows s = s.rows
 abbrev pub selection_name : Selection → List ℕ
 selection_name s = s.name
 
--- both listings in outputs of the given lengths, and each output afterwards
-abbrev pub both_in : Tables → List (List ℕ) → Answer BothLists
-both_in m out =
-    both_answer (room_in (length (get_or out 0 [])) (length (get_or out 1 []))) (room_in (length (get_or out 2 [])) (length (get_or out 3 []))) (length (get_or out 4 [])) m
+-- the listings of a model in outputs of the given lengths: the link table, rows and diagnostics, of the group listing also composed names; of both, all five
+-- beside the link table, and each of the five afterwards
+abbrev pub traced_in : Tables → (links rows diags : List ℕ) → Answer TracedList
+traced_in m ls rs ds = traced_answer (links_in (length ls)) (room_in (length rs) (length ds)) m
+
+abbrev pub group_in : Tables → (links rows diags names : List ℕ) → Answer GroupList
+group_in m ls rs ds ns = group_answer (links_in (length ls)) (room_in (length rs) (length ds)) (length ns) m
+
+abbrev pub both_in : Tables → List ℕ → List (List ℕ) → Answer BothLists
+both_in m ls out =
+    both_answer (links_in (length ls)) (room_in (length (get_or out 0 [])) (length (get_or out 1 []))) (room_in (length (get_or out 2 [])) (length (get_or out 3 []))) (length (get_or out 4 [])) m
 
 abbrev pub both_outputs : Tables → List (List ℕ) → Answer BothLists → List (List ℕ)
 both_outputs m out a =
@@ -284,10 +292,13 @@ pub data Trial : Type 0 where
   -- of an accepted model the rows of at most 20 steps are the rows without a limit; they are not
   whole : Tables → Trial
   cut : Tables → Trial
-  -- tables, the refusal of a listing or none, its outputs afterwards: rows and diagnostics; of the group listing also composed names; of both, all five
-  traces : Tables → Option Refusal → List ℕ → List ℕ → Trial
-  groups : Tables → Option Refusal → List ℕ → List ℕ → List ℕ → Trial
-  both : Tables → Option Refusal → List (List ℕ) → Trial
+  -- 02 (xiii): an accepted model and a component: the walk along the link table from its first child on
+  walks : Tables → ℕ → List ℕ → Trial
+  -- tables, the refusal of a listing or none, its outputs afterwards: the link table, rows and diagnostics; of the group listing also composed names; of
+  -- both, the link table and all five
+  traces : Tables → Option Refusal → (links rows diags : List ℕ) → Trial
+  groups : Tables → Option Refusal → (links rows diags names : List ℕ) → Trial
+  both : Tables → Option Refusal → (links : List ℕ) → List (List ℕ) → Trial
   -- 02 (xi): under a limit, the selections of tables and whether they are cut
   grows : ℕ → Tables → List (List ℕ) → Bool → Trial
   -- the refusal or none, the number of selections and whether they are cut; a number, the refusal or none, the outputs of M rows and of the name
@@ -327,16 +338,22 @@ Means (expands_into m g u inverse r out) =
 Means (children m c s l) = T (accepted m) × (found_children m c (bytes_of s) ≡ l)
 Means (whole m) = T (accepted m) × (rows step_limit m ≡ unlimited m)
 Means (cut m) = T (accepted m) × (rows step_limit m ≡ unlimited m → ⊥)
-Means (traces m r rs ds) =
-    (refusal_of (traced_answer (room_in (length rs) (length ds)) m) ≡ r)
-    × (output (length rs) (traced_row_numbers m) (traced_answer (room_in (length rs) (length ds)) m) ≡ rs)
-    × (output (length ds) traced_diag_numbers (traced_answer (room_in (length rs) (length ds)) m) ≡ ds)
-Means (groups m r rs ds ns) =
-    (refusal_of (group_answer (room_in (length rs) (length ds)) (length ns) m) ≡ r)
-    × (output (length rs) group_row_numbers (group_answer (room_in (length rs) (length ds)) (length ns) m) ≡ rs)
-    × (output (length ds) group_diag_numbers (group_answer (room_in (length rs) (length ds)) (length ns) m) ≡ ds)
-    × (output (length ns) composed_names (group_answer (room_in (length rs) (length ds)) (length ns) m) ≡ ns)
-Means (both m r out) = (refusal_of (both_in m out) ≡ r) × (both_outputs m out (both_in m out) ≡ out)
+Means (walks m c l) = T (accepted m) × (walk (link_table m) (c_count m) (first_in (link_table m) c) ≡ l)
+Means (traces m r ls rs ds) =
+    (refusal_of (traced_in m ls rs ds) ≡ r)
+    × (output (length ls) (links_of m) (traced_in m ls rs ds) ≡ ls)
+    × (output (length rs) (traced_row_numbers m) (traced_in m ls rs ds) ≡ rs)
+    × (output (length ds) traced_diag_numbers (traced_in m ls rs ds) ≡ ds)
+Means (groups m r ls rs ds ns) =
+    (refusal_of (group_in m ls rs ds ns) ≡ r)
+    × (output (length ls) (links_of m) (group_in m ls rs ds ns) ≡ ls)
+    × (output (length rs) group_row_numbers (group_in m ls rs ds ns) ≡ rs)
+    × (output (length ds) group_diag_numbers (group_in m ls rs ds ns) ≡ ds)
+    × (output (length ns) composed_names (group_in m ls rs ds ns) ≡ ns)
+Means (both m r ls out) =
+    (refusal_of (both_in m ls out) ≡ r)
+    × (output (length ls) (links_of m) (both_in m ls out) ≡ ls)
+    × (both_outputs m out (both_in m ls out) ≡ out)
 Means (grows limit m ss b) = (selections_of limit (modal m) ≡ ss) × (is_cut limit (modal m) ≡ b)
 Means (counts_modes m r n b) = (refusal_of (modes_answer m) ≡ r) × (mode_count (modes_answer m) ≡ n) × (modes_cut (modes_answer m) ≡ b)
 Means (selects m k r rs ns) =
@@ -507,16 +524,21 @@ passes (expands_into m g u inverse r out) =
 passes (children m c s l) = accepted m && same_bytes (found_children m c (bytes_of s)) l
 passes (whole m) = accepted m && same_rows (rows step_limit m) (unlimited m)
 passes (cut m) = accepted m && not (same_rows (rows step_limit m) (unlimited m))
-passes (traces m r rs ds) =
-    same_refusal (refusal_of (traced_answer (room_in (length rs) (length ds)) m)) r
-    && (same_bytes (output (length rs) (traced_row_numbers m) (traced_answer (room_in (length rs) (length ds)) m)) rs
-    && same_bytes (output (length ds) traced_diag_numbers (traced_answer (room_in (length rs) (length ds)) m)) ds)
-passes (groups m r rs ds ns) =
-    same_refusal (refusal_of (group_answer (room_in (length rs) (length ds)) (length ns) m)) r
-    && (same_bytes (output (length rs) group_row_numbers (group_answer (room_in (length rs) (length ds)) (length ns) m)) rs
-    && (same_bytes (output (length ds) group_diag_numbers (group_answer (room_in (length rs) (length ds)) (length ns) m)) ds
-    && same_bytes (output (length ns) composed_names (group_answer (room_in (length rs) (length ds)) (length ns) m)) ns))
-passes (both m r out) = same_refusal (refusal_of (both_in m out)) r && same_lists (both_outputs m out (both_in m out)) out
+passes (walks m c l) = accepted m && same_bytes (walk (link_table m) (c_count m) (first_in (link_table m) c)) l
+passes (traces m r ls rs ds) =
+    same_refusal (refusal_of (traced_in m ls rs ds)) r
+    && (same_bytes (output (length ls) (links_of m) (traced_in m ls rs ds)) ls
+    && (same_bytes (output (length rs) (traced_row_numbers m) (traced_in m ls rs ds)) rs
+    && same_bytes (output (length ds) traced_diag_numbers (traced_in m ls rs ds)) ds))
+passes (groups m r ls rs ds ns) =
+    same_refusal (refusal_of (group_in m ls rs ds ns)) r
+    && (same_bytes (output (length ls) (links_of m) (group_in m ls rs ds ns)) ls
+    && (same_bytes (output (length rs) group_row_numbers (group_in m ls rs ds ns)) rs
+    && (same_bytes (output (length ds) group_diag_numbers (group_in m ls rs ds ns)) ds
+    && same_bytes (output (length ns) composed_names (group_in m ls rs ds ns)) ns)))
+passes (both m r ls out) =
+    same_refusal (refusal_of (both_in m ls out)) r
+    && (same_bytes (output (length ls) (links_of m) (both_in m ls out)) ls && same_lists (both_outputs m out (both_in m ls out)) out)
 passes (grows limit m ss b) = same_lists (selections_of limit (modal m)) ss && beq (is_cut limit (modal m)) b
 passes (counts_modes m r n b) = same_refusal (refusal_of (modes_answer m)) r && (eqb (mode_count (modes_answer m)) n && beq (modes_cut (modes_answer m)) b)
 passes (selects m k r rs ns) =
@@ -560,15 +582,21 @@ meant (cut m) t = (
   and_left (accepted m) (not (same_rows (rows step_limit m) (unlimited m))) t,
   (λ e. T_not (same_rows (rows step_limit m) (unlimited m)) (and_right (accepted m) (not (same_rows (rows step_limit m) (unlimited m))) t) (rows_same (rows step_limit m) (unlimited m) e)),
 )
-meant (traces m r rs ds) t =
-    (same-refusal _ r (search and_left), same-bytes _ rs (search (and_left, and_right)), same-bytes _ ds (search (and_left, and_right)))
-meant (groups m r rs ds ns) t = (
+meant (walks m c l) t = (and_left (accepted m) _ t, same-bytes _ l (and_right (accepted m) _ t))
+meant (traces m r ls rs ds) t = (
   same-refusal _ r (search and_left),
+  same-bytes _ ls (search (and_left, and_right)),
+  same-bytes _ rs (search (and_left, and_right)),
+  same-bytes _ ds (search (and_left, and_right)),
+)
+meant (groups m r ls rs ds ns) t = (
+  same-refusal _ r (search and_left),
+  same-bytes _ ls (search (and_left, and_right)),
   same-bytes _ rs (search (and_left, and_right)),
   same-bytes _ ds (search (and_left, and_right)),
   same-bytes _ ns (search (and_left, and_right)),
 )
-meant (both m r out) t = (same-refusal _ r (search and_left), same-lists _ out (search (and_left, and_right)))
+meant (both m r ls out) t = (same-refusal _ r (search and_left), same-bytes _ ls (search (and_left, and_right)), same-lists _ out (search (and_left, and_right)))
 meant (grows limit m ss b) t = (same-lists _ ss (search and_left), same-bool _ b (search and_right))
 meant (counts_modes m r n b) t = (same-refusal _ r (search and_left), eqb→eq _ n (search (and_left, and_right)), same-bool (modes_cut (modes_answer m)) b (search and_right))
 meant (selects m k r rs ns) t =

@@ -16,6 +16,7 @@ use Rattle.as5506.specs.Before.{has_place_before, line_faults_before, lines_faul
 use Rattle.as5506.specs.Resolve.{package_named, type_named, impl_named, group_named, renames_named, type_hit, in_package_by, in_package, in_found, replaced_by, replaced, in_named, with_package, from_imports, target, renames_for, after_rename, after_own, without_package, resolve_by, resolve}
 use Rattle.as5506.specs.Groups.{turned, feature_by, features_walked, extended_by, type_by, found_by, visit_within, expand_feature_group, expand}
 use Rattle.as5506.specs.Tracing.{is_named, is_element, or_elements, found_children, leads, steps_over, steps, chains_by, chains, shape, named, one_to_one, pairs_by, pairs, append_new, row_of, pair_rows, rows_at, traced, shown, rows, unlimited, diags_by, diags_at, traced_diags}
+use Rattle.as5506.specs.Links.{first_child, siblings_behind, next_sibling, link_row, link_table, walk}
 use Rattle.as5506.specs.GroupList.{is_group_feature, type_of, declared_group, classifier_by, declared_by, typed_by, endpoint_by, endpoint, is_group_connection, end_component_by, end_component, group_connection, group_connections, overrun, partner, matches_by, matches, dotted, full_name, connection_kind, match_row, match_diag, rows_matched, diags_matched}
 use Rattle.as5506.specs.Listing.{expansion_within, expand_on, expand_answer, traced_list, traced_within, row_names, group_within, group_list_of, group_of, traced_on, traced_answer, group_on, group_answer, with_group, after_traced, both_answer}
 use Rattle.as5506.specs.Layout.{feature_block, expansion_numbers, traced_block, group_block, diag_block, traced_row_numbers, traced_diag_numbers, group_row_numbers, group_diag_numbers, composed_names}
@@ -26,7 +27,7 @@ use Rattle.as5506.proofs.Laws.{All}
 use Rattle.as5506.proofs.TrialForms.{Trial, Means, prints, lists, pattern, children, expands, whole, cut, text, component_rows, offsets, every, all-meant}
 use Rattle.as5506.proofs.TrialsRead.{of_names, of_sheets, of_index, of_lent, of10, of6, of7to9, of16}
 use Rattle.as5506.proofs.TrialsFind.{of_packages, of_searches, of_groups, of_children}
-use Rattle.as5506.proofs.TrialsList.{of_chains, of_places, of_shapes, of_matching, of_endpoints, of_rooms, of_conlist, of_modes}
+use Rattle.as5506.proofs.TrialsList.{of_chains, of_places, of_shapes, of_matching, of_endpoints, of_rooms, of_links, of_conlist, of_modes}
 
 -- ---- models made by rule
 
@@ -194,19 +195,19 @@ of_limit =
 abbrev pub further : List Trial
 further =
     of_names ++ of_index ++ of_lent ++ of10 ++ of7to9 ++ of16 ++ of_packages ++ of_searches ++ of_groups ++ of_children ++ of_chains ++ of_places ++ of_shapes ++ of_matching ++ of_endpoints
-    ++ of_rooms ++ of_sheets ++ of_limit ++ of6 ++ of_conlist ++ of_modes
+    ++ of_rooms ++ of_links ++ of_sheets ++ of_limit ++ of6 ++ of_conlist ++ of_modes
 
 abbrev pub trial_table : List Trial
 trial_table = starred ++ traps ++ further
 
 -- how many there are
-trials-counted : length trial_table ≡ 642
+trials-counted : length trial_table ≡ 668
 trials-counted = refl
 
 -- ---- THE PROOF
 
 table-passes : T (every trial_table)
-unfolding padded sort_by rows_naming name_in good_name folded key same_folded base_name is_one_to_one unspaced decimal_from is_decimal is_number field_of fields_fit field_numbers line_with lines_of letter_of lines_with keeps_rules has_place is_earlier line_faults faults_from sheet_faults placed rows_read tables_read read_sheet table_after bytes_after broken_rows too_many_rows bad_name faults10 allows_from bad_row faults6 faults7 clashes_from clashes faults16 faults8 faults9 faults accepted has_place_before line_faults_before lines_faults_before tables_read_before read_before faults10_before allows_from_before faults6_before faults7_before faults16_before faults_before padded_sheet package_named type_named impl_named group_named renames_named type_hit in_package_by in_package in_found replaced_by replaced in_named with_package from_imports target renames_for after_rename after_own without_package resolve_by resolve turned feature_by features_walked extended_by type_by found_by visit_within expand_feature_group expand expansion_within expand_on expand_answer feature_block expansion_numbers is_named is_element or_elements found_children leads steps_over steps chains_by chains shape named one_to_one pairs_by pairs append_new row_of pair_rows rows_at traced shown rows unlimited diags_by diags_at traced_diags is_group_feature type_of declared_group classifier_by declared_by typed_by endpoint_by endpoint is_group_connection end_component_by end_component group_connection group_connections overrun partner matches_by matches dotted full_name connection_kind match_row match_diag rows_matched diags_matched traced_list traced_within row_names group_within group_list_of group_of traced_on traced_answer group_on group_answer with_group after_traced both_answer traced_block group_block diag_block traced_row_numbers traced_diag_numbers group_row_numbers group_diag_numbers composed_names digits_within digits column number_line text_line row_text message path_names diag_text list_text modes_line selection_lines refusal_text text_within modal grown selections_of combinations selections underscored joined_name modes_counted modes_on modes_answer selection_at selection_within selection_on selection_answer text_or_refusal printed_or_refusal conlist_text modes_text mode_text of_reading what_fits conlist_within text_after conlist modes mode
+unfolding padded sort_by rows_naming name_in good_name folded key same_folded base_name is_one_to_one unspaced decimal_from is_decimal is_number field_of fields_fit field_numbers line_with lines_of letter_of lines_with keeps_rules has_place is_earlier line_faults faults_from sheet_faults placed rows_read tables_read read_sheet table_after bytes_after broken_rows too_many_rows bad_name faults10 allows_from bad_row faults6 faults7 clashes_from clashes faults16 faults8 faults9 faults accepted has_place_before line_faults_before lines_faults_before tables_read_before read_before faults10_before allows_from_before faults6_before faults7_before faults16_before faults_before padded_sheet package_named type_named impl_named group_named renames_named type_hit in_package_by in_package in_found replaced_by replaced in_named with_package from_imports target renames_for after_rename after_own without_package resolve_by resolve turned feature_by features_walked extended_by type_by found_by visit_within expand_feature_group expand expansion_within expand_on expand_answer feature_block expansion_numbers is_named is_element or_elements found_children leads steps_over steps chains_by chains shape named one_to_one pairs_by pairs append_new row_of pair_rows rows_at traced shown rows unlimited diags_by diags_at traced_diags first_child siblings_behind next_sibling link_row link_table walk is_group_feature type_of declared_group classifier_by declared_by typed_by endpoint_by endpoint is_group_connection end_component_by end_component group_connection group_connections overrun partner matches_by matches dotted full_name connection_kind match_row match_diag rows_matched diags_matched traced_list traced_within row_names group_within group_list_of group_of traced_on traced_answer group_on group_answer with_group after_traced both_answer traced_block group_block diag_block traced_row_numbers traced_diag_numbers group_row_numbers group_diag_numbers composed_names digits_within digits column number_line text_line row_text message path_names diag_text list_text modes_line selection_lines refusal_text text_within modal grown selections_of combinations selections underscored joined_name modes_counted modes_on modes_answer selection_at selection_within selection_on selection_answer text_or_refusal printed_or_refusal conlist_text modes_text mode_text of_reading what_fits conlist_within text_after conlist modes mode
 table-passes = tt
 
 -- EVERY TRIAL HOLDS

@@ -5,12 +5,12 @@ use Prim.Native.Nat.{ℕ, ◌+◌, ◌-◌, ◌*◌}
 use Prim.Native.String.{String}
 use lib.ListN.{length, replicate, set}
 use Rattle.std.specs.Prelude.{Option, None, Some}
-use Rattle.as5506.specs.Lists.{zeros, bytes_of}
-use Rattle.as5506.specs.Tables.{Tables, missing, letter_c, letter_n, letter_m}
+use Rattle.as5506.specs.Lists.{up_to, each, zeros, bytes_of}
+use Rattle.as5506.specs.Tables.{Tables, missing, letter_c, letter_n, letter_p, letter_m}
 use Rattle.as5506.specs.Answers.{Refusal, refusal, nowhere, row}
 use Rattle.as5506.specs.Groups.{Expansion}
 use Rattle.as5506.specs.GroupList.{GroupConnection}
-use Rattle.as5506.proofs.TrialForms.{Trial, fills, lends, lists, length_is, traces, groups, both, joins, grows, counts_modes, selects, modes_prints, mode_prints, text, model, change}
+use Rattle.as5506.proofs.TrialForms.{Trial, fills, lends, lists, length_is, walks, traces, groups, both, joins, grows, counts_modes, selects, modes_prints, mode_prints, text, model, change}
 
 -- a model in words, and what is printed
 abbrev prints-of : List String → List String → Trial
@@ -398,6 +398,10 @@ group_diag = 5 ∷ 0 ∷ 26 ∷ 0 ∷ []
 abbrev composed : List ℕ
 composed = bytes_of "cn.xg.xhub.X"
 
+-- of the two components the first child and the next sibling
+abbrev mixed_links : List ℕ
+mixed_links = 1 ∷ missing ∷ missing ∷ missing ∷ []
+
 -- a refusal without a place
 abbrev over : ℕ → Option Refusal
 over n = Some (refusal n nowhere)
@@ -438,42 +442,42 @@ of_rooms =
     "D     5     0    26     0" ∷ "! feature group connection 'cn': source feature 'y' has no matching destination feature (STPA-REQ-011)" ∷ "@ cn" ∷ "@ y" ∷
     "Z     1     1" ∷ [])
     -- "After success unused output is zero", "an output holds the whole rows in it"
-    ∷ traces mixed None (traced_row ++ zeros 3) (traced_diag ++ zeros 2)
-    ∷ traces mixed None traced_row traced_diag
+    ∷ traces mixed None (mixed_links ++ zeros 5) (traced_row ++ zeros 3) (traced_diag ++ zeros 2)
+    ∷ traces mixed None mixed_links traced_row traced_diag
     -- the path and its length
-    ∷ traces (model (across_top ("C k 1 - p t -" ∷ "X d 1 0 k u - f" ∷ []))) None (filled row_width (0 ∷ 3 ∷ 3 ∷ 2 ∷ 9 ∷ 19 ∷ 13 ∷ 2 ∷ 0 ∷ 1 ∷ [])) []
+    ∷ traces (model (across_top ("C k 1 - p t -" ∷ "X d 1 0 k u - f" ∷ []))) None (1 ∷ missing ∷ 3 ∷ 2 ∷ missing ∷ missing ∷ missing ∷ missing ∷ []) (filled row_width (0 ∷ 3 ∷ 3 ∷ 2 ∷ 9 ∷ 19 ∷ 13 ∷ 2 ∷ 0 ∷ 1 ∷ [])) []
     -- 11: "more rows than the output holds", 12: "more diagnostics than the output holds", in this order; "A refusal leaves zeros"
-    ∷ traces mixed (over 11) (zeros (row_width - 1)) (zeros 3)
-    ∷ traces mixed (over 12) (zeros row_width) (zeros 3)
-    ∷ groups mixed None (group_row ++ zeros (row_width + 1)) (group_diag ++ zeros 5) (composed ++ zeros 2)
-    ∷ groups mixed None group_row group_diag composed
+    ∷ traces mixed (over 11) (zeros 4) (zeros (row_width - 1)) (zeros 3)
+    ∷ traces mixed (over 12) (zeros 5) (zeros row_width) (zeros 3)
+    ∷ groups mixed None (mixed_links ++ zeros 1) (group_row ++ zeros (row_width + 1)) (group_diag ++ zeros 5) (composed ++ zeros 2)
+    ∷ groups mixed None mixed_links group_row group_diag composed
     -- "Each row's names (row, source, destination) lie unseparated in the output of composed names"
-    ∷ groups (model (own (with_x ++ ("E 1 0 yy 3 - - - -" ∷ [])))) None
+    ∷ groups (model (own (with_x ++ ("E 1 0 yy 3 - - - -" ∷ [])))) None (missing ∷ missing ∷ [])
     (filled row_width (0 ∷ 0 ∷ 0 ∷ 0 ∷ 3 ∷ 3 ∷ 3 ∷ 1 ∷ 0 ∷ []) ++ filled row_width (0 ∷ 4 ∷ 0 ∷ 0 ∷ 4 ∷ 4 ∷ 4 ∷ 1 ∷ 0 ∷ [])) []
     (bytes_of "c.xg.xg.xc.yyg.yyg.yy")
     -- in the table's order 11, 14: "composed names longer than their output", 12
-    ∷ groups mixed (over 11) (zeros (row_width - 1)) (zeros 3) (zeros 11)
-    ∷ groups mixed (over 14) (zeros row_width) (zeros 3) (zeros 11)
-    ∷ groups mixed (over 12) (zeros row_width) (zeros 3) (zeros 12)
+    ∷ groups mixed (over 11) (zeros 4) (zeros (row_width - 1)) (zeros 3) (zeros 11)
+    ∷ groups mixed (over 14) (zeros 4) (zeros row_width) (zeros 3) (zeros 11)
+    ∷ groups mixed (over 12) (zeros 4) (zeros row_width) (zeros 3) (zeros 12)
     -- 13 before them: "one endpoint has over 65,536 visits", at the source, at the destination, in a later connection, beside an end that gives none
     ∷ joins_nowhere (joining (end 65536) (end 65536) ∷ []) 11
     ∷ joins_nowhere (joining (end 65537) (end 1) ∷ []) 13
     ∷ joins_nowhere (joining (end 1) (end 65537) ∷ []) 13
     ∷ joins_nowhere (joining (end 1) (end 1) ∷ joining None (end 65537) ∷ []) 13
     -- both in one call
-    ∷ both mixed None (traced_row ∷ traced_diag ∷ group_row ∷ group_diag ∷ composed ∷ [])
-    ∷ both mixed None (filled (row_width + 50) traced_row ∷ filled 9 traced_diag ∷ filled (row_width + 1) group_row ∷ filled 7 group_diag ∷ filled 13 composed ∷ [])
+    ∷ both mixed None mixed_links (traced_row ∷ traced_diag ∷ group_row ∷ group_diag ∷ composed ∷ [])
+    ∷ both mixed None (mixed_links ++ zeros 7) (filled (row_width + 50) traced_row ∷ filled 9 traced_diag ∷ filled (row_width + 1) group_row ∷ filled 7 group_diag ∷ filled 13 composed ∷ [])
     -- "The traced listing ends, refusals included, before the group listing starts"
-    ∷ both mixed (over 11) (zeros (row_width - 1) ∷ zeros 3 ∷ [] ∷ [] ∷ [] ∷ [])
-    ∷ both mixed (over 12) (zeros row_width ∷ zeros 3 ∷ [] ∷ [] ∷ [] ∷ [])
+    ∷ both mixed (over 11) (zeros 4) (zeros (row_width - 1) ∷ zeros 3 ∷ [] ∷ [] ∷ [] ∷ [])
+    ∷ both mixed (over 12) (zeros 4) (zeros row_width ∷ zeros 3 ∷ [] ∷ [] ∷ [] ∷ [])
     -- "A refusal leaves zeros in .. the listing's outputs, in both listings' where one call gives both"
-    ∷ both mixed (over 11) (zeros row_width ∷ zeros 4 ∷ zeros (row_width - 1) ∷ zeros 3 ∷ zeros 11 ∷ [])
-    ∷ both mixed (over 14) (zeros row_width ∷ zeros 4 ∷ zeros row_width ∷ zeros 3 ∷ zeros 11 ∷ [])
-    ∷ both mixed (over 12) (zeros row_width ∷ zeros 4 ∷ zeros row_width ∷ zeros 3 ∷ zeros 12 ∷ [])
+    ∷ both mixed (over 11) (zeros 4) (zeros row_width ∷ zeros 4 ∷ zeros (row_width - 1) ∷ zeros 3 ∷ zeros 11 ∷ [])
+    ∷ both mixed (over 14) (zeros 4) (zeros row_width ∷ zeros 4 ∷ zeros row_width ∷ zeros 3 ∷ zeros 11 ∷ [])
+    ∷ both mixed (over 12) (zeros 4) (zeros row_width ∷ zeros 4 ∷ zeros row_width ∷ zeros 3 ∷ zeros 12 ∷ [])
     -- tables that are not accepted are refused before any listing
-    ∷ traces parented bad_root (zeros row_width) (zeros 4)
-    ∷ groups parented bad_root (zeros (row_width - 1)) (zeros 4) (zeros 12)
-    ∷ both parented bad_root (zeros (row_width - 1) ∷ zeros 4 ∷ zeros row_width ∷ zeros 4 ∷ zeros 12 ∷ [])
+    ∷ traces parented bad_root (zeros 4) (zeros row_width) (zeros 4)
+    ∷ groups parented bad_root (zeros 4) (zeros (row_width - 1)) (zeros 4) (zeros 12)
+    ∷ both parented bad_root (zeros 4) (zeros (row_width - 1) ∷ zeros 4 ∷ zeros row_width ∷ zeros 4 ∷ zeros 12 ∷ [])
     -- "A refusal prints only `R`, number, place, a space and the table letter or `-`"
     ∷ lists parented ("R     7     0 C" ∷ [])
     ∷ lists (change mixed letter_n (λ t. t ++ (0 ∷ []))) ("R    10     0 N" ∷ [])
@@ -483,6 +487,68 @@ of_rooms =
     ∷ fills root_sheet (filled 63 (text ("R    15     0 -" ∷ [])))
     ∷ fills root_sheet (text ("R    15     0 -" ∷ []))
     ∷ fills root_sheet (zeros 15)
+    ∷ []
+
+-- ---- 02 (xiii): the link table
+
+-- component 0 holds 1, 2, 4 and 5 at the places 7, 3, 9 and 5, and 2 holds 3
+abbrev unordered : Tables
+unordered = model ("C top - - p t - 0" ∷ "C a 0 - p t - 7" ∷ "C b 0 - p t - 3" ∷ "C a 2 - p t - 4" ∷ "C d 0 - p t - 9" ∷ "C e 0 - p t - 5" ∷ [])
+
+-- a row for each component: "the first child and the next sibling"
+abbrev unordered_links : List ℕ
+unordered_links = 2 ∷ missing ∷ missing ∷ 4 ∷ 3 ∷ 5 ∷ missing ∷ missing ∷ missing ∷ missing ∷ missing ∷ 1 ∷ []
+
+-- the mixed model with its package twice: 9
+abbrev repeated : Tables
+repeated = change mixed letter_p (λ t. t ++ t)
+
+abbrev bad_package : Option Refusal
+bad_package = Some (refusal 9 (row letter_p 1))
+
+-- an end of the group connection has three nested groups, each with three, and so on: over 65,536 visits, 13
+abbrev bushy : Tables
+bushy = model (own ("U 0 G 0 - - - - - -" ∷ replicate 3 "E 1 0 s 8 - - G -"))
+
+-- n components below component 0, each the child of the one before
+abbrev deep : ℕ → Tables
+deep n = change (model ("C top - - p t - 0" ∷ [])) letter_c (λ t. t ++ each (λ i. 0 ∷ i ∷ 0 ∷ 0 ∷ 0 ∷ 1 ∷ 2 ∷ missing ∷ 0 ∷ []) (up_to n))
+
+abbrev pub of_links : List Trial
+of_links =
+    -- "a first child per component and a next sibling per child"; "missing as in 01"; unused output is zero
+    traces unordered None unordered_links [] []
+    ∷ traces unordered None (filled 13 unordered_links) (zeros 50) (zeros 5)
+    ∷ groups unordered None (filled 15 unordered_links) [] [] []
+    ∷ both unordered None (filled 14 unordered_links) ([] ∷ zeros 4 ∷ zeros 49 ∷ [] ∷ zeros 1 ∷ [])
+    ∷ traces (model ("C top - - p t -" ∷ [])) None (missing ∷ missing ∷ 0 ∷ []) [] []
+    -- "the walk gives the same children in the same order as a scan by place"
+    ∷ walks unordered 0 (2 ∷ 5 ∷ 1 ∷ 4 ∷ [])
+    ∷ walks unordered 2 (3 ∷ [])
+    ∷ walks unordered 4 []
+    -- 22: "One of fewer whole rows than components", by one row or by all; a row that is not whole is none
+    ∷ traces unordered (over 22) (zeros 10) [] []
+    ∷ traces unordered (over 22) (zeros 11) (zeros row_width) (zeros 4)
+    ∷ groups unordered (over 22) (zeros 11) [] [] []
+    ∷ both unordered (over 22) (zeros 11) ([] ∷ [] ∷ [] ∷ [] ∷ [] ∷ [])
+    ∷ traces mixed (over 22) [] (zeros row_width) (zeros 4)
+    -- before 11, 12 and 14, and before 13
+    ∷ traces mixed (over 22) (zeros 3) (zeros (row_width - 1)) (zeros 3)
+    ∷ groups mixed (over 22) (zeros 3) (zeros (row_width - 1)) (zeros 3) (zeros 11)
+    ∷ both mixed (over 22) (zeros 3) (zeros (row_width - 1) ∷ zeros 3 ∷ zeros (row_width - 1) ∷ zeros 3 ∷ zeros 11 ∷ [])
+    ∷ groups bushy (over 22) (zeros 1) [] [] []
+    ∷ both bushy (over 22) (zeros 1) (zeros (2 * row_width) ∷ [] ∷ [] ∷ [] ∷ [] ∷ [])
+    -- "after the tables' checks": the first of them, one between, and the last
+    ∷ traces (change mixed letter_n (λ t. t ++ (0 ∷ []))) (Some (refusal 10 (row letter_n 0))) (zeros 3) (zeros row_width) (zeros 4)
+    ∷ traces parented bad_root (zeros 3) (zeros row_width) (zeros 4)
+    ∷ traces repeated bad_package (zeros 3) (zeros row_width) (zeros 4)
+    ∷ groups repeated bad_package (zeros 3) (zeros row_width) (zeros 4) (zeros 12)
+    ∷ both repeated bad_package (zeros 3) (zeros row_width ∷ zeros 4 ∷ zeros row_width ∷ zeros 4 ∷ zeros 12 ∷ [])
+    -- conlist has a row for each component that a sheet can have, and no more
+    ∷ lists (deep 95) nothing
+    ∷ lists (deep 96) ("R    22     0 -" ∷ [])
+    -- with enough links 13 strikes as before
+    ∷ groups bushy (over 13) (zeros 2) [] [] []
     ∷ []
 
 -- ---- what conlist lends

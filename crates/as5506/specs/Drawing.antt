@@ -1,11 +1,7 @@
 -- The words of 02 (i): a list of children in the order of the drawing. Assumes nothing.
-use Rattle.std.specs.Prelude.{Bool, ◌&&◌, ◌||◌, ◌≡◌, List, [], ◌∷◌, ℕ, ◌<◌, eqb, ltb}
+use Rattle.std.specs.Prelude.{◌≡◌, List, [], ◌∷◌, ℕ, ◌<◌}
 use Rattle.as5506.specs.Tables.{Tables, c_count, c_parent, c_place}
 use Rattle.as5506.specs.Followed.{In}
-
--- row i stands before row j in the order of keys: of equal keys by row
-abbrev pub is_before : (ℕ → ℕ) → ℕ → ℕ → Bool
-is_before key i j = ltb (key i) (key j) || (eqb (key i) (key j) && ltb i j)
 
 -- each component has a smaller place than all behind it
 abbrev pub PlacesRise : Tables → List ℕ → Type 0

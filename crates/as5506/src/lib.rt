@@ -62,6 +62,8 @@ pub const PATH_PLACES: usize = CHAIN_PLACES + STEPS;
 pub const ROW_NUMBERS: usize = 8 + PATH_PLACES;
 
 pub const DIAGNOSTIC_NUMBERS: usize = 4;
+// A row of links: first child, next sibling.
+pub const LINK_NUMBERS: usize = 2;
 // A feature of an expansion: name, kind, direction, length of its prefix, 10 places.
 pub const FEATURE_NUMBERS: usize = 14;
 

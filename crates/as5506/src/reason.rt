@@ -20,6 +20,8 @@ pub enum Reason {
     Text = 15,
     // A selection number not below the number of selections.
     Selection = 20,
+    // A link table of fewer rows than there are components.
+    Links = 22,
 }
 
 impl From<Reason> for Refusal {

@@ -10,7 +10,7 @@ use Rattle.as5506.specs.Tables.{Tables}
 use Rattle.as5506.specs.Answers.{Answer, given, refused}
 use Rattle.as5506.specs.Rows.{Diag}
 use Rattle.as5506.specs.Listing.{Room, TracedList, GroupList, BothLists, traced_answer, group_answer, both_answer}
-use Rattle.as5506.specs.Layout.{diag_numbers, diag_block, room_in, output, traced_diag_numbers, group_diag_numbers, of_traced, of_group}
+use Rattle.as5506.specs.Layout.{links_in, diag_numbers, diag_block, room_in, output, traced_diag_numbers, group_diag_numbers, of_traced, of_group}
 use Rattle.as5506.proofs.Laws.{zeros-length}
 use Rattle.lent.proofs.Sets.{drop-zeros}
 use Rattle.instance.specs.Answer.{answer_for as traced_here}
@@ -70,60 +70,67 @@ front-room rows n count end part part' cleared h =
 
 -- ---- each listing
 
-pub traced-laid : (m : Tables) (rows numbers : List ℕ) (count end : ℕ) (part part' cleared told' rows' : List ℕ)
+pub traced-laid : (m : Tables) (links rows numbers : List ℕ) (count end : ℕ) (part part' cleared told' links' rows' : List ℕ)
     → Front (length numbers) (min count (length numbers / diag_numbers)) end part part' cleared
-    → TracedTold (traced_here m rows part) m rows part told' rows' part' → TracedTold (traced_for m rows numbers count) m rows numbers told' rows' (part' ++ drop end cleared)
-traced-laid m rows numbers count end part part' cleared told' rows' f h =
-    subst (λ (room : Room). TracedTold (traced_answer room m) m rows numbers told' rows' (part' ++ drop end cleared)) (front-room (length rows) (length numbers) count end part part' cleared f)
+    → TracedTold (traced_here m links rows part) m links rows part told' links' rows' part'
+    → TracedTold (traced_for m links rows numbers count) m links rows numbers told' links' rows' (part' ++ drop end cleared)
+traced-laid m links rows numbers count end part part' cleared told' links' rows' f h =
+    subst (λ (room : Room). TracedTold (traced_answer (links_in (length links)) room m) m links rows numbers told' links' rows' (part' ++ drop end cleared)) (front-room (length rows) (length numbers) count end part part' cleared f)
     (record {
       told = h.told;
       outputs-hold = record {
         answer = refl;
+        written-links = h.outputs-hold.written-links;
         written-rows = h.outputs-hold.written-rows;
-        written-diagnostics = all_hold traced_diag_numbers (traced_here m rows part) (length numbers) _ end part part' cleared f h.outputs-hold.written-diagnostics;
+        written-diagnostics = all_hold traced_diag_numbers (traced_here m links rows part) (length numbers) _ end part part' cleared f h.outputs-hold.written-diagnostics;
+        children-by-links = h.outputs-hold.children-by-links;
         step-limit = h.outputs-hold.step-limit;
       };
     })
 
-pub group-laid : (m : Tables) (rows names numbers : List ℕ) (count end : ℕ) (part part' cleared told' rows' names' : List ℕ)
+pub group-laid : (m : Tables) (links rows names numbers : List ℕ) (count end : ℕ) (part part' cleared told' links' rows' names' : List ℕ)
     → Front (length numbers) (min count (length numbers / diag_numbers)) end part part' cleared
-    → GroupTold (group_here m rows names part) rows names part told' rows' names' part'
-    → GroupTold (group_for m rows names numbers count) rows names numbers told' rows' names' (part' ++ drop end cleared)
-group-laid m rows names numbers count end part part' cleared told' rows' names' f h =
-    subst (λ (room : Room). GroupTold (group_answer room (length names) m) rows names numbers told' rows' names' (part' ++ drop end cleared))
+    → GroupTold (group_here m links rows names part) m links rows names part told' links' rows' names' part'
+    → GroupTold (group_for m links rows names numbers count) m links rows names numbers told' links' rows' names' (part' ++ drop end cleared)
+group-laid m links rows names numbers count end part part' cleared told' links' rows' names' f h =
+    subst (λ (room : Room). GroupTold (group_answer (links_in (length links)) room (length names) m) m links rows names numbers told' links' rows' names' (part' ++ drop end cleared))
     (front-room (length rows) (length numbers) count end part part' cleared f)
     (record {
       told = h.told;
       outputs-hold = record {
         answer = refl;
+        written-links = h.outputs-hold.written-links;
         written-rows = h.outputs-hold.written-rows;
         written-names = h.outputs-hold.written-names;
-        written-diagnostics = all_hold group_diag_numbers (group_here m rows names part) (length numbers) _ end part part' cleared f h.outputs-hold.written-diagnostics;
+        written-diagnostics = all_hold group_diag_numbers (group_here m links rows names part) (length numbers) _ end part part' cleared f h.outputs-hold.written-diagnostics;
+        children-by-links = h.outputs-hold.children-by-links;
       };
     })
 
-pub both-laid : (m : Tables) (rows numbers grows names gnumbers : List ℕ) (count gcount end gend : ℕ) (part part' cleared gpart gpart' gcleared told' rows' grows' names' : List ℕ)
+pub both-laid : (m : Tables) (links rows numbers grows names gnumbers : List ℕ) (count gcount end gend : ℕ) (part part' cleared gpart gpart' gcleared told' links' rows' grows' names' : List ℕ)
     → Front (length numbers) (min count (length numbers / diag_numbers)) end part part' cleared
     → Front (length gnumbers) (min gcount (length gnumbers / diag_numbers)) gend gpart gpart' gcleared
-    → BothTold (both_here m (outputs rows part grows names gpart)) m (outputs rows part grows names gpart) told' (outputs rows' part' grows' names' gpart')
-    → BothTold (both_for m (outputs rows numbers grows names gnumbers) count gcount) m (outputs rows numbers grows names gnumbers) told'
-    (outputs rows' (part' ++ drop end cleared) grows' names' (gpart' ++ drop gend gcleared))
-both-laid m rows numbers grows names gnumbers count gcount end gend part part' cleared gpart gpart' gcleared told' rows' grows' names' f g h =
-    let wanted : Answer BothLists = both_here m (outputs rows part grows names gpart) in
+    → BothTold (both_here m (outputs links rows part grows names gpart)) m (outputs links rows part grows names gpart) told' (outputs links' rows' part' grows' names' gpart')
+    → BothTold (both_for m (outputs links rows numbers grows names gnumbers) count gcount) m (outputs links rows numbers grows names gnumbers) told'
+    (outputs links' rows' (part' ++ drop end cleared) grows' names' (gpart' ++ drop gend gcleared))
+both-laid m links rows numbers grows names gnumbers count gcount end gend part part' cleared gpart gpart' gcleared told' links' rows' grows' names' f g h =
+    let wanted : Answer BothLists = both_here m (outputs links rows part grows names gpart) in
     let here : Room → Room → Type 0
-    = λ (room room' : Room). BothTold (both_answer room room' (length names) m) m (outputs rows numbers grows names gnumbers) told'
-    (outputs rows' (part' ++ drop end cleared) grows' names' (gpart' ++ drop gend gcleared)) in
+    = λ (room room' : Room). BothTold (both_answer (links_in (length links)) room room' (length names) m) m (outputs links rows numbers grows names gnumbers) told'
+    (outputs links' rows' (part' ++ drop end cleared) grows' names' (gpart' ++ drop gend gcleared)) in
     subst (λ (room : Room). here room (room_with (length grows) (length gnumbers) gcount)) (front-room (length rows) (length numbers) count end part part' cleared f)
     (subst (λ (room : Room). here (room_in (length rows) (length part)) room) (front-room (length grows) (length gnumbers) gcount gend gpart gpart' gcleared g)
     (record {
       told = h.told;
       outputs-hold = record {
         answer = refl;
+        written-links = h.outputs-hold.written-links;
         written-rows = h.outputs-hold.written-rows;
         written-diagnostics = all_hold (of_traced traced_diag_numbers) wanted (length numbers) _ end part part' cleared f h.outputs-hold.written-diagnostics;
         written-group-rows = h.outputs-hold.written-group-rows;
         written-names = h.outputs-hold.written-names;
         written-group-diagnostics = all_hold (of_group group_diag_numbers) wanted (length gnumbers) _ gend gpart gpart' gcleared g h.outputs-hold.written-group-diagnostics;
+        children-by-links = h.outputs-hold.children-by-links;
         step-limit = h.outputs-hold.step-limit;
       };
     }))
@@ -144,28 +151,28 @@ holds-map P Q (refused r) g h = tt
 under : (rows n count k : ℕ) → k ≤ (room_with rows n count).diags → k ≤ count
 under rows n count k h = omega (arith, h)
 
-pub traced-records : (m : Tables) (rows numbers : List ℕ) (out : List Diagnostic) (told' rows' numbers' : List ℕ) (out' : List Diagnostic)
-    → TracedTold (traced_for m rows numbers (length out)) m rows numbers told' rows' numbers' → out' ≡ records_from numbers' 0 (length out)
-    → TracedRecords m rows numbers out told' rows' numbers' out'
+pub traced-records : (m : Tables) (links rows numbers : List ℕ) (out : List Diagnostic) (told' links' rows' numbers' : List ℕ) (out' : List Diagnostic)
+    → TracedTold (traced_for m links rows numbers (length out)) m links rows numbers told' links' rows' numbers' → out' ≡ records_from numbers' 0 (length out)
+    → TracedRecords m links rows numbers out told' links' rows' numbers' out'
 unfolding traced_diag_numbers
-traced-records m rows numbers out told' rows' numbers' out' h e =
+traced-records m links rows numbers out told' links' rows' numbers' out' h e =
     let room : Room = room_with (length rows) (length numbers) (length out) in
     record {
       as-numbers = h;
-      as-records = e ∙ filled-records (λ (l : TracedList). l.diags) traced_diag_numbers (traced_answer room m) numbers' (length numbers) (length out) (λ x. refl)
-          (holds-map _ _ (traced_answer room m) (λ x t. under (length rows) (length numbers) (length out) (length x.diags) t.diags) (traced_fit room m)) h.outputs-hold.written-diagnostics;
+      as-records = e ∙ filled-records (λ (l : TracedList). l.diags) traced_diag_numbers (traced_answer (links_in (length links)) room m) numbers' (length numbers) (length out) (λ x. refl)
+          (holds-map _ _ (traced_answer (links_in (length links)) room m) (λ x t. under (length rows) (length numbers) (length out) (length x.diags) t.diags) (traced_fit (links_in (length links)) room m)) h.outputs-hold.written-diagnostics;
     }
 
-pub group-records : (m : Tables) (rows names numbers : List ℕ) (out : List Diagnostic) (told' rows' names' numbers' : List ℕ) (out' : List Diagnostic)
-    → GroupTold (group_for m rows names numbers (length out)) rows names numbers told' rows' names' numbers' → out' ≡ records_from numbers' 0 (length out)
-    → GroupRecords m rows names numbers out told' rows' names' numbers' out'
+pub group-records : (m : Tables) (links rows names numbers : List ℕ) (out : List Diagnostic) (told' links' rows' names' numbers' : List ℕ) (out' : List Diagnostic)
+    → GroupTold (group_for m links rows names numbers (length out)) m links rows names numbers told' links' rows' names' numbers' → out' ≡ records_from numbers' 0 (length out)
+    → GroupRecords m links rows names numbers out told' links' rows' names' numbers' out'
 unfolding group_diag_numbers
-group-records m rows names numbers out told' rows' names' numbers' out' h e =
+group-records m links rows names numbers out told' links' rows' names' numbers' out' h e =
     let room : Room = room_with (length rows) (length numbers) (length out) in
     record {
       as-numbers = h;
-      as-records = e ∙ filled-records (λ (g : GroupList). g.diags) group_diag_numbers (group_answer room (length names) m) numbers' (length numbers) (length out) (λ x. refl)
-          (holds-map _ _ (group_answer room (length names) m) (λ x t. under (length rows) (length numbers) (length out) (length x.diags) t.diags) (group-fit room (length names) m))
+      as-records = e ∙ filled-records (λ (g : GroupList). g.diags) group_diag_numbers (group_answer (links_in (length links)) room (length names) m) numbers' (length numbers) (length out) (λ x. refl)
+          (holds-map _ _ (group_answer (links_in (length links)) room (length names) m) (λ x t. under (length rows) (length numbers) (length out) (length x.diags) t.diags) (group-fit (links_in (length links)) room (length names) m))
           h.outputs-hold.written-diagnostics;
     }
 
@@ -175,7 +182,7 @@ pub both-records : (m : Tables) (o : Outputs) (out group-out : List Diagnostic) 
 unfolding traced_diag_numbers group_diag_numbers
 both-records m o out group-out told' p out' group-out' h e g =
     let a : Answer BothLists = both_for m o (length out) (length group-out) in
-    let fits = both-fit (room_with (length o.rows) (length o.diags) (length out)) (room_with (length o.group-rows) (length o.group-diags) (length group-out)) (length o.names) m in
+    let fits = both-fit (links_in (length o.links)) (room_with (length o.rows) (length o.diags) (length out)) (room_with (length o.group-rows) (length o.group-diags) (length group-out)) (length o.names) m in
     record {
       as-numbers = h;
       as-records = e ∙ filled-records (λ (b : BothLists). b.traced.diags) (of_traced traced_diag_numbers) a p.diags (length o.diags) (length out) (λ x. refl)

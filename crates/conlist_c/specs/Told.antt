@@ -9,13 +9,13 @@ use Rattle.group_list.specs.Answer.{GroupListedAs, listed as group_listed}
 use Rattle.listing.specs.Answer.{Outputs, BothAs, listed as both_listed}
 use Rattle.conlist_c.specs.Numbers.{answer_numbers, listed_numbers, both_numbers}
 
-pub record TracedTold (wanted : Answer TracedList) (m : Tables) (rows numbers told' rows' numbers' : List ℕ) : Type 0 where
+pub record TracedTold (wanted : Answer TracedList) (m : Tables) (links rows numbers told' links' rows' numbers' : List ℕ) : Type 0 where
   pub told : told' ≡ answer_numbers 3 listed_numbers (handed traced_listed wanted)
-  pub outputs-hold : TracedAs wanted m rows numbers (handed traced_listed wanted) rows' numbers'
+  pub outputs-hold : TracedAs wanted m links rows numbers (handed traced_listed wanted) links' rows' numbers'
 
-pub record GroupTold (wanted : Answer GroupList) (rows names numbers told' rows' names' numbers' : List ℕ) : Type 0 where
+pub record GroupTold (wanted : Answer GroupList) (m : Tables) (links rows names numbers told' links' rows' names' numbers' : List ℕ) : Type 0 where
   pub told : told' ≡ answer_numbers 3 listed_numbers (handed group_listed wanted)
-  pub outputs-hold : GroupListedAs wanted rows names numbers (handed group_listed wanted) rows' names' numbers'
+  pub outputs-hold : GroupListedAs wanted m links rows names numbers (handed group_listed wanted) links' rows' names' numbers'
 
 pub record BothTold (wanted : Answer BothLists) (m : Tables) (o : Outputs) (told' : List ℕ) (p : Outputs) : Type 0 where
   pub told : told' ≡ answer_numbers 5 both_numbers (handed both_listed wanted)

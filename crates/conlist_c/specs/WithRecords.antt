@@ -3,7 +3,7 @@ use Rattle.std.specs.Prelude.{◌≡◌, List, ℕ, ◌/◌, min, length}
 use Rattle.as5506.specs.Tables.{Tables}
 use Rattle.as5506.specs.Answers.{Answer}
 use Rattle.as5506.specs.Listing.{Room, TracedList, GroupList, BothLists, traced_answer, group_answer, both_answer}
-use Rattle.as5506.specs.Layout.{row_numbers, diag_numbers}
+use Rattle.as5506.specs.Layout.{links_in, row_numbers, diag_numbers}
 use Rattle.listing.specs.Answer.{Outputs}
 use Rattle.conlist_c.specs.Told.{TracedTold, GroupTold, BothTold}
 use Rattle.conlist_c.specs.declared.diagnostic.Diagnostic.{Diagnostic}
@@ -15,27 +15,27 @@ room_with rows numbers count = record { rows = rows / row_numbers; diags = min c
 
 -- ---- the definition's answers for the tables m, outputs of these lengths and so many records
 
-abbrev pub traced_for : Tables → List ℕ → List ℕ → ℕ → Answer TracedList
-traced_for m rows numbers count = traced_answer (room_with (length rows) (length numbers) count) m
+abbrev pub traced_for : Tables → List ℕ → List ℕ → List ℕ → ℕ → Answer TracedList
+traced_for m links rows numbers count = traced_answer (links_in (length links)) (room_with (length rows) (length numbers) count) m
 
-abbrev pub group_for : Tables → List ℕ → List ℕ → List ℕ → ℕ → Answer GroupList
-group_for m rows names numbers count = group_answer (room_with (length rows) (length numbers) count) (length names) m
+abbrev pub group_for : Tables → List ℕ → List ℕ → List ℕ → List ℕ → ℕ → Answer GroupList
+group_for m links rows names numbers count = group_answer (links_in (length links)) (room_with (length rows) (length numbers) count) (length names) m
 
 abbrev pub both_for : Tables → Outputs → ℕ → ℕ → Answer BothLists
 both_for m o count group-count =
-    both_answer (room_with (length o.rows) (length o.diags) count) (room_with (length o.group-rows) (length o.group-diags) group-count) (length o.names) m
+    both_answer (links_in (length o.links)) (room_with (length o.rows) (length o.diags) count) (room_with (length o.group-rows) (length o.group-diags) group-count) (length o.names) m
 
 -- ---- THE CONTRACTS, with the caller's records `out`, which afterwards are out'
 
 -- the traced listing
-pub record TracedRecords (m : Tables) (rows numbers : List ℕ) (out : List Diagnostic) (told' rows' numbers' : List ℕ) (out' : List Diagnostic) : Type 0 where
-  pub as-numbers : TracedTold (traced_for m rows numbers (length out)) m rows numbers told' rows' numbers'
-  pub as-records : out' ≡ records (length out) (λ (l : TracedList). l.diags) (traced_for m rows numbers (length out))
+pub record TracedRecords (m : Tables) (links rows numbers : List ℕ) (out : List Diagnostic) (told' links' rows' numbers' : List ℕ) (out' : List Diagnostic) : Type 0 where
+  pub as-numbers : TracedTold (traced_for m links rows numbers (length out)) m links rows numbers told' links' rows' numbers'
+  pub as-records : out' ≡ records (length out) (λ (l : TracedList). l.diags) (traced_for m links rows numbers (length out))
 
 -- the group listing
-pub record GroupRecords (m : Tables) (rows names numbers : List ℕ) (out : List Diagnostic) (told' rows' names' numbers' : List ℕ) (out' : List Diagnostic) : Type 0 where
-  pub as-numbers : GroupTold (group_for m rows names numbers (length out)) rows names numbers told' rows' names' numbers'
-  pub as-records : out' ≡ records (length out) (λ (g : GroupList). g.diags) (group_for m rows names numbers (length out))
+pub record GroupRecords (m : Tables) (links rows names numbers : List ℕ) (out : List Diagnostic) (told' links' rows' names' numbers' : List ℕ) (out' : List Diagnostic) : Type 0 where
+  pub as-numbers : GroupTold (group_for m links rows names numbers (length out)) m links rows names numbers told' links' rows' names' numbers'
+  pub as-records : out' ≡ records (length out) (λ (g : GroupList). g.diags) (group_for m links rows names numbers (length out))
 
 -- both listings, with records for the diagnostics of each
 pub record BothRecords (m : Tables) (o : Outputs) (out group-out : List Diagnostic) (told' : List ℕ) (p : Outputs) (out' group-out' : List Diagnostic) : Type 0 where

@@ -13,6 +13,7 @@ use lent::Tables;
 // a refusal's number, place and letter and two zeros.
 fn list(
     m: &Tables,
+    links: &mut [u32],
     rows: &mut [u32],
     diagnostics: &mut [u32],
     group_rows: &mut [u32],
@@ -20,13 +21,14 @@ fn list(
     group_diagnostics: &mut [u32],
 ) -> [u64; 5]
     ensures { BothTold
-        (answer_for (model m.now) (outputs rows.old diagnostics.old group_rows.old names.old group_diagnostics.old))
+        (answer_for (model m.now) (outputs links.old rows.old diagnostics.old group_rows.old names.old group_diagnostics.old))
         (model m.now)
-        (outputs rows.old diagnostics.old group_rows.old names.old group_diagnostics.old) result
-        (outputs rows.new diagnostics.new group_rows.new names.new group_diagnostics.new) }
+        (outputs links.old rows.old diagnostics.old group_rows.old names.old group_diagnostics.old) result
+        (outputs links.new rows.new diagnostics.new group_rows.new names.new group_diagnostics.new) }
 {
     numbers::told(listing::list_connections(
         m,
+        links,
         rows,
         diagnostics,
         group_rows,
@@ -38,6 +40,7 @@ fn list(
 // The same with room for no more diagnostics than `count` and `group_count` records, which C lends beside the numbers.
 fn list_for(
     m: &Tables,
+    links: &mut [u32],
     rows: &mut [u32],
     numbers: &mut [u32],
     group_rows: &mut [u32],
@@ -47,10 +50,10 @@ fn list_for(
     group_count: usize,
 ) -> [u64; 5]
     ensures { BothTold
-        (both_for (model m.now) (outputs rows.old numbers.old group_rows.old names.old group_numbers.old) count group_count)
+        (both_for (model m.now) (outputs links.old rows.old numbers.old group_rows.old names.old group_numbers.old) count group_count)
         (model m.now)
-        (outputs rows.old numbers.old group_rows.old names.old group_numbers.old) result
-        (outputs rows.new numbers.new group_rows.new names.new group_numbers.new) }
+        (outputs links.old rows.old numbers.old group_rows.old names.old group_numbers.old) result
+        (outputs links.new rows.new numbers.new group_rows.new names.new group_numbers.new) }
 {
     let end = diagnostic::numbers_for(numbers.len(), count);
     let group_end = diagnostic::numbers_for(group_numbers.len(), group_count);
@@ -58,6 +61,7 @@ fn list_for(
     group_numbers.fill(0);
     list(
         m,
+        links,
         rows,
         &mut numbers[..end],
         group_rows,
@@ -83,6 +87,7 @@ pub extern "C" fn conlist_list_connections(
     e: &[u32],
     r: &[u32],
     m: &[u32],
+    links: &mut [u32],
     rows: &mut [u32],
     diagnostics: &mut [u32],
     group_rows: &mut [u32],
@@ -92,10 +97,10 @@ pub extern "C" fn conlist_list_connections(
 )
     ensures { BothTold
         (answer_for (tables_at bytes n c f x p i t q u e r m)
-        (outputs rows.old diagnostics.old group_rows.old names.old group_diagnostics.old))
+        (outputs links.old rows.old diagnostics.old group_rows.old names.old group_diagnostics.old))
         (tables_at bytes n c f x p i t q u e r m)
-        (outputs rows.old diagnostics.old group_rows.old names.old group_diagnostics.old) told.new
-        (outputs rows.new diagnostics.new group_rows.new names.new group_diagnostics.new) }
+        (outputs links.old rows.old diagnostics.old group_rows.old names.old group_diagnostics.old) told.new
+        (outputs links.new rows.new diagnostics.new group_rows.new names.new group_diagnostics.new) }
 {
     let model = Tables {
         bytes,
@@ -114,6 +119,7 @@ pub extern "C" fn conlist_list_connections(
     };
     *told = list(
         &model,
+        links,
         rows,
         diagnostics,
         group_rows,
@@ -139,6 +145,7 @@ pub extern "C" fn conlist_list_connections_with_records(
     e: &[u32],
     r: &[u32],
     m: &[u32],
+    links: &mut [u32],
     rows: &mut [u32],
     numbers: &mut [u32],
     out: &mut [Diagnostic],
@@ -150,9 +157,9 @@ pub extern "C" fn conlist_list_connections_with_records(
 )
     ensures { BothRecords
         (tables_at bytes n c f x p i t q u e r m)
-        (outputs rows.old numbers.old group_rows.old names.old group_numbers.old)
+        (outputs links.old rows.old numbers.old group_rows.old names.old group_numbers.old)
         out.old group_out.old told.new
-        (outputs rows.new numbers.new group_rows.new names.new group_numbers.new)
+        (outputs links.new rows.new numbers.new group_rows.new names.new group_numbers.new)
         out.new group_out.new }
 {
     let model = Tables {
@@ -172,6 +179,7 @@ pub extern "C" fn conlist_list_connections_with_records(
     };
     *told = list_for(
         &model,
+        links,
         rows,
         numbers,
         group_rows,

@@ -11,25 +11,32 @@ use lent::Tables;
 
 // Lists as `expand_feature_group_connections` does, with what is told of it: 0, the rows and the diagnostics that were written, or a refusal's number,
 // place and letter.
-fn expand(m: &Tables, rows: &mut [u32], names: &mut [u8], diagnostics: &mut [u32]) -> [u64; 3]
-    ensures { GroupTold (answer_for (model m.now) rows.old names.old diagnostics.old) rows.old names.old diagnostics.old result rows.new names.new diagnostics.new }
+fn expand(
+    m: &Tables,
+    links: &mut [u32],
+    rows: &mut [u32],
+    names: &mut [u8],
+    diagnostics: &mut [u32],
+) -> [u64; 3]
+    ensures { GroupTold (answer_for (model m.now) links.old rows.old names.old diagnostics.old) (model m.now) links.old rows.old names.old diagnostics.old result links.new rows.new names.new diagnostics.new }
 {
-    numbers::told(group_list::expand_feature_group_connections(m, rows, names, diagnostics))
+    numbers::told(group_list::expand_feature_group_connections(m, links, rows, names, diagnostics))
 }
 
 // The same with room for no more diagnostics than `count` records, which C lends beside the numbers.
 fn expand_for(
     m: &Tables,
+    links: &mut [u32],
     rows: &mut [u32],
     names: &mut [u8],
     numbers: &mut [u32],
     count: usize,
 ) -> [u64; 3]
-    ensures { GroupTold (group_for (model m.now) rows.old names.old numbers.old count) rows.old names.old numbers.old result rows.new names.new numbers.new }
+    ensures { GroupTold (group_for (model m.now) links.old rows.old names.old numbers.old count) (model m.now) links.old rows.old names.old numbers.old result links.new rows.new names.new numbers.new }
 {
     let end = diagnostic::numbers_for(numbers.len(), count);
     numbers.fill(0);
-    expand(m, rows, names, &mut numbers[..end])
+    expand(m, links, rows, names, &mut numbers[..end])
 }
 
 // Lists as `expand_feature_group_connections` does. `told` then holds 0, the rows and the diagnostics that were written, or a refusal's number, place
@@ -49,14 +56,16 @@ pub extern "C" fn conlist_expand_feature_group_connections(
     e: &[u32],
     r: &[u32],
     m: &[u32],
+    links: &mut [u32],
     rows: &mut [u32],
     names: &mut [u8],
     diagnostics: &mut [u32],
     told: &mut [u64; 3],
 )
     ensures { GroupTold
-        (answer_for (tables_at bytes n c f x p i t q u e r m) rows.old names.old diagnostics.old)
-        rows.old names.old diagnostics.old told.new rows.new names.new diagnostics.new }
+        (answer_for (tables_at bytes n c f x p i t q u e r m) links.old rows.old names.old diagnostics.old)
+        (tables_at bytes n c f x p i t q u e r m)
+        links.old rows.old names.old diagnostics.old told.new links.new rows.new names.new diagnostics.new }
 {
     let model = Tables {
         bytes,
@@ -73,7 +82,7 @@ pub extern "C" fn conlist_expand_feature_group_connections(
         r,
         m,
     };
-    *told = expand(&model, rows, names, diagnostics);
+    *told = expand(&model, links, rows, names, diagnostics);
 }
 
 // Lists as `expand_feature_group_connections` does, with the diagnostics in the caller's records: there is room for as many as there are records,
@@ -93,6 +102,7 @@ pub extern "C" fn conlist_expand_feature_group_connections_with_records(
     e: &[u32],
     r: &[u32],
     m: &[u32],
+    links: &mut [u32],
     rows: &mut [u32],
     names: &mut [u8],
     numbers: &mut [u32],
@@ -101,8 +111,8 @@ pub extern "C" fn conlist_expand_feature_group_connections_with_records(
 )
     ensures { GroupRecords
         (tables_at bytes n c f x p i t q u e r m)
-        rows.old names.old numbers.old out.old
-        told.new rows.new names.new numbers.new out.new }
+        links.old rows.old names.old numbers.old out.old
+        told.new links.new rows.new names.new numbers.new out.new }
 {
     let model = Tables {
         bytes,
@@ -119,6 +129,6 @@ pub extern "C" fn conlist_expand_feature_group_connections_with_records(
         r,
         m,
     };
-    *told = expand_for(&model, rows, names, numbers, out.len());
+    *told = expand_for(&model, links, rows, names, numbers, out.len());
     diagnostic::fill_records(out, numbers);
 }

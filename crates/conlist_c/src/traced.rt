@@ -11,19 +11,25 @@ use lent::Tables;
 
 // Lists as `compute_semantic_connections` does, with what is told of it: 0, the rows and the diagnostics that were written, or a refusal's number, place
 // and letter.
-fn trace(m: &Tables, rows: &mut [u32], diagnostics: &mut [u32]) -> [u64; 3]
-    ensures { TracedTold (answer_for (model m.now) rows.old diagnostics.old) (model m.now) rows.old diagnostics.old result rows.new diagnostics.new }
+fn trace(m: &Tables, links: &mut [u32], rows: &mut [u32], diagnostics: &mut [u32]) -> [u64; 3]
+    ensures { TracedTold (answer_for (model m.now) links.old rows.old diagnostics.old) (model m.now) links.old rows.old diagnostics.old result links.new rows.new diagnostics.new }
 {
-    numbers::told(instance::compute_semantic_connections(m, rows, diagnostics))
+    numbers::told(instance::compute_semantic_connections(m, links, rows, diagnostics))
 }
 
 // The same with room for no more diagnostics than `count` records, which C lends beside the numbers.
-fn trace_for(m: &Tables, rows: &mut [u32], numbers: &mut [u32], count: usize) -> [u64; 3]
-    ensures { TracedTold (traced_for (model m.now) rows.old numbers.old count) (model m.now) rows.old numbers.old result rows.new numbers.new }
+fn trace_for(
+    m: &Tables,
+    links: &mut [u32],
+    rows: &mut [u32],
+    numbers: &mut [u32],
+    count: usize,
+) -> [u64; 3]
+    ensures { TracedTold (traced_for (model m.now) links.old rows.old numbers.old count) (model m.now) links.old rows.old numbers.old result links.new rows.new numbers.new }
 {
     let end = diagnostic::numbers_for(numbers.len(), count);
     numbers.fill(0);
-    trace(m, rows, &mut numbers[..end])
+    trace(m, links, rows, &mut numbers[..end])
 }
 
 // Lists as `compute_semantic_connections` does. `told` then holds 0, the rows and the diagnostics that were written, or a refusal's number, place and
@@ -43,14 +49,15 @@ pub extern "C" fn conlist_compute_semantic_connections(
     e: &[u32],
     r: &[u32],
     m: &[u32],
+    links: &mut [u32],
     rows: &mut [u32],
     diagnostics: &mut [u32],
     told: &mut [u64; 3],
 )
     ensures { TracedTold
-        (answer_for (tables_at bytes n c f x p i t q u e r m) rows.old diagnostics.old)
+        (answer_for (tables_at bytes n c f x p i t q u e r m) links.old rows.old diagnostics.old)
         (tables_at bytes n c f x p i t q u e r m)
-        rows.old diagnostics.old told.new rows.new diagnostics.new }
+        links.old rows.old diagnostics.old told.new links.new rows.new diagnostics.new }
 {
     let model = Tables {
         bytes,
@@ -67,7 +74,7 @@ pub extern "C" fn conlist_compute_semantic_connections(
         r,
         m,
     };
-    *told = trace(&model, rows, diagnostics);
+    *told = trace(&model, links, rows, diagnostics);
 }
 
 // Lists as `compute_semantic_connections` does, with the diagnostics in the caller's records: there is room for as many as there are records, and for
@@ -87,6 +94,7 @@ pub extern "C" fn conlist_compute_semantic_connections_with_records(
     e: &[u32],
     r: &[u32],
     m: &[u32],
+    links: &mut [u32],
     rows: &mut [u32],
     numbers: &mut [u32],
     out: &mut [Diagnostic],
@@ -94,7 +102,7 @@ pub extern "C" fn conlist_compute_semantic_connections_with_records(
 )
     ensures { TracedRecords
         (tables_at bytes n c f x p i t q u e r m)
-        rows.old numbers.old out.old told.new rows.new numbers.new out.new }
+        links.old rows.old numbers.old out.old told.new links.new rows.new numbers.new out.new }
 {
     let model = Tables {
         bytes,
@@ -111,6 +119,6 @@ pub extern "C" fn conlist_compute_semantic_connections_with_records(
         r,
         m,
     };
-    *told = trace_for(&model, rows, numbers, out.len());
+    *told = trace_for(&model, links, rows, numbers, out.len());
     diagnostic::fill_records(out, numbers);
 }

@@ -4,7 +4,7 @@ use mathlib.Core.Path.{◌≡◌, refl, sym, ap, ap₂, ◌∙◌}
 use mathlib.Core.List.{List, [], ◌∷◌}
 use Prim.Native.Nat.{ℕ, ◌≤◌, ◌<◌}
 use lib.Dec.{eqb}
-use Rattle.std.specs.Prelude.{Option, Some, None, MatchOption, is_some}
+use Rattle.std.specs.Prelude.{Option, Some, None, is_some}
 use Rattle.as5506.specs.Lists.{up_to, put_if, keep, first_of, any_of, same_bytes}
 use Rattle.as5506.specs.Tables.{Tables, missing, letter_f, letter_e, count, Side, Ref, ref, name_of, rows_naming, x_owner, x_sub, c_package, c_type, f_name, f_owner, f_kind, features_of, e_name, e_kind, e_holder, e_holder_kind, e_classifier, present}
 use Rattle.as5506.specs.Names.{key}
@@ -29,15 +29,11 @@ module _ (m : Tables) where
     unfolding end_component end_component_by
     end_owner h = rw (missing-is sub (x_sub m s i) f h) (ap Some e)
 
-    -- l is what the name finds, l' is left behind the first
-    pub end_child : (q : Option ℕ) (l l' : List ℕ) → (sub ≡ missing → ⊥) → l ≡ found_children m p (name_of m sub) → MatchOption q ((l ≡ []) × (l' ≡ [])) (λ j. l ≡ j ∷ l') → q ≡ end_component m s i
+    -- l is what the name finds
+    pub end_child : (l : List ℕ) (q : Option ℕ) → (sub ≡ missing → ⊥) → l ≡ found_children m p (name_of m sub) → q ≡ first_of l → q ≡ end_component m s i
     unfolding end_component end_component_by named
-    end_child q l l' h a g =
-        rw (present-is sub (x_sub m s i) f h) (first q g ∙ ap first_of (a ∙ ap₂ (λ (p sub : ℕ). found_children m p (name_of m sub)) e f))
-      where
-        first : (q : Option ℕ) → MatchOption q ((l ≡ []) × (l' ≡ [])) (λ j. l ≡ j ∷ l') → q ≡ first_of l
-        first None g = rw (g.0) refl
-        first (Some j) g = rw g refl
+    end_child l q h a g =
+        rw (present-is sub (x_sub m s i) f h) (g ∙ ap first_of (a ∙ ap₂ (λ (p sub : ℕ). found_children m p (name_of m sub)) e f))
 
   -- ---- the group features of a component
 

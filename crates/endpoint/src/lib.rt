@@ -2,14 +2,17 @@
 // group that its feature stands for.
 #![tactic(auto)]
 
-ghost use Rattle.std.specs.Prelude.{◌≡◌, Some, option_map};
+ghost use Rattle.std.specs.Prelude.{◌≡◌, ◌<◌, Some, option_map};
+ghost use Rattle.as5506.specs.Tables.{x_count};
 ghost use Rattle.as5506.specs.Names.{key};
 ghost use Rattle.as5506.specs.GroupList.{is_group_connection, is_group_feature, declared_group, declared_by, end_component, endpoint as the_endpoint};
 ghost use Rattle.lent.specs.Model.{model};
+ghost use Rattle.child_links.specs.Trees.{of_tree};
 ghost use Rattle.columns.specs.Side.{side_of};
 ghost use Rattle.endpoint.specs.Ends.{expanded, is_group, is_declared};
 
 use as5506::{E_NUMBERS, F_NUMBERS, MISSING};
+use child_links::Tree;
 use columns::{FEATURE_GROUP, Reference, Side, component, connection, declared, feature};
 use lent::Tables;
 use resolver::Classifier;
@@ -36,15 +39,16 @@ pub fn is_group_connection(m: &Tables, i: usize) -> bool
 
 // The component at an end of X row i: the first child of the name, or the owner where no subcomponent is named.
 #[tactic(auto, using(crate::proofs::Steps::end_owner, crate::proofs::Steps::end_child))]
-pub fn end_component(m: &Tables, side: Side, i: usize) -> Option<usize>
-    ensures { result ≡ end_component (model m.now) (side_of side) i }
+pub fn end_component(tree: &Tree, side: Side, i: usize) -> Option<usize>
+    requires { i < x_count (of_tree tree.now) }
+    ensures { result ≡ end_component (of_tree tree.now) (side_of side) i }
 {
-    let owner = connection::owner_of(m, i);
-    let sub = connection::subcomponent_of(m, side, i);
+    let owner = connection::owner_of(tree.m, i);
+    let sub = connection::subcomponent_of(tree.m, side, i);
     if sub == MISSING {
         return Some(owner as usize);
     }
-    children::named(m, owner, sub).next()
+    children::named(tree, owner, sub).first()
 }
 
 // Whether F row i is a feature of the component, is a group, and has the wanted name, case ignored.

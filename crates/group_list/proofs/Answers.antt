@@ -2,7 +2,7 @@
 use mathlib.Core.Bool.{Bool, true, false, not}
 use mathlib.Core.Logic.{◌⊎◌, inl, inr}
 use mathlib.Core.Path.{◌≡◌, refl, sym, ap, ap₂, ◌∙◌, subst}
-use mathlib.Core.List.{List, [], ◌∷◌, ◌++◌, append-nil}
+use mathlib.Core.List.{List, [], ◌++◌, append-nil}
 use Prim.Native.Nat.{ℕ, ◌+◌, ◌/◌, ◌≤◌, ◌<◌}
 use native.Mathlib.Omega.{arith}
 use lib.Dec.{T}
@@ -10,33 +10,33 @@ use lib.ListN.{length, take, drop}
 use lib.Seq.{sets, sets-eq, take_at, length-take-le}
 use borrow.Author.Tests.{lt-ltb, le-ltb}
 use Rattle.std.specs.Prelude.{Option, Some, Result, Ok, Err, ok_or, is_err, IsErrAnd}
-use Rattle.as5506.specs.Lists.{is_nil, each, total, zeros}
+use Rattle.as5506.specs.Lists.{each, total, zeros}
 use Rattle.as5506.specs.declared.Refusal.{Refusal as Told}
 use Rattle.as5506.specs.declared.Listed.{Listed}
 use Rattle.as5506.specs.Tables.{Tables}
 use Rattle.as5506.specs.Answers.{Refusal, Answer, given, refused, refusal, nowhere, told, handed}
-use Rattle.as5506.specs.Refusals.{faults, accepted}
+use Rattle.as5506.specs.Refusals.{accepted}
 use Rattle.as5506.specs.Rows.{Row}
 use Rattle.as5506.specs.GroupList.{group_connections, overrun, Match, matches, rows_matched, diags_matched}
 use Rattle.as5506.specs.Listing.{GroupList, Room, row_names, group_within, group_list_of, group_of, group_on, group_answer}
-use Rattle.as5506.specs.Layout.{row_numbers, diag_numbers, room_in, group_block, diag_block, group_row_numbers, group_diag_numbers, composed_names, output}
+use Rattle.as5506.specs.Layout.{row_numbers, diag_numbers, room_in, links_in, links_of, group_block, diag_block, group_row_numbers, group_diag_numbers, composed_names, output}
 use Rattle.as5506.proofs.Laws.{All, each-length, zeros-length}
-use Rattle.as5506.proofs.Answers.{is_given, hands-refused, came-given, came-refused, passed, none-told, some-told}
+use Rattle.as5506.proofs.Answers.{no-refusal, is_given, ok-not-err, hands-refused, came-given, came-refused, passed, none-told, some-told}
 use Rattle.lent.specs.Answered.{AnswerIn}
 use Rattle.lent.specs.Printed.{Printed}
 use Rattle.lent.proofs.Sets.{sets-whole, sets_behind}
 use Rattle.lent.proofs.Pieces.{printed-by, printed-some, printed-none}
 use Rattle.lent.proofs.Answered.{given-in, refused-in, keeps, clears}
 use Rattle.sink.specs.declared.Tally.{Tally}
-use Rattle.tables.specs.Answer.{Checked, checked}
-use Rattle.tables.proofs.Answers.{accepted-is, refused-is}
+use Rattle.child_links.specs.Linked.{LinkedInto}
+use Rattle.child_links.proofs.Answers.{accepted-is, refused-on, links-given, links-walked}
 use Rattle.group_match.specs.Matching.{match_pieces, note_pieces, MatchedInto}
 use Rattle.group_names.specs.Pairs.{Pair}
 use Rattle.group_names.specs.Pieces.{pairs_back}
 use Rattle.group_names.specs.Compose.{Composed}
 use Rattle.group_names.proofs.Blocks.{pair_block, Short, pairs-back}
 use Rattle.group_names.proofs.Named.{names-printed, all-rows}
-use Rattle.group_list.specs.Answer.{listed, answer_for, answer_of, NamesStay, Lists, GroupListedInto}
+use Rattle.group_list.specs.Answer.{listed, answer_for, answer_of, NamesStay, Lists, ListsLinked, GroupListedInto}
 use Rattle.group_list.proofs.Short.{pairs-short}
 use Rattle.group_list.proofs.Matches.{told_over, told-done, pairs_of, pair-blocks, pairs-length, rows-of-pairs, rows-number, rows-length, note-blocks, notes-length}
 
@@ -256,72 +256,88 @@ module _ (m : Tables) (rows names diags : List ℕ) where
                   stay = tt;
                 }
 
--- ---- the tables
+-- ---- ANY TABLES: q is what checking and linking answers, and links₁ the link table that it leaves
 
-accepted-answer : (room : Room) (names : ℕ) (m : Tables) → T (accepted m) → group_answer room names m ≡ group_of room names m (group_connections m)
-unfolding group_answer group_on accepted
-accepted-answer room names m ok = go (faults m) ok
-  where
-    go : (fs : List Refusal) → T (is_nil fs) → group_on room names m fs ≡ group_of room names m (group_connections m)
-    go [] t = refl
-    go (r ∷ fs) t = absurd t
+module _ (m : Tables) (links rows names diags : List ℕ) (q : Result (Unit {0}) Told) (links₁ : List ℕ) (k : LinkedInto m links q links₁) where
+  abbrev all_of_it : Answer GroupList
+  all_of_it = answer_for m links rows names diags
 
-refused-answer : (room : Room) (names : ℕ) (m : Tables) (x : Refusal) (fs : List Refusal) → faults m ≡ x ∷ fs → group_answer room names m ≡ refused x
-unfolding group_answer group_on
-refused-answer room names m x fs e = ap (group_on room names m) e
+  abbrev LeavesLinked : Result Listed Told → List ℕ → List ℕ → List ℕ → List ℕ → Type 0
+  LeavesLinked z links' rows' names' diags' = ListsLinked all_of_it m links rows names diags z links' rows' names' diags'
 
--- ---- THE CALL: rows, names and diags are the outputs at entry, rows₁, names₁ and diags₁ the cleared ones, q is what the checks answer
-
-module _ (m : Tables) (rows names diags rows₁ names₁ diags₁ : List ℕ) (e : rows₁ ≡ zeros (length rows)) (f : names₁ ≡ zeros (length names)) (g : diags₁ ≡ zeros (length diags))
-    (q : Checked) (h : q ≡ checked (faults m)) where
-  abbrev whole : Answer GroupList
-  whole = answer_for m rows names diags
-
-  -- a refusal, with zeros in the outputs
-  refused-into : (z : Result Listed Told) → z ≡ handed listed whole → T (not (is_given whole)) → (rows' names' diags' : List ℕ) → rows' ≡ zeros (length rows)
-      → names' ≡ zeros (length names) → diags' ≡ zeros (length diags) → GroupListedInto m rows names diags z rows' names' diags'
-  refused-into z e t rows' names' diags' u v w =
+  -- the tables or the link table are refused
+  pub links-refused : (r : Told) → q ≡ Err r → (z : Result Listed Told) → IsErrAnd z (λ y. y ≡ r) → (rows' names' diags' : List ℕ) → LeavesLinked z links₁ rows' names' diags'
+  unfolding group_answer group_on
+  links-refused r i z j rows' names' diags' =
+      let x = refused-on m links q links₁ k (group_on (room_in (length rows) (length diags)) (length names) m) (λ x fs. refl) r i in
       record {
-        answer = e;
-        written-rows = u ∙ clears group_row_numbers whole (length rows) t;
-        written-names = v ∙ clears composed_names whole (length names) t;
-        written-diagnostics = w ∙ clears group_diag_numbers whole (length diags) t;
+        answer = hands-refused listed z all_of_it x.0 x.1 r (passed z r j) x.2;
+        linked = λ l f. absurd (ok-not-err l r (sym f ∙ passed z r j));
+        in_rows = refused-in group_row_numbers all_of_it rows rows' x.0 x.1;
+        in_names = refused-in composed_names all_of_it names names' x.0 x.1;
+        in_diagnostics = refused-in group_diag_numbers all_of_it diags diags' x.0 x.1;
       }
 
-  -- the tables are not accepted
-  pub tables-refused : (r : Told) → q ≡ Err r → (z : Result Listed Told) → IsErrAnd z (λ y. y ≡ r) → GroupListedInto m rows names diags z rows₁ names₁ diags₁
-  tables-refused r i z j =
-      let fs = refused-is m q h r i in
-      let a : whole ≡ refused fs.0 = refused-answer (room_in (length rows) (length diags)) (length names) m fs.0 fs.1 fs.2 in
-      refused-into z (hands-refused listed z whole fs.0 a r (passed z r j) fs.3) (subst (λ (b : Answer GroupList). T (not (is_given b))) (sym a) tt) rows₁ names₁ diags₁ e f g
+  -- they are not
+  pub links-filled : q ≡ Ok tt → (z : Result Listed Told) (rows' names' diags' : List ℕ) → Lists (answer_of m rows names diags) rows names diags z rows' names' diags'
+      → LeavesLinked z links₁ rows' names' diags'
+  unfolding group_answer group_on
+  links-filled i z rows' names' diags' w =
+      let a : answer_of m rows names diags ≡ all_of_it = sym (ap (group_on (room_in (length rows) (length diags)) (length names) m) (accepted-is m links q links₁ k i)) in
+      record {
+        answer = w.answer ∙ ap (handed listed) a;
+        linked = λ l f. k.linked i;
+        in_rows = subst (λ (b : Answer GroupList). AnswerIn group_row_numbers b rows rows') a w.in_rows;
+        in_names = subst (λ (b : Answer GroupList). AnswerIn composed_names b names names') a w.in_names;
+        in_diagnostics = subst (λ (b : Answer GroupList). AnswerIn group_diag_numbers b diags diags') a w.in_diagnostics;
+      }
 
-  -- they are: rows₂, names₂ and diags₂ are what was written into the cleared outputs
-  module _ (i : q ≡ Ok tt) (z : Result Listed Told) (rows₂ names₂ diags₂ : List ℕ) (w : Lists (answer_of m rows₁ names₁ diags₁) rows₁ names₁ diags₁ z rows₂ names₂ diags₂) where
-    same_answer : answer_of m rows₁ names₁ diags₁ ≡ whole
-    same_answer =
-        ap₂ (λ (n l : ℕ). group_of (room_in n l) (length names₁) m (group_connections m)) (zeros-length rows₁ (length rows) e) (zeros-length diags₁ (length diags) g)
-        ∙ ap (λ (s : ℕ). group_of (room_in (length rows) (length diags)) s m (group_connections m)) (zeros-length names₁ (length names) f)
-        ∙ sym (accepted-answer (room_in (length rows) (length diags)) (length names) m (accepted-is m q h i))
+-- ---- THE CALL: links, rows, names and diags are the outputs at entry, rows₁, names₁ and diags₁ the cleared ones, links₂, rows₂, names₂ and diags₂ what the
+-- listing left in them
 
-    told-whole : z ≡ handed listed whole
-    told-whole = w.answer ∙ ap (handed listed) same_answer
+module _ (m : Tables) (links rows names diags rows₁ names₁ diags₁ : List ℕ) (e : rows₁ ≡ zeros (length rows)) (f : names₁ ≡ zeros (length names)) (g : diags₁ ≡ zeros (length diags))
+    (z : Result Listed Told) (links₂ rows₂ names₂ diags₂ : List ℕ) (w : ListsLinked (answer_for m links rows₁ names₁ diags₁) m links rows₁ names₁ diags₁ z links₂ rows₂ names₂ diags₂)
+    (s : length links₂ ≡ length links) where
+  abbrev whole : Answer GroupList
+  whole = answer_for m links rows names diags
 
-    -- an output that was cleared and holds the answer
-    written : (numbers : GroupList → List ℕ) (out out' : List ℕ) (n : ℕ) → T (is_given whole) → out ≡ zeros n → AnswerIn numbers (answer_of m rows₁ names₁ diags₁) out out' → out' ≡ output n numbers whole
-    written numbers out out' n t zero w = keeps numbers whole out out' n t zero (subst (λ (a : Answer GroupList). AnswerIn numbers a out out') same_answer w)
+  same_answer : answer_for m links rows₁ names₁ diags₁ ≡ whole
+  same_answer =
+      ap₂ (λ (n l : ℕ). group_answer (links_in (length links)) (room_in n l) (length names₁) m) (zeros-length rows₁ (length rows) e) (zeros-length diags₁ (length diags) g)
+      ∙ ap (λ (s : ℕ). group_answer (links_in (length links)) (room_in (length rows) (length diags)) s m) (zeros-length names₁ (length names) f)
 
-    pub given-call : is_err z ≡ false → GroupListedInto m rows names diags z rows₂ names₂ diags₂
-    given-call j =
-        let t : T (is_given whole) = came-given listed whole (ap is_err (sym told-whole) ∙ j) in
-        record {
-          answer = told-whole;
-          written-rows = written group_row_numbers rows₁ rows₂ (length rows) t e w.in_rows;
-          written-names = written composed_names names₁ names₂ (length names) t f w.in_names;
-          written-diagnostics = written group_diag_numbers diags₁ diags₂ (length diags) t g w.in_diagnostics;
-        }
+  told-whole : z ≡ handed listed whole
+  told-whole = w.answer ∙ ap (handed listed) same_answer
 
-    pub refused-call : is_err z ≡ true → length rows₂ ≡ length rows₁ → length names₂ ≡ length names₁ → length diags₂ ≡ length diags₁
-        → (rows₃ names₃ diags₃ : List ℕ) → rows₃ ≡ zeros (length rows₂) → names₃ ≡ zeros (length names₂) → diags₃ ≡ zeros (length diags₂) → GroupListedInto m rows names diags z rows₃ names₃ diags₃
-    refused-call j k l n rows₃ names₃ diags₃ u v w =
-        refused-into z told-whole (came-refused listed whole (ap is_err (sym told-whole) ∙ j)) rows₃ names₃ diags₃
-        (u ∙ ap zeros (k ∙ zeros-length rows₁ (length rows) e)) (v ∙ ap zeros (l ∙ zeros-length names₁ (length names) f)) (w ∙ ap zeros (n ∙ zeros-length diags₁ (length diags) g))
+  -- an output that was cleared and holds the answer
+  written : (numbers : GroupList → List ℕ) (out out' : List ℕ) (n : ℕ) → T (is_given whole) → out ≡ zeros n
+      → AnswerIn numbers (answer_for m links rows₁ names₁ diags₁) out out' → out' ≡ output n numbers whole
+  written numbers out out' n t zero w = keeps numbers whole out out' n t zero (subst (λ (a : Answer GroupList). AnswerIn numbers a out out') same_answer w)
+
+  pub given-call : is_err z ≡ false → GroupListedInto m links rows names diags z links₂ rows₂ names₂ diags₂
+  given-call j =
+      let t : T (is_given whole) = came-given listed whole (ap is_err (sym told-whole) ∙ j) in
+      let o = no-refusal z j in
+      record {
+        answer = told-whole;
+        written-links = links-given m links₂ (w.linked o.0 o.1) whole (length links) t s;
+        written-rows = written group_row_numbers rows₁ rows₂ (length rows) t e w.in_rows;
+        written-names = written composed_names names₁ names₂ (length names) t f w.in_names;
+        written-diagnostics = written group_diag_numbers diags₁ diags₂ (length diags) t g w.in_diagnostics;
+        children-by-links = λ l h. links-walked m links₂ (w.linked l h);
+      }
+
+  -- a refusal, with zeros in the outputs
+  pub refused-call : is_err z ≡ true → length rows₂ ≡ length rows₁ → length names₂ ≡ length names₁ → length diags₂ ≡ length diags₁ → (links₃ rows₃ names₃ diags₃ : List ℕ)
+      → links₃ ≡ zeros (length links₂) → rows₃ ≡ zeros (length rows₂) → names₃ ≡ zeros (length names₂) → diags₃ ≡ zeros (length diags₂)
+      → GroupListedInto m links rows names diags z links₃ rows₃ names₃ diags₃
+  refused-call j k l n links₃ rows₃ names₃ diags₃ x u v y =
+      let t : T (not (is_given whole)) = came-refused listed whole (ap is_err (sym told-whole) ∙ j) in
+      record {
+        answer = told-whole;
+        written-links = x ∙ ap zeros s ∙ clears (links_of m) whole (length links) t;
+        written-rows = u ∙ ap zeros (k ∙ zeros-length rows₁ (length rows) e) ∙ clears group_row_numbers whole (length rows) t;
+        written-names = v ∙ ap zeros (l ∙ zeros-length names₁ (length names) f) ∙ clears composed_names whole (length names) t;
+        written-diagnostics = y ∙ ap zeros (n ∙ zeros-length diags₁ (length diags) g) ∙ clears group_diag_numbers whole (length diags) t;
+        children-by-links = λ l h. absurd (subst T (sym j ∙ ap is_err h) tt);
+      }

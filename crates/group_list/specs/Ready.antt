@@ -1,14 +1,12 @@
 -- What matching asks for: of the tables, and of the room that is lent to it. Assumes nothing.
-use Rattle.std.specs.Prelude.{◌≡◌, ℕ, suc, ◌*◌, ◌≤◌, T}
+use Rattle.std.specs.Prelude.{◌≡◌, ℕ, suc, ◌*◌, ◌≤◌}
 use Rattle.as5506.specs.Tables.{Tables, letter_n, letter_u, letter_e, count}
-use Rattle.as5506.specs.Refusals.{accepted}
 use Rattle.as5506.specs.Groups.{depth_limit}
 use Rattle.as5506.specs.Layout.{feature_numbers}
 
--- accepted tables, `places` for their names, `links` for rows of E and of U, features of so many names in `kept`, and in `calm` a number for each link
+-- `places` for the names of tables m, `links` for their rows of E and of U, features of so many names in `kept`, and in `calm` a number for each link
 -- and level
 pub record MatchRoom (m : Tables) (places links kept calm : ℕ) : Type 0 where
-  pub ok : T (accepted m)
   pub names : count m letter_n ≤ places
   pub declared : count m letter_e ≤ links
   pub types : count m letter_u ≤ links

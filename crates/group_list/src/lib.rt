@@ -1,18 +1,20 @@
 // The group listing (instance.rs, `expand_feature_group_connections`) over the caller's tables and outputs.
 #![tactic(auto)]
 
-ghost use Rattle.std.specs.Prelude.{◌≡◌, T, length};
-ghost use Rattle.as5506.specs.Lists.{zeros};
-ghost use Rattle.as5506.specs.Refusals.{accepted};
+ghost use Rattle.std.specs.Prelude.{◌≤◌, length};
+ghost use Rattle.as5506.specs.Tables.{c_count};
 ghost use Rattle.lent.specs.Model.{model};
+ghost use Rattle.child_links.specs.Linked.{Linked};
+ghost use Rattle.child_links.specs.Trees.{of_tree};
 ghost use Rattle.group_match.specs.Matching.{MatchedInto};
-ghost use Rattle.group_list.specs.Answer.{answer_of, Lists, GroupListedInto};
+ghost use Rattle.group_list.specs.Answer.{answer_for, answer_of, Lists, ListsLinked, GroupListedInto};
 ghost use Rattle.group_list.specs.Ready.{MatchRoom};
 
 use as5506::{
-    DIAGNOSTIC_NUMBERS, E_NUMBERS, FEATURE_NUMBERS, Listed, N_NUMBERS, ROW_NUMBERS, Reason,
-    Refusal, TABLE_ROWS, U_NUMBERS,
+    C_NUMBERS, DIAGNOSTIC_NUMBERS, E_NUMBERS, FEATURE_NUMBERS, Listed, N_NUMBERS, ROW_NUMBERS,
+    Reason, Refusal, TABLE_ROWS, U_NUMBERS,
 };
+use child_links::Tree;
 use group_match::CALM_NUMBERS;
 use lent::Tables;
 use links::Links;
@@ -36,13 +38,14 @@ const LARGE_CALM: usize = TABLE_ROWS * CALM_NUMBERS;
 // what is known of visits. The last two are cleared for each walk, so no more of them is handed on than the tables have use for. KEPT and CALM are
 // NAMES and ROWS times what each takes: a const argument is not computed.
 fn match_in<const NAMES: usize, const ROWS: usize, const KEPT: usize, const CALM: usize>(
-    m: &Tables,
+    tree: &Tree,
     rows: &mut [u32],
     notes: &mut [u32],
 ) -> Option<Tally>
-    requires { MatchRoom (model m.now) NAMES ROWS KEPT CALM }
-    ensures { MatchedInto (model m.now) rows.old notes.old result rows.new notes.new }
+    requires { MatchRoom (of_tree tree.now) NAMES ROWS KEPT CALM }
+    ensures { MatchedInto (of_tree tree.now) rows.old notes.old result rows.new notes.new }
 {
+    let m = tree.m;
     let mut nested = [0; ROWS];
     let mut extends = [0; ROWS];
     let mut inverse = [0; ROWS];
@@ -58,7 +61,7 @@ fn match_in<const NAMES: usize, const ROWS: usize, const KEPT: usize, const CALM
     let names = m.n.len() / N_NUMBERS;
     let places = m.u.len() / U_NUMBERS * CALM_NUMBERS;
     group_match::match_connections(
-        m,
+        tree,
         links,
         &mut kept,
         &mut memo[..names],
@@ -69,35 +72,36 @@ fn match_in<const NAMES: usize, const ROWS: usize, const KEPT: usize, const CALM
 }
 
 // Matches them in the small room where it is enough, else in the large one: a room is set to zeros before it is used, so a small one costs less.
-fn match_all(m: &Tables, rows: &mut [u32], notes: &mut [u32]) -> Option<Tally>
-    requires { T (accepted (model m.now)) }
-    ensures { MatchedInto (model m.now) rows.old notes.old result rows.new notes.new }
+fn match_all(tree: &Tree, rows: &mut [u32], notes: &mut [u32]) -> Option<Tally>
+    ensures { MatchedInto (of_tree tree.now) rows.old notes.old result rows.new notes.new }
 {
+    let m = tree.m;
     if m.n.len() / N_NUMBERS <= SMALL_NAMES
         && m.u.len() / U_NUMBERS <= SMALL_ROWS
         && m.e.len() / E_NUMBERS <= SMALL_ROWS
     {
-        return match_in::<SMALL_NAMES, SMALL_ROWS, SMALL_KEPT, SMALL_CALM>(m, rows, notes);
+        return match_in::<SMALL_NAMES, SMALL_ROWS, SMALL_KEPT, SMALL_CALM>(tree, rows, notes);
     }
-    match_in::<TABLE_ROWS, TABLE_ROWS, LARGE_KEPT, LARGE_CALM>(m, rows, notes)
+    match_in::<TABLE_ROWS, TABLE_ROWS, LARGE_KEPT, LARGE_CALM>(tree, rows, notes)
 }
 
 // Lists the group connections of accepted tables: first the matches, in the places of their rows; where there is room for all, their names. On a
 // refusal the outputs may hold anything, but that of names is as it was where the refusal is 13 or 11.
 pub fn list_accepted(
-    m: &Tables,
+    tree: &Tree,
     rows: &mut [u32],
     names: &mut [u8],
     diagnostics: &mut [u32],
 ) -> Result<Listed, Refusal>
-    requires { T (accepted (model m.now)) }
     ensures { Lists
-        (answer_of (model m.now) rows.old names.old diagnostics.old)
+        (answer_of (of_tree tree.now) rows.old names.old diagnostics.old)
         rows.old names.old diagnostics.old result rows.new names.new diagnostics.new }
 {
-    let tally = match_all(m, rows, diagnostics).ok_or(Refusal::from(Reason::Visits))?;
+    let tally = match_all(tree, rows, diagnostics).ok_or(Refusal::from(Reason::Visits))?;
     let used = tally.used.ok_or(Refusal::from(Reason::Rows))?;
-    group_names::compose_names(m, &mut rows[..used], names).ok_or(Refusal::from(Reason::Names))?;
+    group_names::compose_names(tree.m, &mut rows[..used], names).ok_or(Refusal::from(
+        Reason::Names,
+    ))?;
     let noted = tally.noted.ok_or(Refusal::from(Reason::Diagnostics))?;
     Ok(Listed {
         rows: used / ROW_NUMBERS,
@@ -105,32 +109,71 @@ pub fn list_accepted(
     })
 }
 
-// The rows of all group connections of the tables, their composed names and their diagnostics. The outputs hold them from the front, and zeros
-// behind; on a refusal, zeros.
-pub fn expand_feature_group_connections(
+// The same of tables and their link table, with room for the keys of their components.
+fn list_linked(
     m: &Tables,
+    links: &[u32],
+    keys: &mut [u32],
     rows: &mut [u32],
     names: &mut [u8],
     diagnostics: &mut [u32],
 ) -> Result<Listed, Refusal>
-    ensures { GroupListedInto (model m.now) rows.old names.old diagnostics.old result rows.new names.new diagnostics.new }
+    requires linked { Linked (model m.now) links.now }
+    requires room { c_count (model m.now) ≤ length keys.old }
+    ensures { Lists
+        (answer_of (model m.now) rows.old names.old diagnostics.old)
+        rows.old names.old diagnostics.old result rows.new names.new diagnostics.new }
 {
-    clear(rows, names, diagnostics);
-    tables::check_tables(m)?;
-    let answer = list_accepted(m, rows, names, diagnostics);
-    if answer.is_err() {
-        clear(rows, names, diagnostics);
-    }
-    answer
+    child_links::key_names(m, keys);
+    let tree = Tree {
+        m: &*m,
+        links: &*links,
+        keys: &*keys,
+    };
+    list_accepted(&tree, rows, names, diagnostics)
 }
 
-// Makes every output zeros.
-fn clear(rows: &mut [u32], names: &mut [u8], diagnostics: &mut [u32])
-    ensures rows_after { rows.new ≡ zeros (length rows.old) }
-    ensures names_after { names.new ≡ zeros (length names.old) }
-    ensures diagnostics_after { diagnostics.new ≡ zeros (length diagnostics.old) }
+// Checks the tables and links their components, then lists their group connections, with a small room for keys where it is enough. On a refusal the
+// outputs may hold anything.
+fn list(
+    m: &Tables,
+    links: &mut [u32],
+    rows: &mut [u32],
+    names: &mut [u8],
+    diagnostics: &mut [u32],
+) -> Result<Listed, Refusal>
+    ensures { ListsLinked
+        (answer_for (model m.now) links.old rows.old names.old diagnostics.old) (model m.now)
+        links.old rows.old names.old diagnostics.old result links.new rows.new names.new diagnostics.new }
+{
+    child_links::check_and_link(m, links)?;
+    if m.c.len() / C_NUMBERS <= SMALL_ROWS {
+        return list_linked(m, links, &mut [0; SMALL_ROWS], rows, names, diagnostics);
+    }
+    list_linked(m, links, &mut [0; TABLE_ROWS], rows, names, diagnostics)
+}
+
+// The rows of all group connections of the tables, their composed names and their diagnostics, and the links of their components. The outputs hold them
+// from the front, and zeros behind; on a refusal, zeros.
+pub fn expand_feature_group_connections(
+    m: &Tables,
+    links: &mut [u32],
+    rows: &mut [u32],
+    names: &mut [u8],
+    diagnostics: &mut [u32],
+) -> Result<Listed, Refusal>
+    ensures { GroupListedInto
+        (model m.now) links.old rows.old names.old diagnostics.old result links.new rows.new names.new diagnostics.new }
 {
     rows.fill(0);
     names.fill(0);
     diagnostics.fill(0);
+    let answer = list(m, links, rows, names, diagnostics);
+    if answer.is_err() {
+        links.fill(0);
+        rows.fill(0);
+        names.fill(0);
+        diagnostics.fill(0);
+    }
+    answer
 }

@@ -5,10 +5,12 @@ use mathlib.Core.List.{List, [], ◌∷◌, ◌++◌, append_assoc}
 use Prim.Native.Nat.{ℕ, ◌+◌, ◌-◌, ◌<◌, ◌≤◌}
 use native.Mathlib.Nat.{sub-zero}
 use native.Mathlib.Omega.{arith}
+use lib.Dec.{T}
 use lib.ListN.{length}
 use Rattle.std.specs.Prelude.{Option, Some, None}
 use Rattle.as5506.specs.Lists.{span, keep, put_if, when, each}
 use Rattle.as5506.specs.Tables.{Tables, x_count}
+use Rattle.as5506.specs.Refusals.{accepted}
 use Rattle.as5506.specs.GroupList.{is_group_connection, GroupConnection, group_connections}
 use Rattle.as5506.proofs.Scans.{span-next, keep-done}
 use Rattle.tables.proofs.Facts.{facts}
@@ -106,6 +108,6 @@ unfolding lists_of
 into_end s rows notes l e a b = rw (a, b) e
 
 -- a connection asks for what all ask for: the slices have the lengths that they had
-pub room_ready : (m : Tables) (links : Links) (memo₀ kept₀ memo kept : List ℕ) → MatchReady m links memo₀ kept₀ → length memo ≡ length memo₀ → length kept ≡ length kept₀ → RoomReady m memo kept
-room_ready m links memo₀ kept₀ memo kept r a b =
-    record { names = λ i h. omega (arith, (facts m r.ok).e-name i h, r.names, a); few = omega (arith, r.few, a); room = omega (arith, r.room, a, b) }
+pub room_ready : (m : Tables) → T (accepted m) → (links : Links) (memo₀ kept₀ memo kept : List ℕ) → MatchReady m links memo₀ kept₀ → length memo ≡ length memo₀ → length kept ≡ length kept₀ → RoomReady m memo kept
+room_ready m ok links memo₀ kept₀ memo kept r a b =
+    record { names = λ i h. omega (arith, (facts m ok).e-name i h, r.names, a); few = omega (arith, r.few, a); room = omega (arith, r.room, a, b) }

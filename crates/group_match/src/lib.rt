@@ -3,12 +3,12 @@
 // the destination: the first feature of an equal name is among them.
 #![tactic(auto)]
 
-ghost use Rattle.std.specs.Prelude.{false, ◌≡◌, [], suc, ◌≤◌, ◌<◌, T, length};
+ghost use Rattle.std.specs.Prelude.{false, ◌≡◌, [], suc, ◌≤◌, ◌<◌, length};
 ghost use Rattle.as5506.specs.Tables.{count, letter_u, x_count};
 ghost use Rattle.as5506.specs.Groups.{depth_limit};
-ghost use Rattle.as5506.specs.Refusals.{accepted};
 ghost use Rattle.as5506.specs.GroupList.{endpoint as the_endpoint};
 ghost use Rattle.lent.specs.Model.{model};
+ghost use Rattle.child_links.specs.Trees.{of_tree};
 ghost use Rattle.links.specs.declared.Links.{Links};
 ghost use Rattle.links.specs.Links.{LinkedBy};
 ghost use Rattle.links.specs.Walk.{groups_of, visit_link};
@@ -21,6 +21,7 @@ ghost use Rattle.group_match.specs.Firsts.{KeepsFirsts};
 ghost use Rattle.group_match.specs.Ready.{RoomReady, MatchReady};
 
 use as5506::{MISSING, X_NUMBERS};
+use child_links::Tree;
 use columns::{Reference, Side, connection};
 use group_walk::{LEVELS, Position, Walk};
 use lent::Tables;
@@ -157,15 +158,17 @@ fn group_link(m: &Tables, component: u32, feature: u32) -> Option<u32>
 
 // X row `row`, if it is a group connection whose two components are found.
 #[tactic(auto, using(crate::proofs::Connections::row_steps))]
-fn group_connection(m: &Tables, row: usize) -> Option<GroupConnection>
-    requires { T (accepted (model m.now)) × (row < x_count (model m.now)) }
-    ensures { (l : Links) → LinkedBy (model m.now) l → connection_list (groups_of (model m.now) l) result ≡ connections_at (model m.now) row }
+fn group_connection(tree: &Tree, row: usize) -> Option<GroupConnection>
+    requires { row < x_count (of_tree tree.now) }
+    ensures { (l : Links) → LinkedBy (of_tree tree.now) l
+        → connection_list (groups_of (of_tree tree.now) l) result ≡ connections_at (of_tree tree.now) row }
 {
+    let m = tree.m;
     if !endpoint::is_group_connection(m, row) {
         return None;
     }
-    let source = endpoint::end_component(m, Side::Source, row)? as u32;
-    let destination = endpoint::end_component(m, Side::Destination, row)? as u32;
+    let source = endpoint::end_component(tree, Side::Source, row)? as u32;
+    let destination = endpoint::end_component(tree, Side::Destination, row)? as u32;
     let from = group_link(m, source, connection::feature_of(m, Side::Source, row));
     let to = group_link(
         m,
@@ -184,7 +187,7 @@ fn group_connection(m: &Tables, row: usize) -> Option<GroupConnection>
 // Matches the groups of all connections: how far the outputs of matches and diagnostics are used then, or `None` where an end has too many visits. The
 // links are those of the tables; `kept`, `memo` and `calm` are room to work in, and the last two are cleared for each walk.
 pub fn match_connections(
-    m: &Tables,
+    tree: &Tree,
     links: Links,
     kept: &mut [u32],
     memo: &mut [u32],
@@ -192,8 +195,8 @@ pub fn match_connections(
     rows: &mut [u32],
     notes: &mut [u32],
 ) -> Option<Tally>
-    requires { MatchReady (model m.now) links memo.old kept.old }
-    ensures { MatchedInto (model m.now) rows.old notes.old result rows.new notes.new }
+    requires { MatchReady (of_tree tree.now) links memo.old kept.old }
+    ensures { MatchedInto (of_tree tree.now) rows.old notes.old result rows.new notes.new }
 {
     let mut sink = Sink {
         memo,
@@ -201,11 +204,11 @@ pub fn match_connections(
         notes,
         tally: Tally::new(),
     };
-    for row in 0..m.x.len() / X_NUMBERS {
-        let Some(pair) = group_connection(m, row) else {
+    for row in 0..tree.m.x.len() / X_NUMBERS {
+        let Some(pair) = group_connection(tree, row) else {
             continue;
         };
-        match_groups(&*m, &links, pair, kept, &mut sink, calm)?;
+        match_groups(tree.m, &links, pair, kept, &mut sink, calm)?;
     }
     Some(sink.tally)
 }

@@ -2,7 +2,7 @@
 use mathlib.Core.Bool.{false}
 use mathlib.Core.Logic.{◌↔◌}
 use mathlib.Core.Path.{◌≡◌, refl, sym, ap, ap₂, ◌∙◌, subst}
-use mathlib.Core.List.{List, [], ◌∷◌}
+use mathlib.Core.List.{List}
 use Prim.Native.Nat.{ℕ, ◌/◌, ◌≤◌, ◌<◌}
 use native.Mathlib.Nat.{zero-add, zero-mul, mul-le-mul_right, le_trans, div-mul-le_self}
 use lib.Dec.{T}
@@ -11,29 +11,26 @@ use lib.Seq.{sets}
 use borrow.Author.Tests.{lt-ltb, le-ltb}
 use Rattle.std.specs.Prelude.{Option, Some, Result, Ok, Err, is_err, IsErrAnd}
 use Rattle.std.specs.Option.{ok_or}
-use Rattle.as5506.specs.Lists.{is_nil, each, zeros}
+use Rattle.as5506.specs.Lists.{each, zeros}
 use Rattle.as5506.specs.declared.Refusal.{Refusal as Told}
 use Rattle.as5506.specs.declared.Listed.{Listed}
-use Rattle.as5506.specs.Tables.{Tables, letter_c, letter_x}
+use Rattle.as5506.specs.Tables.{Tables}
 use Rattle.as5506.specs.Answers.{Refusal, Answer, given, refused, refusal, nowhere, told, handed}
-use Rattle.as5506.specs.Refusals.{faults, accepted}
 use Rattle.as5506.specs.Tracing.{traced, traced_diags, unlimited, step_limit}
 use Rattle.as5506.specs.Followed.{NoneHasNext}
 use Rattle.as5506.specs.Listing.{TracedList, Room, traced_list, traced_within, traced_on, traced_answer}
-use Rattle.as5506.specs.Layout.{row_numbers, diag_numbers, room_in, traced_block, diag_block, traced_row_numbers, traced_diag_numbers, output, rows_back}
+use Rattle.as5506.specs.Layout.{links_in, row_numbers, diag_numbers, room_in, traced_block, diag_block, traced_row_numbers, traced_diag_numbers, output, rows_back}
 use Rattle.as5506.proofs.Laws.{zeros-length}
-use Rattle.as5506.proofs.Answers.{handed-ok, hands-refused, came-given, passed, none-told, some-told}
+use Rattle.as5506.proofs.Answers.{is_given, handed-ok, hands-refused, ok-not-err, came-given, no-refusal, passed, none-told, some-told}
 use Rattle.as5506.proofs.Output.{demand-three-output}
 use Rattle.lent.specs.Answered.{AnswerIn}
 use Rattle.lent.proofs.Answered.{given-in, refused-in, keeps}
-use Rattle.tables.specs.Answer.{Checked, checked}
-use Rattle.tables.proofs.Answers.{accepted-is, refused-is}
-use Rattle.tables.proofs.Facts.{facts}
+use Rattle.child_links.specs.Linked.{LinkedInto}
+use Rattle.child_links.proofs.Answers.{accepted-is, refused-on, links-given, links-walked}
 use Rattle.output.specs.Blocks.{Written}
 use Rattle.output.proofs.Writing.{overs, counts, whole-all, holds-all}
-use Rattle.trace.specs.Ready.{Traceable}
 use Rattle.instance.specs.Answer.{listed, answer_for, TracedInto}
-use Rattle.instance.specs.Outputs.{Lists}
+use Rattle.instance.specs.Outputs.{answer_of, Lists, ListsLinked}
 
 -- ---- THE ORDER 11, 12
 
@@ -71,19 +68,14 @@ module _ {A : Type 0} (w : ℕ) (block : A → List ℕ) (l : List A) (out : Lis
         holds-all u ∙ ap (λ (n : ℕ). sets out n (each block l)) (zero-mul w),
       )
 
--- ---- accepted tables can be traced
+-- ---- accepted tables: rows and diags are the outputs at entry, p is what is told of the rows, and rows₁ what is left of them
 
-pub can-trace : (m : Tables) (q : Checked) → q ≡ checked (faults m) → q ≡ Ok tt → Traceable m
-can-trace m q e f = let few = (facts m (accepted-is m q e f)).few in record { components = few letter_c; connections = few letter_x }
-
--- ---- the call before it clears: rows and diags are the outputs at entry, q is what the checks answer
-
-module _ (m : Tables) (rows diags : List ℕ) (q : Checked) (e : q ≡ checked (faults m)) where
+module _ (m : Tables) (rows diags : List ℕ) where
   abbrev room : Room
   room = room_in (length rows) (length diags)
 
   abbrev the_answer : Answer TracedList
-  the_answer = answer_for m rows diags
+  the_answer = answer_of m rows diags
 
   abbrev Leaves : Result Listed Told → List ℕ → List ℕ → Type 0
   Leaves z rows' diags' = Lists the_answer m rows diags z rows' diags'
@@ -96,74 +88,90 @@ module _ (m : Tables) (rows diags : List ℕ) (q : Checked) (e : q ≡ checked (
         in_diagnostics = refused-in traced_diag_numbers the_answer diags diags' x f;
       }
 
-  -- the tables are not accepted
-  pub tables-refused : (r : Told) → q ≡ Err r → (z : Result Listed Told) → IsErrAnd z (λ y. y ≡ r) → (rows' diags' : List ℕ) → Leaves z rows' diags'
-  unfolding traced_answer traced_on
-  tables-refused r f = let s = refused-is m q e r f in refuses s.0 (ap (traced_on room m) s.2) r s.3
+  module _ (p : Option ℕ) (rows₁ : List ℕ) (v : Written row_numbers (traced_block m) (traced step_limit m) rows 0 p rows₁)
+      (t : Told) (g : t ≡ told (refusal 11 nowhere)) (y : Result ℕ Told) (h : y ≡ ok_or p t) where
+    rows_written : Written row_numbers (traced_block m) (traced_list m).rows rows 0 p rows₁
+    unfolding traced_list
+    rows_written = v
 
-  -- they are accepted: p is what tracing gives, and rows₁ what it leaves
-  module _ (f : q ≡ Ok tt) where
-    module _ (p : Option ℕ) (rows₁ : List ℕ) (v : Written row_numbers (traced_block m) (traced step_limit m) rows 0 p rows₁)
-        (t : Told) (g : t ≡ told (refusal 11 nowhere)) (y : Result ℕ Told) (h : y ≡ ok_or p t) where
-      answer-is : the_answer ≡ traced_within room (traced_list m)
-      unfolding traced_answer traced_on accepted
-      answer-is = go (faults m) (accepted-is m q e f)
-        where
-          go : (fs : List Refusal) → T (is_nil fs) → traced_on room m fs ≡ traced_within room (traced_list m)
-          go [] u = refl
-          go (r ∷ fs) u = absurd u
+    -- 11: the rows do not fit
+    pub lists-11 : (r : Told) → y ≡ Err r → (z : Result Listed Told) → IsErrAnd z (λ y. y ≡ r) → (rows' diags' : List ℕ) → Leaves z rows' diags'
+    lists-11 r i =
+        let o = over row_numbers (traced_block m) (traced_list m).rows rows p rows₁ rows_written t y h r i in
+        refuses (refusal 11 nowhere) (within-11 room (traced_list m) o.1) r (o.0 ∙ g)
 
-      rows_written : Written row_numbers (traced_block m) (traced_list m).rows rows 0 p rows₁
+    -- the rows fit: p' is what is told of the diagnostics, and diags₁ what is left of them
+    module _ (k : ℕ) (i : y ≡ Ok k) (p' : Option ℕ) (diags₁ : List ℕ) (w : (n : ℕ) → p ≡ Some n → Written diag_numbers diag_block (traced_diags m) diags 0 p' diags₁)
+        (t' : Told) (g' : t' ≡ told (refusal 12 nowhere)) (y' : Result ℕ Told) (h' : y' ≡ ok_or p' t') where
+      rows_fit : (k ≡ length (traced_list m).rows) × (length (traced_list m).rows ≤ room.rows) × (length (traced_row_numbers m (traced_list m)) ≤ length rows) × (rows₁ ≡ sets rows 0 (traced_row_numbers m (traced_list m)))
+      unfolding traced_row_numbers
+      rows_fit = fit row_numbers (traced_block m) (traced_list m).rows rows p rows₁ rows_written t y h k i
+
+      diags-written : Written diag_numbers diag_block (traced_list m).diags diags 0 p' diags₁
       unfolding traced_list
-      rows_written = v
+      diags-written = w k (some-told p t k (sym h ∙ i))
 
-      -- 11: the rows do not fit
-      pub lists-11 : (r : Told) → y ≡ Err r → (z : Result Listed Told) → IsErrAnd z (λ y. y ≡ r) → (rows' diags' : List ℕ) → Leaves z rows' diags'
-      lists-11 r i =
-          let o = over row_numbers (traced_block m) (traced_list m).rows rows p rows₁ rows_written t y h r i in
-          refuses (refusal 11 nowhere) (answer-is ∙ within-11 room (traced_list m) o.1) r (o.0 ∙ g)
+      -- 12: the diagnostics do not fit
+      pub lists-12 : (r : Told) → y' ≡ Err r → (z : Result Listed Told) → IsErrAnd z (λ y. y ≡ r) → (rows' diags' : List ℕ) → Leaves z rows' diags'
+      lists-12 r j =
+          let o = over diag_numbers diag_block (traced_list m).diags diags p' diags₁ diags-written t' y' h' r j in
+          refuses (refusal 12 nowhere) (within-12 room (traced_list m) rows_fit.1 o.1) r (o.0 ∙ g')
 
-      -- the rows fit: p' is what diagnosing gives, and diags₁ what it leaves
-      module _ (k : ℕ) (i : y ≡ Ok k) (p' : Option ℕ) (diags₁ : List ℕ) (w : Written diag_numbers diag_block (traced_diags m) diags 0 p' diags₁)
-          (t' : Told) (g' : t' ≡ told (refusal 12 nowhere)) (y' : Result ℕ Told) (h' : y' ≡ ok_or p' t') where
-        rows_fit : (k ≡ length (traced_list m).rows) × (length (traced_list m).rows ≤ room.rows) × (length (traced_row_numbers m (traced_list m)) ≤ length rows) × (rows₁ ≡ sets rows 0 (traced_row_numbers m (traced_list m)))
-        unfolding traced_row_numbers
-        rows_fit = fit row_numbers (traced_block m) (traced_list m).rows rows p rows₁ rows_written t y h k i
+      -- both fit
+      pub lists-both : (d : ℕ) → y' ≡ Ok d → Leaves (Ok (record { rows = k; diagnostics = d })) rows₁ diags₁
+      unfolding traced_diag_numbers
+      lists-both d j =
+          let s = fit diag_numbers diag_block (traced_list m).diags diags p' diags₁ diags-written t' y' h' d j in
+          let a : the_answer ≡ given (traced_list m) = within-given room (traced_list m) rows_fit.1 s.1 in
+          record {
+            answer = ap₂ (λ (n l : ℕ). Ok (record { rows = n; diagnostics = l })) rows_fit.0 s.0 ∙ sym (ap (handed listed) a);
+            in_rows = given-in (traced_row_numbers m) the_answer rows rows₁ (traced_list m) a rows_fit.2 rows_fit.3;
+            in_diagnostics = given-in traced_diag_numbers the_answer diags diags₁ (traced_list m) a s.2 s.3;
+          }
 
-        diags-written : Written diag_numbers diag_block (traced_list m).diags diags 0 p' diags₁
-        unfolding traced_list
-        diags-written = w
+-- ---- any tables: q is what checking and linking answers, and links₁ the link table that it leaves
 
-        -- 12: the diagnostics do not fit
-        pub lists-12 : (r : Told) → y' ≡ Err r → (z : Result Listed Told) → IsErrAnd z (λ y. y ≡ r) → (rows' diags' : List ℕ) → Leaves z rows' diags'
-        lists-12 r j =
-            let o = over diag_numbers diag_block (traced_list m).diags diags p' diags₁ diags-written t' y' h' r j in
-            refuses (refusal 12 nowhere) (answer-is ∙ within-12 room (traced_list m) rows_fit.1 o.1) r (o.0 ∙ g')
+module _ (m : Tables) (links rows diags : List ℕ) (q : Result (Unit {0}) Told) (links₁ : List ℕ) (e : LinkedInto m links q links₁) where
+  abbrev all_of_it : Answer TracedList
+  all_of_it = answer_for m links rows diags
 
-        -- both fit
-        pub lists-both : (d : ℕ) → y' ≡ Ok d → Leaves (Ok (record { rows = k; diagnostics = d })) rows₁ diags₁
-        unfolding traced_diag_numbers
-        lists-both d j =
-            let s = fit diag_numbers diag_block (traced_list m).diags diags p' diags₁ diags-written t' y' h' d j in
-            let a : the_answer ≡ given (traced_list m) = answer-is ∙ within-given room (traced_list m) rows_fit.1 s.1 in
-            record {
-              answer = ap₂ (λ (n l : ℕ). Ok (record { rows = n; diagnostics = l })) rows_fit.0 s.0 ∙ sym (ap (handed listed) a);
-              in_rows = given-in (traced_row_numbers m) the_answer rows rows₁ (traced_list m) a rows_fit.2 rows_fit.3;
-              in_diagnostics = given-in traced_diag_numbers the_answer diags diags₁ (traced_list m) a s.2 s.3;
-            }
+  -- the tables or the link table are refused
+  pub links-refused : (r : Told) → q ≡ Err r → (z : Result Listed Told) → IsErrAnd z (λ y. y ≡ r) → (rows' diags' : List ℕ) → ListsLinked all_of_it m rows diags z links₁ rows' diags'
+  unfolding traced_answer traced_on
+  links-refused r f z h rows' diags' =
+      let x = refused-on m links q links₁ e (traced_on (room_in (length rows) (length diags)) m) (λ x fs. refl) r f in
+      record {
+        lists = record {
+          answer = hands-refused listed z all_of_it x.0 x.1 r (passed z r h) x.2;
+          in_rows = refused-in (traced_row_numbers m) all_of_it rows rows' x.0 x.1;
+          in_diagnostics = refused-in traced_diag_numbers all_of_it diags diags' x.0 x.1;
+        };
+        linked = λ l k. absurd (ok-not-err l r (sym k ∙ passed z r h));
+      }
 
--- ---- THE CALL: rows and diags are the outputs at entry, rows₁ and diags₁ the cleared ones, rows₂ and diags₂ what was written into them
+  -- they are not
+  pub links-filled : q ≡ Ok tt → {z : Result Listed Told} {rows' diags' : List ℕ} → Lists (answer_of m rows diags) m rows diags z rows' diags'
+      → ListsLinked all_of_it m rows diags z links₁ rows' diags'
+  unfolding traced_answer traced_on
+  links-filled f {z} {rows'} {diags'} w =
+      record {
+        lists = subst (λ (a : Answer TracedList). Lists a m rows diags z rows' diags') (sym (ap (traced_on (room_in (length rows) (length diags)) m) (accepted-is m links q links₁ e f))) w;
+        linked = λ l k. e.linked f;
+      }
 
-module _ (m : Tables) (rows diags rows₁ diags₁ : List ℕ) (e : rows₁ ≡ zeros (length rows)) (f : diags₁ ≡ zeros (length diags)) (z : Result Listed Told) (rows₂ diags₂ : List ℕ)
-    (h : Lists (answer_for m rows₁ diags₁) m rows₁ diags₁ z rows₂ diags₂) where
+-- ---- THE CALL: links, rows and diags are the outputs at entry, rows₁ and diags₁ the cleared ones, links₂, rows₂ and diags₂ what was written into them
+
+module _ (m : Tables) (links rows diags rows₁ diags₁ : List ℕ) (e : rows₁ ≡ zeros (length rows)) (f : diags₁ ≡ zeros (length diags)) (z : Result Listed Told) (links₂ rows₂ diags₂ : List ℕ)
+    (h : ListsLinked (answer_for m links rows₁ diags₁) m rows₁ diags₁ z links₂ rows₂ diags₂)
+    (s : length links₂ ≡ length links) where
   abbrev answer : Answer TracedList
-  answer = answer_for m rows diags
+  answer = answer_for m links rows diags
 
-  same_answer : answer_for m rows₁ diags₁ ≡ answer
-  same_answer = ap₂ (λ (r d : ℕ). traced_answer (room_in r d) m) (zeros-length rows₁ (length rows) e) (zeros-length diags₁ (length diags) f)
+  same_answer : answer_for m links rows₁ diags₁ ≡ answer
+  same_answer = ap₂ (λ (r d : ℕ). traced_answer (links_in (length links)) (room_in r d) m) (zeros-length rows₁ (length rows) e) (zeros-length diags₁ (length diags) f)
 
   told-answer : z ≡ handed listed answer
-  told-answer = h.answer ∙ ap (handed listed) same_answer
+  told-answer = h.lists.answer ∙ ap (handed listed) same_answer
 
   -- demand 3 of rows that are handed back
   limited : (out : List ℕ) → out ≡ output (length rows) (traced_row_numbers m) answer → (l : Listed) → z ≡ Ok l → (rows_back m l.rows out ≡ unlimited m) ↔ NoneHasNext step_limit m
@@ -171,14 +179,25 @@ module _ (m : Tables) (rows diags rows₁ diags₁ : List ℕ) (e : rows₁ ≡ 
       let x = handed-ok listed z answer told-answer l g in
       subst (λ (k : Listed). (rows_back m k.rows out ≡ unlimited m) ↔ NoneHasNext step_limit m) (sym x.2)
       (subst (λ (o : List ℕ). (rows_back m (length x.0.rows) o ≡ unlimited m) ↔ NoneHasNext step_limit m) (sym (u ∙ ap (output (length rows) (traced_row_numbers m)) x.1))
-      (demand-three-output (room_in (length rows) (length diags)) m x.0 (length rows) x.1))
+      (demand-three-output (links_in (length links)) (room_in (length rows) (length diags)) m x.0 (length rows) x.1))
 
-  traced-into : (out out' : List ℕ) → out ≡ output (length rows) (traced_row_numbers m) answer → out' ≡ output (length diags) traced_diag_numbers answer → TracedInto m rows diags z out out'
-  traced-into out out' u v = record { answer = told-answer; written-rows = u; written-diagnostics = v; step-limit = limited out u }
-
-  pub given-call : is_err z ≡ false → TracedInto m rows diags z rows₂ diags₂
+  -- a list is given
+  pub given-call : is_err z ≡ false → TracedInto m links rows diags z links₂ rows₂ diags₂
   given-call g =
-      let t = came-given listed answer (ap is_err (sym told-answer) ∙ g) in
-      traced-into rows₂ diags₂
-      (keeps (traced_row_numbers m) answer rows₁ rows₂ (length rows) t e (subst (λ (a : Answer TracedList). AnswerIn (traced_row_numbers m) a rows₁ rows₂) same_answer h.in_rows))
-      (keeps traced_diag_numbers answer diags₁ diags₂ (length diags) t f (subst (λ (a : Answer TracedList). AnswerIn traced_diag_numbers a diags₁ diags₂) same_answer h.in_diagnostics))
+      record {
+        answer = told-answer;
+        written-links = links-given m links₂ (h.linked came.0 came.1) answer (length links) t s;
+        written-rows = written-rows;
+        written-diagnostics = keeps traced_diag_numbers answer diags₁ diags₂ (length diags) t f (subst (λ (a : Answer TracedList). AnswerIn traced_diag_numbers a diags₁ diags₂) same_answer h.lists.in_diagnostics);
+        children-by-links = λ l k. links-walked m links₂ (h.linked l k);
+        step-limit = limited rows₂ written-rows;
+      }
+    where
+      came : (l : Listed) × (z ≡ Ok l)
+      came = no-refusal z g
+
+      t : T (is_given answer)
+      t = came-given listed answer (ap is_err (sym told-answer) ∙ g)
+
+      written-rows : rows₂ ≡ output (length rows) (traced_row_numbers m) answer
+      written-rows = keeps (traced_row_numbers m) answer rows₁ rows₂ (length rows) t e (subst (λ (a : Answer TracedList). AnswerIn (traced_row_numbers m) a rows₁ rows₂) same_answer h.lists.in_rows)

@@ -1,4 +1,5 @@
 -- What both listings leave in the outputs that are lent here, and the text that is printed from blocks of it. Assumes nothing.
+use mathlib.Core.Bool.{false}
 use mathlib.Core.Path.{◌≡◌, sym, ap, ◌∙◌, subst}
 use mathlib.Core.List.{List, map}
 use Prim.Native.Nat.{ℕ, ◌/◌, ◌≤◌}
@@ -13,7 +14,7 @@ use Rattle.as5506.specs.Tracing.{shown}
 use Rattle.as5506.specs.Listing.{BothLists, both_answer}
 use Rattle.as5506.specs.Layout.{row_numbers, diag_numbers, traced_row_numbers, traced_diag_numbers, group_row_numbers, group_diag_numbers, composed_names, of_traced, of_group, output, row_back, rows_back, group_rows_back, diag_back, diags_back}
 use Rattle.as5506.specs.Text.{list_text, text_within}
-use Rattle.as5506.specs.Program.{room, names_lent, printed_or_refusal, text_or_refusal}
+use Rattle.as5506.specs.Program.{rows_lent, room, names_lent, printed_or_refusal, text_or_refusal}
 use Rattle.as5506.specs.declared.Refusal.{Refusal as Told}
 use Rattle.as5506.proofs.Back.{traced-back, group-back, traced-diags-back, group-diags-back}
 use Rattle.as5506.proofs.Answers.{handed-ok}
@@ -37,7 +38,7 @@ module _ (w k : ℕ) (out : List ℕ) (blocks : List (List ℕ)) (h : k ≤ leng
 -- ---- the call
 
 abbrev pub answer : Tables → Answer BothLists
-answer m = both_answer room room names_lent m
+answer m = both_answer (rows_lent false) room room names_lent m
 
 module _ (m : Tables) (z : Result Both Told) (e : z ≡ handed listed (answer_for m no_outputs)) where
   pub answered : z ≡ handed listed (answer m)

@@ -8,7 +8,10 @@ ghost use Rattle.lent.specs.Model.{model};
 ghost use Rattle.text.specs.Listed.{listings_text};
 ghost use Rattle.shown.specs.Shown.{Shown};
 
-use as5506::{DIAGNOSTIC_NUMBERS, DIAGNOSTICS_LENT, LISTED_LENT, NAMES_LENT, ROW_NUMBERS};
+use as5506::{
+    DIAGNOSTIC_NUMBERS, DIAGNOSTICS_LENT, LINK_NUMBERS, LISTED_LENT, NAMES_LENT, ROW_NUMBERS,
+    ROWS_LENT,
+};
 use lent::Tables;
 use text::Listings;
 
@@ -27,6 +30,7 @@ fn print_listings(m: &Tables, list: &Listings, text: &mut [u8]) -> usize
 pub fn list_tables(m: &Tables, text: &mut [u8]) -> usize
     ensures { Shown (conlist_text (length text.old) (model m.now)) text.old result text.new }
 {
+    let mut links = [0u32; ROWS_LENT * LINK_NUMBERS];
     let mut rows = [0u32; LISTED_LENT * ROW_NUMBERS];
     let mut diagnostics = [0u32; DIAGNOSTICS_LENT * DIAGNOSTIC_NUMBERS];
     let mut group_rows = [0u32; LISTED_LENT * ROW_NUMBERS];
@@ -34,6 +38,7 @@ pub fn list_tables(m: &Tables, text: &mut [u8]) -> usize
     let mut group_diagnostics = [0u32; DIAGNOSTICS_LENT * DIAGNOSTIC_NUMBERS];
     match listing::list_connections(
         m,
+        &mut links,
         &mut rows,
         &mut diagnostics,
         &mut group_rows,

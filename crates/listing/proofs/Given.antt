@@ -1,6 +1,6 @@
 -- What an answer that gives both lists holds, for callers: no more than there is room for, and short paths; and the outputs that a program lends.
 -- Assumes nothing.
-use mathlib.Core.Bool.{Bool}
+use mathlib.Core.Bool.{Bool, false}
 use mathlib.Core.Path.{◌≡◌, subst}
 use mathlib.Core.List.{List, [], ◌∷◌, ◌++◌}
 use Rattle.std.specs.Prelude.{Option, None, Some}
@@ -11,14 +11,13 @@ use lib.ListN.{length, length-replicate}
 use Rattle.as5506.specs.Lists.{is_nil, zeros}
 use Rattle.as5506.specs.Tables.{Tables}
 use Rattle.as5506.specs.Answers.{Refusal, refusal, nowhere, Answer, given, refused, fault, unless_faults}
-use Rattle.as5506.specs.Refusals.{faults}
 use Rattle.as5506.specs.Groups.{Feature}
 use Rattle.as5506.specs.GroupList.{GroupConnection, group_connections, overrun, Match, matches, match_row, rows_matched}
 use Rattle.as5506.specs.Tracing.{step_limit}
-use Rattle.as5506.specs.Listing.{Room, TracedList, GroupList, BothLists, rows_over, names_over, diags_over, traced_list, traced_within, traced_on, traced_answer, group_list_of, group_within, group_of, group_on, group_answer, with_group, after_traced, both_answer}
-use Rattle.as5506.specs.Layout.{row_numbers, diag_numbers, room_in}
-use Rattle.as5506.specs.Program.{names_lent}
-use Rattle.as5506.specs.Program.{room as room_lent}
+use Rattle.as5506.specs.Links.{link_numbers}
+use Rattle.as5506.specs.Listing.{Room, faults_linked, TracedList, GroupList, BothLists, rows_over, names_over, diags_over, traced_list, traced_within, traced_on, traced_answer, group_list_of, group_within, group_of, group_on, group_answer, with_group, after_traced, both_answer}
+use Rattle.as5506.specs.Layout.{links_in, row_numbers, diag_numbers, room_in}
+use Rattle.as5506.specs.Program.{rows_lent, names_lent, room as room_lent}
 use Rattle.as5506.proofs.Laws.{All, all-each-of, nil-left, nil-right, nil-when}
 use Rattle.as5506.proofs.Back.{ShortPath, ShortRow}
 use Rattle.as5506.proofs.Ends.{traced-short}
@@ -75,9 +74,9 @@ traced-fits room m [] =
     })
 traced-fits room m (r ∷ fs) = tt
 
-pub traced_fit : (room : Room) (m : Tables) → Holds (TracedFits room) (traced_answer room m)
+pub traced_fit : (links : ℕ) (room : Room) (m : Tables) → Holds (TracedFits room) (traced_answer links room m)
 unfolding traced_answer
-traced_fit room m = traced-fits room m (faults m)
+traced_fit links room m = traced-fits room m (faults_linked links m)
 
 -- ---- the group listing: a row's path is its connection
 
@@ -114,9 +113,9 @@ unfolding group_on
 group-on-fits room names m [] = group-fits room names m (group_connections m)
 group-on-fits room names m (r ∷ fs) = tt
 
-pub group-fit : (room : Room) (names : ℕ) (m : Tables) → Holds (GroupFits room) (group_answer room names m)
+pub group-fit : (links : ℕ) (room : Room) (names : ℕ) (m : Tables) → Holds (GroupFits room) (group_answer links room names m)
 unfolding group_answer
-group-fit room names m = group-on-fits room names m (faults m)
+group-fit links room names m = group-on-fits room names m (faults_linked links m)
 
 -- ---- both
 
@@ -130,9 +129,9 @@ unfolding after_traced
 after-fits room room' names m (refused r) h = tt
 after-fits room room' names m (given l) h = with-fits room room' l (group_of room' names m (group_connections m)) h (group-fits room' names m (group_connections m))
 
-pub both-fit : (room room' : Room) (names : ℕ) (m : Tables) → Holds (BothFit room room') (both_answer room room' names m)
+pub both-fit : (links : ℕ) (room room' : Room) (names : ℕ) (m : Tables) → Holds (BothFit room room') (both_answer links room room' names m)
 unfolding both_answer
-both-fit room room' names m = after-fits room room' names m (traced_answer room m) (traced_fit room m)
+both-fit links room room' names m = after-fits room room' names m (traced_answer links room m) (traced_fit links room m)
 
 -- ---- what a call leaves
 
@@ -143,21 +142,25 @@ abbrev pub group_room : Outputs → Room
 group_room o = room_in (length o.group-rows) (length o.group-diags)
 
 pub fit : (m : Tables) (o : Outputs) → Holds (BothFit (traced_room o) (group_room o)) (answer_for m o)
-fit m o = both-fit (traced_room o) (group_room o) (length o.names) m
+fit m o = both-fit (links_in (length o.links)) (traced_room o) (group_room o) (length o.names) m
 
 -- ---- the outputs that a program lends
 
-abbrev rows_lent : ℕ
-rows_lent = room_lent.rows * row_numbers
+abbrev links_lent : ℕ
+links_lent = rows_lent false * link_numbers
+
+abbrev listed_lent : ℕ
+listed_lent = room_lent.rows * row_numbers
 
 abbrev diags_lent : ℕ
 diags_lent = room_lent.diags * diag_numbers
 
 abbrev pub no_outputs : Outputs
-no_outputs = outputs (zeros rows_lent) (zeros diags_lent) (zeros rows_lent) (zeros names_lent) (zeros diags_lent)
+no_outputs = outputs (zeros links_lent) (zeros listed_lent) (zeros diags_lent) (zeros listed_lent) (zeros names_lent) (zeros diags_lent)
 
-pub answer-lent : (m : Tables) → answer_for m no_outputs ≡ both_answer room_lent room_lent names_lent m
+pub answer-lent : (m : Tables) → answer_for m no_outputs ≡ both_answer (rows_lent false) room_lent room_lent names_lent m
 answer-lent m =
-    let rows = length-replicate {A = ℕ} rows_lent 0 in
+    let links = length-replicate {A = ℕ} links_lent 0 in
+    let rows = length-replicate {A = ℕ} listed_lent 0 in
     let diags = length-replicate {A = ℕ} diags_lent 0 in
-    λ i. both_answer (room_in (rows i) (diags i)) (room_in (rows i) (diags i)) (length-replicate {A = ℕ} names_lent 0 i) m
+    λ i. both_answer (links_in (links i)) (room_in (rows i) (diags i)) (room_in (rows i) (diags i)) (length-replicate {A = ℕ} names_lent 0 i) m

@@ -2,5 +2,9 @@
 --
 --     PairLaws   the rows of pairs
 --     DiagLaws   diagnostics
+--     EndLaws    what the ends of a connection say of it
+--     Noting     diagnostics that are written until one finds no room
 mod PairLaws
 mod DiagLaws
+mod EndLaws
+mod Noting

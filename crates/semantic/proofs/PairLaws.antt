@@ -1,27 +1,26 @@
 -- The rows of pairs add up to the definition's rows. Assumes nothing.
-use mathlib.Core.Bool.{Bool, true, false}
+use mathlib.Core.Bool.{false}
 use mathlib.Core.Logic.{◌⊎◌, inl, inr}
-use mathlib.Core.Path.{◌≡◌, refl, ap, ap₂, ◌∙◌}
+use mathlib.Core.Path.{◌≡◌, refl, ap, ap₂}
 use mathlib.Core.List.{List, [], ◌∷◌, map}
 use Prim.Native.Nat.{ℕ}
 use native.Mathlib.Omega.{arith}
 use lib.ListN.{length}
-use Rattle.std.specs.Prelude.{Option}
-use Rattle.as5506.specs.Lists.{each}
-use Rattle.as5506.specs.Tables.{Tables, present, source, destination, c_parent, x_owner, x_feat}
+use Rattle.std.specs.Prelude.{Option, is_some}
+use Rattle.as5506.specs.Lists.{each, first_of}
+use Rattle.as5506.specs.Tables.{Tables, source, destination, x_feat}
 use Rattle.as5506.specs.Tables.{Side as TheSide}
-use Rattle.as5506.specs.Tracing.{Chain, Pair, across, chains_by, chains, reach, row_of, pair_rows, rows_at, pairs, shape, step_limit, named, one_to_one, all_as, zip_as, pair_across, pair_up, pair_down, pairs_by}
-use Rattle.as5506.proofs.Laws.{all-of, each_same, each-each, each_map}
+use Rattle.as5506.specs.Tracing.{Chain, Pair, chains_by, chains, reach, row_of, pair_rows, step_limit, zip_as}
 use Rattle.as5506.specs.Layout.{traced_block, row_numbers}
 use Rattle.output.specs.declared.blocks.Blocks.{Blocks}
 use Rattle.output.specs.Blocks.{Wrote}
 use Rattle.output.proofs.Writing.{wrote_as}
 use Rattle.trace.specs.Ends.{the_end, row_along, rows_at_end, rows_behind}
-use Rattle.semantic.specs.declared.Shape.{Shape}
-use Rattle.semantic.specs.declared.Shape.TheVariants.{Faulty, Neither}
 use Rattle.semantic.specs.declared.Start.{Start}
 use Rattle.semantic.specs.declared.Start.TheVariants.{Child, Owner}
-use Rattle.semantic.specs.Rows.{shape_of, edge_of, start_on, component_of, limit_of, pair_on, rows_beside, rows_all, rows_zip}
+use Rattle.semantic.specs.Rows.{start_on, component_of, limit_of, pair_on, rows_all, rows_from}
+use Rattle.semantic.specs.declared.Ends.{Ends}
+use Rattle.semantic.specs.declared.Ends.TheVariants.{Faulty, Nothing}
 
 -- ---- one pair
 
@@ -44,45 +43,16 @@ module _ (m : Tables) (x : ℕ) where
       → Wrote (traced_block m) (pair_rows m step_limit x (pair_on m x source a b)) out q out'
   pair_written a b v e₁ e₂ e₃ e₄ e₅ e₆ e₇ e₈ = wrote_as v (rw (e₁, e₂, e₃, e₄, e₅, e₆, e₇, e₈) (pair-rows a b))
 
-  -- ---- the pairs of an X row
-
-  pub pairs_one : one_to_one m (x_owner m x) ≡ true → each (pair_rows m step_limit x) (pairs_by m x across) ≡ rows_zip m x (named m source x) (named m destination x)
-  unfolding pairs_by
-  pairs_one e = rw e refl
-
-  all-pairs : (l r : List ℕ) → each (pair_rows m step_limit x) (all_as (pair_across m x) l r) ≡ each (λ a. rows_beside m x destination (Child a) r) l
-  unfolding pair_on
-  all-pairs l r =
-      each-each (pair_rows m step_limit x) (λ a. map (pair_across m x a) r) l
-      ∙ each_same (λ a. each (pair_rows m step_limit x) (map (pair_across m x a) r)) (λ a. each (λ b. pair_rows m step_limit x (pair_across m x a b)) r) l
-      (all-of _ (λ a. each_map (pair_rows m step_limit x) (pair_across m x a) r) l)
-
-  pub pairs_all : one_to_one m (x_owner m x) ≡ false → each (pair_rows m step_limit x) (pairs_by m x across) ≡ rows_all m x (named m source x)
-  unfolding pairs_by
-  pairs_all e = rw e (all-pairs (named m source x) (named m destination x))
-
-  pub pairs_below : (s : TheSide) (inside : Bool) → inside ≡ present (c_parent m (x_owner m x)) → inside ≡ true → each (pair_rows m step_limit x) (pairs_by m x (edge_of s)) ≡ []
-  unfolding pairs_by
-  pairs_below source inside e h = rw (← e, h)
-  pairs_below destination inside e h = rw (← e, h)
-
-  pub pairs_root : (s : TheSide) → present (c_parent m (x_owner m x)) ≡ false → each (pair_rows m step_limit x) (pairs_by m x (edge_of s)) ≡ rows_beside m x s (Owner (x_owner m x)) (named m s x)
-  unfolding pairs_by pair_on
-  pairs_root source e = rw e (each_map (pair_rows m step_limit x) (pair_up m x) (named m source x))
-  pairs_root destination e = rw e (each_map (pair_rows m step_limit x) (pair_down m x) (named m destination x))
-
-  pub rows_faulty : (r : Shape) → shape_of r ≡ shape m x → r ≡ Faulty → rows_at m step_limit x ≡ []
-  unfolding rows_at pairs pairs_by
-  rows_faulty r e f = rw (← e, f)
-
-  pub rows_neither : (r : Shape) → shape_of r ≡ shape m x → r ≡ Neither → rows_at m step_limit x ≡ []
-  unfolding rows_at pairs pairs_by
-  rows_neither r e f = rw (← e, f)
-
   -- no destination child: no row
-  pub all_barren : (l : List ℕ) → named m destination x ≡ [] → rows_all m x l ≡ []
-  all_barren [] e = refl
-  all_barren (i ∷ l) e = rw (e, all_barren l e)
+  pub all_barren : (l r : List ℕ) {o : Option ℕ} → o ≡ first_of r → is_some o ≡ false → rows_all m x l r ≡ []
+  all_barren [] r e h = refl
+  all_barren (i ∷ l) [] e h = rw (all_barren l [] e h)
+  all_barren (i ∷ l) (a ∷ r) e h = cc
+
+  -- an end has no feature, or neither has a subcomponent that is traced
+  pub rows_none : (e : Ends) → (e ≡ Faulty) ⊎ (e ≡ Nothing) → rows_from m x e ≡ []
+  rows_none e (inl h) = rw h
+  rows_none e (inr h) = rw h
 
 -- ---- two lists, pair by pair
 

@@ -3,39 +3,45 @@
 
 ghost use Rattle.std.specs.Prelude.{◌<◌};
 ghost use Rattle.as5506.specs.Tables.{x_count};
-ghost use Rattle.lent.specs.Model.{model};
-ghost use Rattle.trace.specs.Ready.{Traceable};
+ghost use Rattle.child_links.specs.Trees.{of_tree};
 
 mod diagnostics;
-mod ends;
+mod found;
+mod list;
 mod pairs;
 
-pub use diagnostics::diagnose_connections;
-use lent::Tables;
-pub use pairs::trace_connections;
+use child_links::Tree;
+use children::Children;
+use columns::Side;
+pub use list::{Counts, list_connections};
+use name::ConnectionPattern;
 
-// A connection: a row of X, in tables that can be traced.
+// A connection: a row of X.
 #[derive(Clone, Copy)]
-struct Connection<'a, 'b> {
-    m: &'a Tables<'b>,
+struct Connection<'a> {
+    tree: &'a Tree<'a>,
     row: usize,
-    ghost traceable: { Traceable (model m.now) },
-    ghost in_table: { row < x_count (model m.now) },
+    ghost in_table: { row < x_count (of_tree tree.now) },
 }
 
-// What a connection is, by its ends.
+// What a connection is by its ends, with the children that it names: they are found once, for its rows and its diagnostics.
 #[derive(Clone, Copy)]
-enum Shape {
+enum Ends<'a> {
     // An end has no feature.
     Faulty,
-    // From a subcomponent to a subcomponent.
-    Across,
-    // From a subcomponent to the owner.
-    Upward,
-    // From the owner to a subcomponent.
-    Downward,
-    // Neither end has a subcomponent.
-    Neither,
+    // Between two subcomponents: the children on both sides, and how they are paired.
+    Across {
+        pattern: ConnectionPattern,
+        source: Children<'a>,
+        destination: Children<'a>,
+    },
+    // Between a subcomponent on the side and the owner, which has no parent.
+    Edge {
+        side: Side,
+        children: Children<'a>,
+    },
+    // Neither end has a subcomponent, or one has, and the owner has a parent.
+    Nothing,
 }
 
 // An end of a connection, to be paired with one on the other side: a child, which is traced, or the owner, which is not.

@@ -12,7 +12,10 @@ use lib.Seq.{sets}
 use Rattle.as5506.specs.Answers.{Refusal, refusal, line, Answer, given, refused, fault, unless_faults}
 use Rattle.as5506.specs.Columns.{rank, letter_byte}
 use Rattle.as5506.specs.Sheet.{Line, ended, unended, text_of, lines_of, lines_with, is_n, Lent, lent_of, name_bytes, has_place, is_earlier, line_faults, faults_from, sheet_faults, tables_read, read_sheet, table_after, bytes_after}
-use Rattle.as5506.specs.Tables.{Tables, Letter, letter_n, table, width}
+use Rattle.as5506.specs.Tables.{Tables, Letter, letter_n, letter_c, table, width, c_count}
+use Rattle.as5506.specs.Refusals.{faults}
+use Rattle.as5506.specs.Listing.{faults_linked}
+use Rattle.as5506.specs.Program.{rows_lent, lent as conlist_lent}
 use Rattle.as5506.specs.declared.Refusal.{Refusal as Told}
 use Rattle.lent.proofs.Padded.{padded-is}
 use Rattle.std.proofs.lemmas.Bool.{and_parts}
@@ -25,7 +28,8 @@ use Rattle.sheet.specs.Read.{sheet_read, ReadInto}
 use Rattle.sheet.specs.Steps.{lent_by, texts, in_order, Cleared}
 use Rattle.sheet.specs.declared.Counts.{Counts}
 use Rattle.std.specs.Prelude.{Result, Ok, Err}
-use Rattle.as5506.proofs.Answers.{ok-not-err}
+use Rattle.as5506.proofs.Answers.{ok-not-err, unless-given, refused-not}
+use Rattle.as5506.proofs.Links.{enough-links}
 
 -- ---- lists of faults that are empty
 
@@ -136,6 +140,15 @@ module _ (lent : Lent) (s : List ℕ) (none : sheet_faults lent s ≡ []) where
   pub bytes_fit : length (tables_read (texts s)).bytes ≤ lent.bytes
   unfolding tables_read lines_with
   bytes_fit = omega (arith, names-length (lines_with letter_n (texts s)), names-within lent [] 1 (lines_of s) lines_none zero-le)
+
+-- 02 (xiii), "No other answer changes": the links that conlist lends are enough for every sheet that it reads, so 22 refuses none
+pub enough-lent : (s : List ℕ) (m : Tables) → read_sheet conlist_lent s ≡ given m → faults_linked (rows_lent false) m ≡ faults m
+unfolding read_sheet
+enough-lent s m e = enough-links (rows_lent false) m (go (sheet_faults conlist_lent s) refl e)
+  where
+    go : (rs : List Refusal) → sheet_faults conlist_lent s ≡ rs → unless_faults rs (tables_read (texts s)) ≡ given m → c_count m ≤ rows_lent false
+    go [] none f = rw (unless-given [] (tables_read (texts s)) m f) (omega (arith, table_fits conlist_lent s none letter_c))
+    go (r ∷ rs) none f = absurd (refused-not r m f)
 
 -- ---- the end of a call
 

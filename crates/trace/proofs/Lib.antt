@@ -1,8 +1,6 @@
--- Laws of tracing. For callers: Scan.
+-- Laws of tracing.
 --
---     Scan     the steps that are left, row by row
---     Chains   the chains by their steps
---     Rows     the rows of chains behind a path
-pub mod Scan
-mod Chains
+--     Scan   the steps that are left, row by row, and how chains begin by them
+--     Rows   the rows of chains behind a path
+mod Scan
 mod Rows

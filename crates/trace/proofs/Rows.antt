@@ -1,7 +1,7 @@
 -- The rows of chains behind a path: where a chain ends, and one step on. Assumes nothing.
 use mathlib.Core.Path.{◌≡◌, refl, sym, ap, ap₂, ◌∙◌}
 use mathlib.Core.List.{List, [], ◌∷◌, ◌++◌, map, append_assoc, append-nil}
-use Prim.Native.Nat.{ℕ, ◌-◌, ◌<◌, ◌≤◌}
+use Prim.Native.Nat.{ℕ, ◌-◌, ◌≤◌}
 use native.Mathlib.Omega.{arith}
 use lib.ListN.{length}
 use lib.Seq.{sets}
@@ -16,13 +16,13 @@ use Rattle.lent.proofs.Sets.{sets-append, sets-whole}
 use Rattle.columns.specs.declared.Side.{Side}
 use Rattle.columns.specs.declared.Side.TheVariants.{Source, Destination}
 use Rattle.columns.specs.Side.{side_of}
-use Rattle.trace.specs.declared.steps.Step.{Step}
-use Rattle.trace.specs.Steps.{steps_from, after_step, Within}
+use Rattle.trace.specs.declared.step.Step.{Step}
+use Rattle.trace.specs.declared.step.Steps.{Steps}
+use Rattle.trace.specs.Steps.{tables_in, side_in, steps_behind, after_step, Within, chains_from, chains_over, Begins}
 use Rattle.trace.specs.Ends.{the_end, behind, row_along, rows_at_end, rows_behind}
 use Rattle.output.specs.declared.blocks.Blocks.{Blocks}
 use Rattle.output.specs.Blocks.{Wrote}
 use Rattle.output.proofs.Writing.{Writing, wrote_as, writing_start, writing_turn, writing_full, writing_end}
-use Rattle.trace.proofs.Chains.{via, chains-on}
 
 -- ---- one row
 
@@ -84,40 +84,43 @@ module _ (m : Tables) (x k : ℕ) (o : Chain) (p : List ℕ) (c f left : ℕ) (s
 
 -- ---- the tracer's loop: `todo` are the steps that are left
 
-abbrev pub left_rows : Tables → TheSide → ℕ → ℕ → Chain → List ℕ → ℕ → List TheStep → List Traced
-left_rows m s x k o p left todo = rows_behind m s x k o p (each (via m s (left - 1)) todo)
+module _ (q : Steps) (x k : ℕ) (o : Chain) (p : List ℕ) (left : ℕ) where
+  abbrev rows : List ℕ → List Chain → List Traced
+  rows r es = rows_behind (tables_in q) (side_in q) x k o r es
 
-module _ (m : Tables) (s : TheSide) (x k : ℕ) (o : Chain) (p : List ℕ) (left c f : ℕ) (out₀ : Blocks row_numbers) where
+  -- the chains that go on behind a step
+  abbrev on : Step → List Chain
+  on st = chains (tables_in q) (side_in q) (left - 1) st.child st.feature
+
+  abbrev rows_left : List TheStep → List Traced
+  rows_left todo = rows p (each (chains_over q (left - 1)) todo)
+
   -- of the rows of the chains behind p, those of the steps that an answer stands for are still to be written
-  pub record Going (out : Blocks row_numbers) (next : Option Step) : Type 0 where
-    pub writing : Writing (traced_block m) (rows_behind m s x k o p (chains m s left c f)) out₀ out (left_rows m s x k o p left (after_step m s c f next))
-    pub within : Within m next
+  pub record Going (out₀ out : Blocks row_numbers) (next : Option Step) : Type 0 where
+    pub writing : Writing (traced_block (tables_in q)) (rows p (chains_from q left)) out₀ out (rows_left (after_step q next))
+    pub within : Within q next
 
-  pub going_start : (st : Step) → Within m (Some st) → (0 < left) × (steps_from m s c f 0 None ≡ after_step m s c f (Some st)) → Going out₀ (Some st)
-  going_start st v b =
-      record { within = v; writing = writing_start (ap (rows_behind m s x k o p) (chains-on m s left c f b.0 _ _ b.1 ∙ ap (each (via m s (left - 1))) b.1)) }
+  pub going_start : {out₀ : Blocks row_numbers} {st : Step} → Within q (Some st) → Begins q left (Some st) → Going out₀ out₀ (Some st)
+  going_start v b = record { within = v; writing = writing_start (ap (rows p) b.1) }
 
-  module _ {out : Blocks row_numbers} {next : Option Step} (g : Going out next) where
-    pub going_end : next ≡ None → Wrote (traced_block m) (rows_behind m s x k o p (chains m s left c f)) out₀ (Some tt) out
+  module _ {out₀ out : Blocks row_numbers} {next : Option Step} (g : Going out₀ out next) where
+    pub going_end : next ≡ None → Wrote (traced_block (tables_in q)) (rows p (chains_from q left)) out₀ (Some tt) out
     unfolding rows_behind
-    going_end e = writing_end g.writing (ap (λ (q : Option Step). left_rows m s x k o p left (after_step m s c f q)) e)
+    going_end e = writing_end g.writing (ap (λ (r : Option Step). rows_left (after_step q r)) e)
 
-    module _ {st : Step} (e : next ≡ Some st) {p' : List ℕ} (l : p' ≡ p ++ (st.row ∷ [])) {q : Option (Unit {0})} {out' : Blocks row_numbers}
-        (v : Wrote (traced_block m) (rows_behind m s x k o p' (chains m s (left - 1) st.child st.feature)) out q out') where
-      split : left_rows m s x k o p left (after_step m s c f next)
-          ≡ rows_behind m s x k o p' (chains m s (left - 1) st.child st.feature) ++ left_rows m s x k o p left (steps_from m s c f st.row (Some st.child))
-      unfolding via
+    module _ {st : Step} (e : next ≡ Some st) {p' : List ℕ} (l : p' ≡ p ++ (st.row ∷ [])) {r : Option (Unit {0})} {out' : Blocks row_numbers}
+        (v : Wrote (traced_block (tables_in q)) (rows p' (on st)) out r out') where
+      split : rows_left (after_step q next) ≡ rows p' (on st) ++ rows_left (steps_behind q st)
       split =
-          ap (λ (q : Option Step). left_rows m s x k o p left (after_step m s c f q)) e
-          ∙ rows_append m s x k o p (map (push st.row) (chains m s (left - 1) st.child st.feature)) (each (via m s (left - 1)) (steps_from m s c f st.row (Some st.child)))
-          ∙ ap (λ (r : List Traced). r ++ left_rows m s x k o p left (steps_from m s c f st.row (Some st.child)))
-          (rows-along m s x k o p st.row (chains m s (left - 1) st.child st.feature)
-          ∙ ap (λ (r : List ℕ). rows_behind m s x k o r (chains m s (left - 1) st.child st.feature)) (sym l))
+          ap (λ (r : Option Step). rows_left (after_step q r)) e
+          ∙ rows_append (tables_in q) (side_in q) x k o p (map (push st.row) (on st)) (each (chains_over q (left - 1)) (steps_behind q st))
+          ∙ ap (λ (r : List Traced). r ++ rows_left (steps_behind q st))
+          (rows-along (tables_in q) (side_in q) x k o p st.row (on st) ∙ ap (λ (r : List ℕ). rows r (on st)) (sym l))
 
-      pub going_on : q ≡ Some tt → {next' : Option Step} → Within m next' → steps_from m s c f st.row (Some st.child) ≡ after_step m s c f next' → Going out' next'
+      pub going_on : r ≡ Some tt → {next' : Option Step} → Within q next' → steps_behind q st ≡ after_step q next' → Going out₀ out' next'
       going_on h u a = record { within = u; writing = rw (← a) (writing_turn g.writing v _ split h) }
 
-      pub going_full : q ≡ None → {z : Option (Unit {0})} → z ≡ None → Wrote (traced_block m) (rows_behind m s x k o p (chains m s left c f)) out₀ z out'
+      pub going_full : r ≡ None → {z : Option (Unit {0})} → z ≡ None → Wrote (traced_block (tables_in q)) (rows p (chains_from q left)) out₀ z out'
       going_full = writing_full g.writing v _ split
 
 -- ---- the tracer ends: the source's steps, then the destination's

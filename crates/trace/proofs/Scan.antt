@@ -1,63 +1,77 @@
--- Laws of the steps: what one row of X adds, and that they are the definition's. Assumes nothing.
-use mathlib.Core.Bool.{Bool, true, false, ◌&&◌}
+-- Laws of the steps: what one row of X adds, what is behind a step, that they are the definition's, and how chains begin by them. Assumes nothing.
+use mathlib.Core.Bool.{true, false}
 use mathlib.Core.Path.{◌≡◌, refl, sym, ap, ◌∙◌}
-use mathlib.Core.List.{List, [], ◌∷◌, ◌++◌, map}
-use Prim.Native.Nat.{ℕ, ◌+◌, ◌-◌, ◌≤◌, ◌<◌}
+use mathlib.Core.List.{List, [], ◌∷◌}
+use Prim.Native.Nat.{ℕ, zero, suc, ◌+◌, ◌≤◌, ◌<◌}
 use native.Mathlib.Nat.{sub-zero}
-use native.Mathlib.Decide.{dec_lt}
+use native.Mathlib.Numerals.{sub-one}
 use native.Mathlib.Omega.{arith}
 use lib.Dec.{eqb}
-use borrow.Author.Tests.{lt-ltb, le-ltb}
 use Rattle.std.specs.Prelude.{Option, Some, None}
-use Rattle.as5506.specs.Lists.{span, up_to, put_if, keep, each}
-use Rattle.as5506.specs.Tables.{Tables, name_of, rows_naming, Side, x_count, x_owner, x_sub, x_feat}
-use Rattle.as5506.specs.Tracing.{Step as TheStep, step_to, leads, steps_over, steps}
-use Rattle.children.specs.Found.{found_behind}
-use Rattle.children.proofs.Scan.{found_all}
-use Rattle.as5506.proofs.Scans.{span-next, span-done, keep-put}
-use Rattle.trace.specs.Steps.{is_step, list_if, leads_to, steps_at, steps_from}
+use Rattle.as5506.specs.Lists.{up_to, each}
+use Rattle.as5506.specs.Tables.{name_of, rows_naming, x_count, x_owner, x_feat}
+use Rattle.as5506.specs.Tracing.{Step as TheStep, leads, steps_over, steps, stop, grow, chains_by, chains}
+use Rattle.as5506.proofs.Scans.{keep-hit, keep-miss, keep-done, keep-both}
+use Rattle.children.specs.declared.Children.{Children}
+use Rattle.children.specs.Found.{children_left}
+use Rattle.trace.specs.declared.step.Step.{Step}
+use Rattle.trace.specs.declared.step.Steps.{Steps}
+use Rattle.trace.specs.Steps.{tables_in, side_in, is_step, found_over, steps_from, steps_behind, after_step, chains_from, chains_over, Begins}
 
--- ---- the steps from a row on
+module _ (q : Steps) where
+  abbrev over : List ℕ → List TheStep
+  over l = each (steps_over (tables_in q) (side_in q) q.component) l
 
-module _ (m : Tables) (s : Side) (p f : ℕ) where
-  from_in : (i : ℕ) (j : Option ℕ) → i < x_count m → steps_from m s p f i j ≡ steps_at m s p f i j ++ each (λ k. steps_at m s p f k None) (span (i + 1) (x_count m - (i + 1)))
+  -- ---- the steps from a row on
+
+  pub steps_end : (i : ℕ) → x_count (tables_in q) ≤ i → steps_from q i ≡ []
   unfolding steps_from
-  from_in i j h = rw (lt-ltb i (x_count m) h)
+  steps_end i h = ap over (keep-done (is_step q) i (x_count (tables_in q)) h)
 
-  pub steps_end : (i : ℕ) (j : Option ℕ) → x_count m ≤ i → steps_from m s p f i j ≡ []
+  -- the row is no step's, or leads to no child
+  pub steps_miss : (i : ℕ) → i < x_count (tables_in q) → is_step q i ≡ false → steps_from q i ≡ steps_from q (i + 1)
   unfolding steps_from
-  steps_end i j h = rw (le-ltb i (x_count m) h)
+  steps_miss i h e = ap over (keep-miss (is_step q) i (x_count (tables_in q)) h e)
 
-  from_row : (i : ℕ) → steps_from m s p f i None ≡ each (λ k. steps_at m s p f k None) (span i (x_count m - i))
-  from_row i = go (dec_lt i (x_count m))
-    where
-      go : Dec (i < x_count m) → steps_from m s p f i None ≡ each (λ k. steps_at m s p f k None) (span i (x_count m - i))
-      go (yes h) = from_in i None h ∙ ap (each (λ k. steps_at m s p f k None)) (sym (span-next i (x_count m) h))
-      go (no h) = let g : x_count m ≤ i = omega arith in steps_end i None g ∙ ap (each (λ k. steps_at m s p f k None)) (sym (span-done i (x_count m) g))
+  pub steps_bare : (i : ℕ) → i < x_count (tables_in q) → is_step q i ≡ true → found_over q i ≡ [] → steps_from q i ≡ steps_from q (i + 1)
+  unfolding steps_from steps_over
+  steps_bare i h e k = ap over (keep-hit (is_step q) i (x_count (tables_in q)) h e) ∙ rw k
 
-  pub steps_miss : (i : ℕ) (j : Option ℕ) → i < x_count m → leads_to m s p f i j ≡ [] → steps_from m s p f i j ≡ steps_from m s p f (i + 1) None
-  unfolding steps_at
-  steps_miss i j h e = from_in i j h ∙ rw e (sym (from_row (i + 1)))
+  pub steps_hit : (i j f : ℕ) (c d : Children) → i < x_count (tables_in q) → is_step q i ≡ true → children_left c ≡ found_over q i → children_left c ≡ j ∷ children_left d
+      → f ≡ x_feat (tables_in q) (side_in q) i → steps_from q i ≡ after_step q (Some (record { row = i; child = j; feature = f; others = d }))
+  unfolding steps_from steps_over steps_behind
+  steps_hit i j f c d h e k n g = ap over (keep-hit (is_step q) i (x_count (tables_in q)) h e) ∙ rw (sym k ∙ n, g) refl
 
-  pub steps_hit : (i : ℕ) (j : Option ℕ) (r g : ℕ) → i < x_count m → leads_to m s p f i j ≡ r ∷ leads_to m s p f i (Some r) → g ≡ x_feat m s i
-      → steps_from m s p f i j ≡ record { conn = i; child = r; feat = g } ∷ steps_from m s p f i (Some r)
-  unfolding steps_at
-  steps_hit i j r g h e k = from_in i j h ∙ rw (e, k) (ap (λ (l : List TheStep). step_to m s i r ∷ l) (sym (from_in i (Some r) h)))
+  -- ---- the steps behind one
 
-  put-steps : (b : Bool) (x : ℕ) (l : List ℕ) → each (steps_over m s p) (put_if b x l) ≡ map (step_to m s x) (list_if b (found_behind m p (name_of m (x_sub m s x)) None)) ++ each (steps_over m s p) l
-  unfolding steps_over
-  put-steps true x l = rw (found_all m p (name_of m (x_sub m s x)))
-  put-steps false x l = refl
+  pub behind_next : (st : Step) (i : ℕ) (d : Children) → children_left st.others ≡ i ∷ children_left d
+      → steps_behind q st ≡ after_step q (Some (record { row = st.row; child = i; feature = st.feature; others = d }))
+  unfolding steps_behind
+  behind_next st i d e = rw e refl
 
-  over-rows : (l : List ℕ) → each (λ k. steps_at m s p f k None) l ≡ each (steps_over m s p) (keep (leads m s (name_of m f)) (keep (λ i. eqb (x_owner m i) p) l))
-  unfolding steps_at leads_to is_step
-  over-rows [] = refl
-  over-rows (x ∷ l) =
-      ap (λ (r : List TheStep). steps_at m s p f x None ++ r) (over-rows l)
-      ∙ sym (put-steps (eqb (x_owner m x) p && leads m s (name_of m f) x) x _)
-      ∙ ap (each (steps_over m s p)) (sym (keep-put (leads m s (name_of m f)) (eqb (x_owner m x) p) x _))
+  pub behind_last : (st : Step) → children_left st.others ≡ [] → steps_behind q st ≡ steps_from q (st.row + 1)
+  unfolding steps_behind
+  behind_last st e = rw e refl
 
-  -- THE STEPS FROM THE FIRST ROWS ON ARE THE DEFINITION'S
-  pub steps-from-start : steps_from m s p f 0 None ≡ steps m s p f
-  unfolding steps rows_naming
-  steps-from-start = from_row 0 ∙ rw (sub-zero (x_count m)) (over-rows (up_to (x_count m)))
+  -- ---- THE STEPS FROM THE FIRST ROW ON ARE THE DEFINITION'S
+
+  steps-from-start : steps_from q 0 ≡ steps (tables_in q) (side_in q) q.component q.feature
+  unfolding steps_from is_step steps rows_naming
+  steps-from-start =
+      rw (sub-zero (x_count (tables_in q)))
+      (ap over (sym (keep-both (leads (tables_in q) (side_in q) (name_of (tables_in q) q.feature)) (λ i. eqb (x_owner (tables_in q) i) q.component) (up_to (x_count (tables_in q))))))
+
+  -- ---- how chains begin
+
+  chains-grow : (k : ℕ) → chains_from q (suc k) ≡ grow (stop q.component q.feature) (chains_over q k) (steps_from q 0)
+  unfolding chains chains_by
+  chains-grow k = ap (grow _ _) (sym steps-from-start)
+
+  pub begins_none : (k : ℕ) → k ≡ 0 → Begins q k None
+  unfolding chains chains_by
+  begins_none k e = rw e
+
+  pub begins : (k : ℕ) → (k ≡ 0 → ⊥) → (r : Option Step) → steps_from q 0 ≡ after_step q r → Begins q k r
+  begins zero h r e = absurd (h refl)
+  begins (suc k) h None e = chains-grow k ∙ rw e
+  begins (suc k) h (Some st) e = (omega arith, chains-grow k ∙ rw e (ap (λ n. each (chains_over q n) (after_step q (Some st))) (sym (sub-one (suc k)))))

@@ -2,10 +2,10 @@
 #![tactic(auto)]
 
 mod end;
+mod step;
 mod steps;
 mod tracer;
 
 pub use end::End;
 pub use path::Path;
-pub use steps::{Step, Steps};
 pub use tracer::trace;

@@ -2,31 +2,14 @@
 ghost use Rattle.std.specs.Prelude.{◌≡◌};
 ghost use Rattle.as5506.specs.Tables.{name_of, other};
 ghost use Rattle.as5506.specs.Tracing.{leads};
-ghost use Rattle.lent.specs.Model.{model};
 ghost use Rattle.columns.specs.Side.{side_of};
-ghost use Rattle.children.specs.Found.{after_child, Inside};
-ghost use Rattle.trace.specs.Steps.{is_step, leads_to, steps_from, after_step, Within, Begins};
+ghost use Rattle.children.specs.Found.{tables_of, children_left};
+ghost use Rattle.trace.specs.Steps.{is_step, found_over, tables_in, side_in, steps_from, steps_behind, after_step, StepWithin, Within, Begins};
 
+use crate::step::{Step, Steps};
 use as5506::{MISSING, X_NUMBERS};
+use children::Children;
 use columns::{Side, connection};
-use lent::Tables;
-
-// A step of a chain: the X row that it goes over, and the C row and the feature's name that it leads to.
-#[derive(Clone, Copy)]
-pub struct Step {
-    pub row: usize,
-    pub child: usize,
-    pub feature: u32,
-}
-
-// The steps from a feature of a component towards a side.
-#[derive(Clone, Copy)]
-pub struct Steps<'a, 'b> {
-    pub m: &'a Tables<'b>,
-    pub side: Side,
-    pub component: u32,
-    pub feature: u32,
-}
 
 // The other side. By cases: no derive knows it.
 fn opposite(side: Side) -> Side
@@ -38,73 +21,88 @@ fn opposite(side: Side) -> Side
     }
 }
 
-impl Steps<'_, '_> {
+impl<'a> Steps<'a> {
     // Whether X row i leads from a feature of that name towards the side. Tracing takes names for the same byte for byte.
     #[tactic(auto, unfolding(as5506::specs::Tracing::leads))]
     fn leads(&self, i: usize) -> bool
-        ensures { result ≡ leads (model self.now.m.now) (side_of self.now.side) (name_of (model self.now.m.now) self.now.feature) i }
+        ensures { result ≡ leads (tables_in self.now) (side_in self.now) (name_of (tables_in self.now) self.now.feature) i }
     {
+        let m = self.tree.m;
         let near = opposite(self.side);
-        let own = connection::feature_of(self.m, near, i);
-        connection::subcomponent_of(self.m, self.side, i) != MISSING
-            && connection::subcomponent_of(self.m, near, i) == MISSING
+        let own = connection::feature_of(m, near, i);
+        connection::subcomponent_of(m, self.side, i) != MISSING
+            && connection::subcomponent_of(m, near, i) == MISSING
             && own != MISSING
-            && name::same_names(self.m, own, self.feature)
+            && name::same_names(m, own, self.feature)
     }
 
     // Whether X row i is a connection of the component that leads from its feature towards the side.
     #[tactic(auto, unfolding(crate::specs::Steps::is_step))]
     fn is_step(&self, i: usize) -> bool
-        ensures { result ≡ is_step (model self.now.m.now) (side_of self.now.side) self.now.component self.now.feature i }
+        ensures { result ≡ is_step self.now i }
     {
-        connection::owner_of(self.m, i) == self.component && self.leads(i)
+        connection::owner_of(self.tree.m, i) == self.component && self.leads(i)
     }
 
-    // The first child behind `last` to which X row i leads, if it is a connection of the component that leads from
-    // its feature towards the side.
-    #[tactic(auto, unfolding(crate::specs::Steps::leads_to))]
-    fn next_child(&self, i: usize, last: Option<usize>) -> Option<usize>
-        ensures value { leads_to (model self.now.m.now) (side_of self.now.side) self.now.component self.now.feature i last
-            ≡ after_child (leads_to (model self.now.m.now) (side_of self.now.side) self.now.component self.now.feature i) result }
-        ensures inside { Inside (model self.now.m.now) result }
+    // The children to which X row i leads.
+    fn children(&self, i: usize) -> Children<'a>
+        ensures left { children_left result ≡ found_over self.now i }
+        ensures tables { tables_of result ≡ tables_in self.now }
     {
-        if !self.is_step(i) {
-            return None;
-        }
-        let name = connection::subcomponent_of(self.m, self.side, i);
-        children::find_child_by_name(self.m, self.component, name, last)
+        let wanted = connection::subcomponent_of(self.tree.m, self.side, i);
+        children::named(self.tree, self.component, wanted)
     }
 
-    // The next step, if there is one: from X row `row` on, over that row only to children behind `child`.
-    #[tactic(auto, using(crate::proofs::Scan::steps_hit, crate::proofs::Scan::steps_miss, crate::proofs::Scan::steps_end))]
-    pub fn next_step(&self, row: usize, child: Option<usize>) -> Option<Step>
-        ensures child_value { steps_from (model self.now.m.now) (side_of self.now.side) self.now.component self.now.feature row child
-            ≡ after_step (model self.now.m.now) (side_of self.now.side) self.now.component self.now.feature result }
-        ensures within { Within (model self.now.m.now) result }
+    // The first step over a row from X row `row` on, if there is one.
+    #[tactic(auto, using(crate::proofs::Scan::steps_hit, crate::proofs::Scan::steps_miss, crate::proofs::Scan::steps_bare, crate::proofs::Scan::steps_end))]
+    fn step_from(&self, row: usize) -> Option<Step<'a>>
+        ensures child_value { steps_from self.now row ≡ after_step self.now result }
+        ensures within { Within self.now result }
     {
-        let mut last = child;
-        for i in row..self.m.x.len() / X_NUMBERS {
-            if let Some(j) = self.next_child(i, last) {
+        for i in row..self.tree.m.x.len() / X_NUMBERS {
+            if !self.is_step(i) {
+                continue;
+            }
+            let mut others = self.children(i);
+            if let Some(child) = others.next() {
                 return Some(Step {
                     row: i,
-                    child: j,
-                    feature: connection::feature_of(self.m, self.side, i),
+                    child,
+                    feature: connection::feature_of(self.tree.m, self.side, i),
+                    others,
                 });
             }
-            last = None;
         }
         None
     }
 
+    // The step behind another, if there is one: over the same row to its next child, else over a row behind it.
+    #[tactic(auto, using(crate::proofs::Scan::behind_next, crate::proofs::Scan::behind_last))]
+    pub(crate) fn next_step(&self, step: Step<'a>) -> Option<Step<'a>>
+        requires { StepWithin self.now step }
+        ensures child_value { steps_behind self.now step.entry ≡ after_step self.now result }
+        ensures within { Within self.now result }
+    {
+        let mut others = step.others;
+        if let Some(child) = others.next() {
+            return Some(Step {
+                child,
+                others,
+                ..step
+            });
+        }
+        self.step_from(step.row + 1)
+    }
+
     // The first step of a chain of at most `left` steps, if there is one.
-    #[tactic(auto, using(crate::proofs::Chains::begins_none, crate::proofs::Chains::begins))]
-    pub(crate) fn first_step(&self, left: usize) -> Option<Step>
-        ensures begins { Begins (model self.now.m.now) (side_of self.now.side) left self.now.component self.now.feature result }
-        ensures within { Within (model self.now.m.now) result }
+    #[tactic(auto, using(crate::proofs::Scan::begins_none, crate::proofs::Scan::begins))]
+    pub(crate) fn first_step(&self, left: usize) -> Option<Step<'a>>
+        ensures begins { Begins self.now left result }
+        ensures within { Within self.now result }
     {
         if left == 0 {
             return None;
         }
-        self.next_step(0, None)
+        self.step_from(0)
     }
 }

@@ -1,16 +1,18 @@
 // The tracer: the rows of all chains that go on from an end.
-ghost use Rattle.std.specs.Prelude.{◌≡◌, [], ◌∷◌, ◌+◌, ◌≤◌, length};
+ghost use Rattle.std.specs.Prelude.{◌≡◌, [], ◌∷◌, ◌+◌, ◌≤◌, ◌<◌, length};
+ghost use Rattle.as5506.specs.Tables.{c_count};
 ghost use Rattle.as5506.specs.Tracing.{append_new, chains, step_limit};
 ghost use Rattle.as5506.specs.Layout.{traced_block};
 ghost use Rattle.lent.specs.Model.{model};
+ghost use Rattle.child_links.specs.Trees.{of_tree};
 ghost use Rattle.columns.specs.Side.{side_of};
 ghost use Rattle.trace.specs.Ends.{chain_places, end_of, row_along, rows_behind, Fits};
 ghost use Rattle.output.specs.Blocks.{Wrote};
-ghost use Rattle.trace.specs.Ready.{Traceable};
 
 use crate::end::End;
-use crate::steps::Steps;
+use crate::step::Steps;
 use as5506::{CHAIN_PLACES, PATH_PLACES, ROW_NUMBERS};
+use child_links::Tree;
 use columns::{Side, connection};
 use lent::Tables;
 use output::Blocks;
@@ -60,33 +62,32 @@ fn put_row(m: &Tables, out: &mut Blocks<ROW_NUMBERS>, conn: u32, s: &End, d: &En
 
 // Writes the rows of all chains that go on from `here` towards the side, behind its path. The source comes first: then `other` is where the
 // destination starts, and where a source chain has ended, the destination's chains go on from there. Of the destination `other` is the source's end,
-// and where a destination chain has ended, its row is written. The steps are sought one behind the other, and are no iterator: it would have to be kept in
-// every deeper call.
-pub fn trace(
-    m: &Tables,
+// and where a destination chain has ended, its row is written.
+pub fn trace<'a>(
+    tree: &'a Tree<'a>,
     out: &mut Blocks<ROW_NUMBERS>,
     side: Side,
     conn: u32,
     here: &End,
     other: &End,
 ) -> Option<()>
-    requires ready { Traceable (model m.now) }
+    requires inside { (here.now.component < c_count (of_tree tree.now)) × (other.now.component < c_count (of_tree tree.now)) }
     requires fits { Fits side here.now other.now }
-    ensures { Wrote (traced_block (model m.now))
-        (rows_behind (model m.now) (side_of side) conn other.now.left (end_of other.now) here.now.path
-        (chains (model m.now) (side_of side) here.now.left here.now.component here.now.feature))
+    ensures { Wrote (traced_block (of_tree tree.now))
+        (rows_behind (of_tree tree.now) (side_of side) conn other.now.left (end_of other.now) here.now.path
+        (chains (of_tree tree.now) (side_of side) here.now.left here.now.component here.now.feature))
         out.old result out.new }
 {
     let steps = Steps {
-        m,
+        tree,
         side,
         component: here.component,
         feature: here.feature,
     };
     let Some(first) = steps.first_step(here.left) else {
         return match side {
-            Side::Source => trace(m, out, Side::Destination, conn, other, here),
-            Side::Destination => put_row(m, out, conn, other, here),
+            Side::Source => trace(tree, out, Side::Destination, conn, other, here),
+            Side::Destination => put_row(tree.m, out, conn, other, here),
         };
     };
     let mut next = Some(first);
@@ -97,8 +98,8 @@ pub fn trace(
             path: here.path.with(step.row as u32),
             left: here.left - 1,
         };
-        trace(m, out, side, conn, &deeper, other)?;
-        next = steps.next_step(step.row, Some(step.child));
+        trace(tree, out, side, conn, &deeper, other)?;
+        next = steps.next_step(step);
     }
     Some(())
 }

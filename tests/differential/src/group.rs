@@ -7,6 +7,7 @@ use oracle::{MOST_VISITS, endpoint, group, traced};
 
 use crate::lent::Lent;
 use crate::library;
+use crate::link_table::{LINK_NUMBERS, LinkTable, TOO_FEW_LINKS};
 use crate::listed;
 use crate::tables::Tables;
 use crate::{DIAGNOSTIC_NUMBERS, ROW_NUMBERS};
@@ -14,23 +15,27 @@ use crate::{DIAGNOSTIC_NUMBERS, ROW_NUMBERS};
 /// More comparisons of features than this are not waited for.
 const MOST_COMPARISONS: u64 = 2_000_000;
 
+/// The refusals of this listing.
+pub const REFUSALS: [u64; 5] = [11, 12, 13, 14, TOO_FEW_LINKS];
+
 /// How often what was met, over all sheets.
 #[derive(Default)]
 pub struct Met {
     pub rows: usize,
     pub diagnostics: usize,
     pub calls: usize,
-    /// Calls that were refused 11, 12, 13, 14.
-    pub refused: [usize; 4],
+    /// Calls that were refused, by their refusal.
+    pub refused: [usize; REFUSALS.len()],
     /// Models that the original is too long at.
     pub slow: usize,
     /// Models that were listed with other array indices as well.
     pub other_indices: usize,
 }
 
-/// The lengths of the three outputs.
+/// The lengths of the four outputs.
 #[derive(Clone, Copy)]
 pub struct Lengths {
+    pub links: usize,
     pub rows: usize,
     pub names: usize,
     pub diagnostics: usize,
@@ -56,7 +61,9 @@ pub fn expected(sheet: &Sheet, renames: Renames) -> Option<Result<Listing, u64>>
 /// Compares the two on a sheet, with outputs of every telling size.
 pub fn compare(sheet: &Sheet, renames: Renames, met: &mut Met) -> Result<(), String> {
     let tables = Tables::of(sheet);
+    let links = LinkTable::of(sheet);
     let conlist = Lengths {
+        links: links.length(),
         rows: 64 * ROW_NUMBERS,
         names: 4096,
         diagnostics: 64 * DIAGNOSTIC_NUMBERS,
@@ -64,12 +71,13 @@ pub fn compare(sheet: &Sheet, renames: Renames, met: &mut Met) -> Result<(), Str
     let listing = match expected(sheet, renames) {
         None => {
             met.slow += 1;
-            return Ok(());
+            return too_few_links(&tables, conlist, met);
         }
         Some(Err(number)) => {
             refused(
                 &tables,
                 Lengths {
+                    links: links.length(),
                     rows: 0,
                     names: 0,
                     diagnostics: 0,
@@ -77,37 +85,42 @@ pub fn compare(sheet: &Sheet, renames: Renames, met: &mut Met) -> Result<(), Str
                 number,
                 met,
             )?;
-            return refused(&tables, conlist, number, met);
+            refused(&tables, conlist, number, met)?;
+            return too_few_links(&tables, conlist, met);
         }
         Some(Ok(listing)) => listing,
     };
     met.rows += listing.rows.len();
     met.diagnostics += listing.diagnostics.len();
     let exact = Lengths {
+        links: links.length(),
         rows: listing.rows.len() * ROW_NUMBERS,
         names: composed_bytes(&listing),
         diagnostics: listing.diagnostics.len() * DIAGNOSTIC_NUMBERS,
     };
-    listed(&tables, exact, &listing, met)?;
+    listed(&tables, exact, &links, &listing, met)?;
     let more = Lengths {
+        links: exact.links + LINK_NUMBERS - 1,
         rows: exact.rows + ROW_NUMBERS - 1,
         names: exact.names + 1,
         diagnostics: exact.diagnostics + DIAGNOSTIC_NUMBERS - 1,
     };
-    listed(&tables, more, &listing, met)?;
+    listed(&tables, more, &links, &listing, met)?;
     let huge = Lengths {
+        links: exact.links + 1000,
         rows: exact.rows + 100 * ROW_NUMBERS,
         names: exact.names + 10_000,
         diagnostics: exact.diagnostics + 1000,
     };
-    listed(&tables, huge, &listing, met)?;
-    listed(&tables.with_more_names(), exact, &listing, met)?;
-    listed(&tables.with_large_places(), exact, &listing, met)?;
+    listed(&tables, huge, &links, &listing, met)?;
+    listed(&tables.with_more_names(), exact, &links, &listing, met)?;
+    listed(&tables.with_large_places(), exact, &links, &listing, met)?;
     if let Some(other) = tables.with_other_indices() {
         met.other_indices += 1;
-        listed(&other, exact, &listing, met)?;
+        listed(&other, exact, &links, &listing, met)?;
     }
-    too_short(&tables, exact, met)
+    too_short(&tables, exact, met)?;
+    too_few_links(&tables, exact, met)
 }
 
 /// Each output one too short, alone and with the others: 11 stands before 14, and 14 before 12.
@@ -119,6 +132,7 @@ fn too_short(tables: &Tables, exact: Lengths, met: &mut Met) -> Result<(), Strin
         rows: exact.rows - usize::from(rows && no_rows),
         names: exact.names - usize::from(names && no_names),
         diagnostics: exact.diagnostics - usize::from(diagnostics && no_diagnostics),
+        ..exact
     };
     if no_rows {
         refused(tables, less(true, false, false), 11, met)?;
@@ -132,8 +146,24 @@ fn too_short(tables: &Tables, exact: Lengths, met: &mut Met) -> Result<(), Strin
     Ok(())
 }
 
+/// Links one number too short, and none, the other outputs long enough and without a place: 22 stands before 11 to 14.
+fn too_few_links(tables: &Tables, enough: Lengths, met: &mut Met) -> Result<(), String> {
+    for links in [enough.links - 1, 0] {
+        refused(tables, Lengths { links, ..enough }, TOO_FEW_LINKS, met)?;
+        let no_place = Lengths {
+            links,
+            rows: 0,
+            names: 0,
+            diagnostics: 0,
+        };
+        refused(tables, no_place, TOO_FEW_LINKS, met)?;
+    }
+    Ok(())
+}
+
 struct Called {
     told: [u64; 3],
+    links: Lent<u32>,
     rows: Lent<u32>,
     names: Lent<u8>,
     diagnostics: Lent<u32>,
@@ -143,12 +173,14 @@ fn run(tables: &Tables, lengths: Lengths) -> Result<Called, String> {
     let before = tables.clone();
     let mut called = Called {
         told: [u64::MAX; 3],
+        links: Lent::of_length(lengths.links),
         rows: Lent::of_length(lengths.rows),
         names: Lent::of_length(lengths.names),
         diagnostics: Lent::of_length(lengths.diagnostics),
     };
     called.told = library::expand_feature_group_connections(
         tables,
+        called.links.lend(),
         called.rows.lend(),
         called.names.lend(),
         called.diagnostics.lend(),
@@ -162,7 +194,8 @@ fn run(tables: &Tables, lengths: Lengths) -> Result<Called, String> {
 
 fn refused(tables: &Tables, lengths: Lengths, number: u64, met: &mut Met) -> Result<(), String> {
     met.calls += 1;
-    met.refused[number as usize - 11] += 1;
+    let place = REFUSALS.iter().position(|&own| own == number);
+    met.refused[place.expect("a refusal of this listing")] += 1;
     let called = run(tables, lengths)?;
     if called.told != [number, 0, b'-'.into()] {
         return Err(format!(
@@ -170,6 +203,7 @@ fn refused(tables: &Tables, lengths: Lengths, number: u64, met: &mut Met) -> Res
             called.told
         ));
     }
+    called.links.used(0)?;
     called.rows.used(0)?;
     called.names.used(0)?;
     called.diagnostics.used(0)?;
@@ -179,12 +213,14 @@ fn refused(tables: &Tables, lengths: Lengths, number: u64, met: &mut Met) -> Res
 fn listed(
     tables: &Tables,
     lengths: Lengths,
+    links: &LinkTable,
     expected: &Listing,
     met: &mut Met,
 ) -> Result<(), String> {
     met.calls += 1;
     let called = run(tables, lengths)?;
     listed::counts(called.told, expected)?;
+    links.fills(&called.links)?;
     let rows = called.rows.used(expected.rows.len() * ROW_NUMBERS)?;
     let names = called.names.used(composed_bytes(expected))?;
     if rows_of(rows, names)? != expected.rows {

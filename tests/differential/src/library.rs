@@ -1,4 +1,4 @@
-//! The library's calls. A slice crosses as two arguments, its pointer and its length.
+//! The library's calls. A slice crosses as two arguments, its pointer and its length. Each listing takes the link table as its first output.
 
 use oracle::letters::LETTERS;
 
@@ -64,8 +64,18 @@ macro_rules! call {
 
 over_tables!(conlist_check_tables(told: *mut u64));
 over_tables!(conlist_expand_feature_group(out: *mut u32, out_length: usize, from: u32, type_name: u32, inverse: bool, told: *mut u64));
-over_tables!(conlist_compute_semantic_connections(rows: *mut u32, rows_length: usize, diagnostics: *mut u32, diagnostics_length: usize, told: *mut u64));
+over_tables!(conlist_compute_semantic_connections(
+    links: *mut u32,
+    links_length: usize,
+    rows: *mut u32,
+    rows_length: usize,
+    diagnostics: *mut u32,
+    diagnostics_length: usize,
+    told: *mut u64
+));
 over_tables!(conlist_expand_feature_group_connections(
+    links: *mut u32,
+    links_length: usize,
     rows: *mut u32,
     rows_length: usize,
     names: *mut u8,
@@ -75,6 +85,8 @@ over_tables!(conlist_expand_feature_group_connections(
     told: *mut u64
 ));
 over_tables!(conlist_compute_semantic_connections_with_records(
+    links: *mut u32,
+    links_length: usize,
     rows: *mut u32,
     rows_length: usize,
     numbers: *mut u32,
@@ -84,6 +96,8 @@ over_tables!(conlist_compute_semantic_connections_with_records(
     told: *mut u64
 ));
 over_tables!(conlist_expand_feature_group_connections_with_records(
+    links: *mut u32,
+    links_length: usize,
     rows: *mut u32,
     rows_length: usize,
     names: *mut u8,
@@ -95,6 +109,8 @@ over_tables!(conlist_expand_feature_group_connections_with_records(
     told: *mut u64
 ));
 over_tables!(conlist_list_connections_with_records(
+    links: *mut u32,
+    links_length: usize,
     rows: *mut u32,
     rows_length: usize,
     numbers: *mut u32,
@@ -112,6 +128,8 @@ over_tables!(conlist_list_connections_with_records(
     told: *mut u64
 ));
 over_tables!(conlist_list_connections(
+    links: *mut u32,
+    links_length: usize,
     rows: *mut u32,
     rows_length: usize,
     diagnostics: *mut u32,
@@ -171,6 +189,7 @@ pub fn expand_feature_group(
 /// 0, the rows and the diagnostics, or a refusal's number, place and letter.
 pub fn compute_semantic_connections(
     tables: &Tables,
+    links: &mut [u32],
     rows: &mut [u32],
     diagnostics: &mut [u32],
 ) -> [u64; 3] {
@@ -180,6 +199,8 @@ pub fn compute_semantic_connections(
         call!(
             conlist_compute_semantic_connections,
             tables,
+            links.as_mut_ptr(),
+            links.len(),
             rows.as_mut_ptr(),
             rows.len(),
             diagnostics.as_mut_ptr(),
@@ -193,6 +214,7 @@ pub fn compute_semantic_connections(
 /// 0, the rows and the diagnostics, or a refusal's number, place and letter.
 pub fn expand_feature_group_connections(
     tables: &Tables,
+    links: &mut [u32],
     rows: &mut [u32],
     names: &mut [u8],
     diagnostics: &mut [u32],
@@ -203,6 +225,8 @@ pub fn expand_feature_group_connections(
         call!(
             conlist_expand_feature_group_connections,
             tables,
+            links.as_mut_ptr(),
+            links.len(),
             rows.as_mut_ptr(),
             rows.len(),
             names.as_mut_ptr(),
@@ -215,7 +239,7 @@ pub fn expand_feature_group_connections(
     told
 }
 
-/// The outputs of both listings.
+/// The outputs of both listings, but for the link table, which they share.
 pub struct Outputs<'a> {
     pub rows: &'a mut [u32],
     pub diagnostics: &'a mut [u32],
@@ -225,13 +249,15 @@ pub struct Outputs<'a> {
 }
 
 /// 0 and the rows and diagnostics of the traced and of the group listing, or a refusal's number, place and letter and zeros.
-pub fn list_connections(tables: &Tables, outputs: Outputs) -> [u64; 5] {
+pub fn list_connections(tables: &Tables, links: &mut [u32], outputs: Outputs) -> [u64; 5] {
     let mut told = [u64::MAX; 5];
     // SAFETY: as above.
     unsafe {
         call!(
             conlist_list_connections,
             tables,
+            links.as_mut_ptr(),
+            links.len(),
             outputs.rows.as_mut_ptr(),
             outputs.rows.len(),
             outputs.diagnostics.as_mut_ptr(),
@@ -251,6 +277,7 @@ pub fn list_connections(tables: &Tables, outputs: Outputs) -> [u64; 5] {
 /// As `compute_semantic_connections`, with records.
 pub fn compute_semantic_connections_with_records(
     tables: &Tables,
+    links: &mut [u32],
     rows: &mut [u32],
     numbers: &mut [u32],
     records: &mut [Diagnostic],
@@ -261,6 +288,8 @@ pub fn compute_semantic_connections_with_records(
         call!(
             conlist_compute_semantic_connections_with_records,
             tables,
+            links.as_mut_ptr(),
+            links.len(),
             rows.as_mut_ptr(),
             rows.len(),
             numbers.as_mut_ptr(),
@@ -276,6 +305,7 @@ pub fn compute_semantic_connections_with_records(
 /// As `expand_feature_group_connections`, with records.
 pub fn expand_feature_group_connections_with_records(
     tables: &Tables,
+    links: &mut [u32],
     rows: &mut [u32],
     names: &mut [u8],
     numbers: &mut [u32],
@@ -287,6 +317,8 @@ pub fn expand_feature_group_connections_with_records(
         call!(
             conlist_expand_feature_group_connections_with_records,
             tables,
+            links.as_mut_ptr(),
+            links.len(),
             rows.as_mut_ptr(),
             rows.len(),
             names.as_mut_ptr(),
@@ -304,6 +336,7 @@ pub fn expand_feature_group_connections_with_records(
 /// As `list_connections`, with records for the diagnostics of each listing.
 pub fn list_connections_with_records(
     tables: &Tables,
+    links: &mut [u32],
     outputs: Outputs,
     records: &mut [Diagnostic],
     group_records: &mut [Diagnostic],
@@ -314,6 +347,8 @@ pub fn list_connections_with_records(
         call!(
             conlist_list_connections_with_records,
             tables,
+            links.as_mut_ptr(),
+            links.len(),
             outputs.rows.as_mut_ptr(),
             outputs.rows.len(),
             outputs.diagnostics.as_mut_ptr(),

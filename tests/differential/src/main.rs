@@ -5,6 +5,8 @@
 //! `differential --modes [COUNT] [FIRST]`: compares nothing but selections of modes, on COUNT models that are generated for that. All of
 //! them have to have modes, and a tenth has to be cut.
 //! `differential --stream`: holds it to the texts of a stream of cases on standard input.
+//! `differential --links`: holds its link tables to those of a stream of cases on standard input, accepted sheets each with a line of
+//! two numbers for every component in place of a text; and to a scan by place on models that are larger than a sheet.
 //!
 //! Each model is handed over as a sheet and as tables, with outputs that are exactly full, one number too short, a little too long
 //! and far too long, full of rubbish before the call and with guards around them.
@@ -15,6 +17,8 @@ mod expansion;
 mod group;
 mod lent;
 mod library;
+mod link_table;
+mod links;
 mod listed;
 mod modes;
 mod records;
@@ -154,12 +158,13 @@ impl Met {
             self.generated_cut,
         );
         println!(
-            "traced listing: {} rows, {} diagnostics; {} calls, {} refused 11, {} refused 12, {} models without end for the original",
+            "traced listing: {} rows, {} diagnostics; {} calls, {} refused 11, {} refused 12, {} refused 22, {} models without end for the original",
             traced.rows,
             traced.diagnostics,
             traced.calls,
             traced.refused_11,
             traced.refused_12,
+            traced.refused_22,
             traced.endless,
         );
         println!(
@@ -171,16 +176,24 @@ impl Met {
             expansion.refused_13,
         );
         println!(
-            "group listing: {} rows, {} diagnostics; {} calls, refused 11, 12, 13, 14: {:?}; {} models that the original is too long at",
-            group.rows, group.diagnostics, group.calls, group.refused, group.slow,
+            "group listing: {} rows, {} diagnostics; {} calls, refused {:?}: {:?}; {} models that the original is too long at",
+            group.rows,
+            group.diagnostics,
+            group.calls,
+            group::REFUSALS,
+            group.refused,
+            group.slow,
         );
         println!(
-            "both listings in one call: {} calls, {} refused",
-            self.both.calls, self.both.refused,
+            "both listings in one call: {} calls, {} refused, {} refused 22",
+            self.both.calls, self.both.refused, self.both.refused_22,
         );
         println!(
-            "diagnostics as records: {} calls, {} records, {} refused 12",
-            self.records.calls, self.records.records, self.records.refused_12,
+            "diagnostics as records: {} calls, {} records, {} refused 12, {} refused 22",
+            self.records.calls,
+            self.records.records,
+            self.records.refused_12,
+            self.records.refused_22,
         );
         println!(
             "array indices: {} models in the traced and {} in the group listing with other bits as well; {} tables refused for their numbers",
@@ -211,6 +224,7 @@ impl Met {
             && traced.rows > 0
             && traced.diagnostics > 0
             && traced.endless > 0
+            && traced.refused_22 > 0
             && expansion.features > 0
             && expansion.refused_13 > 0
             && self.group.rows > 0
@@ -222,17 +236,24 @@ impl Met {
             && self.modes.is_whole()
             && self.records.records > 0
             && self.records.refused_12 > 0
+            && self.records.refused_22 > 0
+            && self.both.refused_22 > 0
             && self.text.refused > 0
     }
 }
 
 /// The cases on standard input.
-fn known_texts() -> ExitCode {
+fn given() -> Vec<Case> {
     let mut bytes = Vec::new();
     std::io::stdin().read_to_end(&mut bytes).expect("a stream");
+    stream::read(&bytes).expect("a stream")
+}
+
+/// The cases on standard input with their texts.
+fn known_texts() -> ExitCode {
     let mut met = damaged::Met::default();
     let (mut cases, mut differing) = (0, 0);
-    for case in stream::read(&bytes).expect("a stream") {
+    for case in given() {
         cases += 1;
         if let Err(what) = damaged::compare(&case, &mut met) {
             println!("DIFFERS {}: {what}", case.label);
@@ -244,6 +265,28 @@ fn known_texts() -> ExitCode {
         met.refused, met.unaccepted.refused, met.read, met.text.calls, met.unaccepted.calls,
     );
     if differing == 0 && cases > 0 {
+        ExitCode::SUCCESS
+    } else {
+        ExitCode::FAILURE
+    }
+}
+
+/// The cases on standard input with their link tables.
+fn known_links() -> ExitCode {
+    let (mut met, mut differing) = (links::Met::default(), 0);
+    for case in given() {
+        if let Err(what) = links::compare(&case, &mut met) {
+            println!("DIFFERS {}: {what}", case.label);
+            differing += 1;
+        }
+    }
+    if let Err(what) = links::compare_large(&mut met) {
+        println!("DIFFERS {what}");
+        differing += 1;
+    }
+    met.print();
+    println!("{} models with links, {differing} differ", met.models);
+    if differing == 0 && met.is_whole() {
         ExitCode::SUCCESS
     } else {
         ExitCode::FAILURE
@@ -297,9 +340,10 @@ fn main() -> ExitCode {
         ("", Some((count, first))) => all(count, first),
         ("--modes", Some((count, first))) => modes_alone(count, first),
         ("--stream", _) if numbers.is_empty() => known_texts(),
+        ("--links", _) if numbers.is_empty() => known_links(),
         _ => {
             eprintln!(
-                "usage: differential [--modes] [COUNT] [FIRST], or differential --stream < CASES"
+                "usage: differential [--modes] [COUNT] [FIRST], or differential --stream < CASES, or differential --links < CASES"
             );
             ExitCode::from(2)
         }

@@ -1,10 +1,12 @@
 //! The listings that fill the caller's records: each gives what the call over numbers gives in the room that the records and the
-//! numbers lent for them leave, with the diagnostics in both. The calls over numbers are compared with the original elsewhere.
+//! numbers lent for them leave, with the diagnostics in both and the same link table. The calls over numbers are compared with the original
+//! elsewhere.
 
 use oracle::sheet::Sheet;
 
 use crate::lent::Lent;
 use crate::library::{self, Diagnostic, Outputs};
+use crate::link_table::{LINK_NUMBERS, LinkTable, TOO_FEW_LINKS};
 use crate::tables::Tables;
 use crate::{DIAGNOSTIC_NUMBERS, ROW_NUMBERS};
 
@@ -14,6 +16,7 @@ pub struct Met {
     pub calls: usize,
     pub records: usize,
     pub refused_12: usize,
+    pub refused_22: usize,
 }
 
 /// How much is lent for the diagnostics of a listing.
@@ -104,98 +107,155 @@ impl Rows {
     }
 }
 
-/// Compares the calls with records with those over numbers: with room around as many diagnostics as there are, and with few rows.
+/// How much is lent for the links, and how many rows of each listing.
+#[derive(Clone, Copy)]
+struct Lengths {
+    links: usize,
+    rows: usize,
+}
+
+/// The tables of a model, and the link table that is due for it.
+struct Model {
+    tables: Tables,
+    links: LinkTable,
+}
+
+/// Compares the calls with records with those over numbers: with room around as many diagnostics as there are, and with few rows; and sees
+/// that they refuse too few links before all that they refuse of a list.
 pub fn compare(sheet: &Sheet, met: &mut Met) -> Result<(), String> {
-    let tables = Tables::of(sheet);
+    let model = Model {
+        tables: Tables::of(sheet),
+        links: LinkTable::of(sheet),
+    };
+    let exact = model.links.length();
+    let mut links = Lent::of_length(exact);
     let (mut own, mut numbers) = (Rows::of(64), Lent::of_length(64 * DIAGNOSTIC_NUMBERS));
-    let traced = library::compute_semantic_connections(&tables, own.rows.lend(), numbers.lend());
+    let traced = library::compute_semantic_connections(
+        &model.tables,
+        links.lend(),
+        own.rows.lend(),
+        numbers.lend(),
+    );
     let group = library::expand_feature_group_connections(
-        &tables,
+        &model.tables,
+        links.lend(),
         own.rows.lend(),
         own.names.lend(),
         numbers.lend(),
     );
     let around = |told: [u64; 3]| Room::around(if told[0] == 0 { told[2] as usize } else { 2 });
     let (traced, group) = (around(traced), around(group));
+    let links = [exact, exact + LINK_NUMBERS - 1, exact + 1000];
     for k in 0..traced.len().max(group.len()) {
         let (of_traced, of_group) = (traced[k % traced.len()], group[k % group.len()]);
-        agree(&tables, 64, of_traced, of_group, met)?;
+        let lengths = Lengths {
+            links: links[k % links.len()],
+            rows: 64,
+        };
+        agree(&model, lengths, of_traced, of_group, met)?;
     }
-    agree(&tables, 3, traced[0], group[0], met)
+    let few = Lengths {
+        links: exact,
+        rows: 3,
+    };
+    agree(&model, few, traced[0], group[0], met)?;
+    for (links, rows) in [(exact - 1, 64), (exact - 1, 0), (0, 64), (0, 0)] {
+        met.calls += 3;
+        met.refused_22 += 3;
+        let refusal = [TOO_FEW_LINKS, 0, b'-'.into()];
+        all_refuse(&model.tables, Lengths { links, rows }, refusal)?;
+    }
+    Ok(())
 }
 
 /// All three, with these rooms; both listings twice, each time with much room for the other's diagnostics.
 fn agree(
-    tables: &Tables,
-    rows: usize,
+    model: &Model,
+    lengths: Lengths,
     traced: Room,
     group: Room,
     met: &mut Met,
 ) -> Result<(), String> {
-    traced_agrees(tables, rows, traced, met)
+    traced_agrees(model, lengths, traced, met)
         .map_err(|what| format!("records of the traced listing: {what}"))?;
-    group_agrees(tables, rows, group, met)
+    group_agrees(model, lengths, group, met)
         .map_err(|what| format!("records of the group listing: {what}"))?;
     let much = Room {
         records: 64,
         numbers: 64 * DIAGNOSTIC_NUMBERS,
     };
-    both_agree(tables, rows, traced, much, met)
-        .and_then(|()| both_agree(tables, rows, much, group, met))
+    both_agree(model, lengths, traced, much, met)
+        .and_then(|()| both_agree(model, lengths, much, group, met))
         .map_err(|what| format!("records of both listings: {what}"))
 }
 
-fn traced_agrees(tables: &Tables, rows: usize, room: Room, met: &mut Met) -> Result<(), String> {
-    let (before, mut own, mut filled) = (tables.clone(), Rows::of(rows), Rows::of(rows));
+fn traced_agrees(model: &Model, lengths: Lengths, room: Room, met: &mut Met) -> Result<(), String> {
+    let (tables, before) = (&model.tables, model.tables.clone());
+    let (mut own, mut filled) = (Rows::of(lengths.rows), Rows::of(lengths.rows));
+    let mut own_links = Lent::of_length(lengths.links);
     let mut numbers = Lent::of_length(room.places() * DIAGNOSTIC_NUMBERS);
-    let due = library::compute_semantic_connections(tables, own.rows.lend(), numbers.lend());
-    let mut diagnostics = Diagnostics::of(room);
+    let due = library::compute_semantic_connections(
+        tables,
+        own_links.lend(),
+        own.rows.lend(),
+        numbers.lend(),
+    );
+    let (mut links, mut diagnostics) = (Lent::of_length(lengths.links), Diagnostics::of(room));
     let told = library::compute_semantic_connections_with_records(
         tables,
+        links.lend(),
         filled.rows.lend(),
         diagnostics.numbers.lend(),
         diagnostics.records.lend(),
     );
     expect(&told, &due, *tables == before, met)?;
+    model.links.is_left(&links, &told)?;
     filled.same(&own)?;
     diagnostics.hold(written(&numbers, told[0], told[2])?, met)
 }
 
-fn group_agrees(tables: &Tables, rows: usize, room: Room, met: &mut Met) -> Result<(), String> {
-    let (before, mut own, mut filled) = (tables.clone(), Rows::of(rows), Rows::of(rows));
+fn group_agrees(model: &Model, lengths: Lengths, room: Room, met: &mut Met) -> Result<(), String> {
+    let (tables, before) = (&model.tables, model.tables.clone());
+    let (mut own, mut filled) = (Rows::of(lengths.rows), Rows::of(lengths.rows));
+    let mut own_links = Lent::of_length(lengths.links);
     let mut numbers = Lent::of_length(room.places() * DIAGNOSTIC_NUMBERS);
     let due = library::expand_feature_group_connections(
         tables,
+        own_links.lend(),
         own.rows.lend(),
         own.names.lend(),
         numbers.lend(),
     );
-    let mut diagnostics = Diagnostics::of(room);
+    let (mut links, mut diagnostics) = (Lent::of_length(lengths.links), Diagnostics::of(room));
     let told = library::expand_feature_group_connections_with_records(
         tables,
+        links.lend(),
         filled.rows.lend(),
         filled.names.lend(),
         diagnostics.numbers.lend(),
         diagnostics.records.lend(),
     );
     expect(&told, &due, *tables == before, met)?;
+    model.links.is_left(&links, &told)?;
     filled.same(&own)?;
     diagnostics.hold(written(&numbers, told[0], told[2])?, met)
 }
 
 fn both_agree(
-    tables: &Tables,
-    rows: usize,
+    model: &Model,
+    lengths: Lengths,
     traced: Room,
     group: Room,
     met: &mut Met,
 ) -> Result<(), String> {
-    let before = tables.clone();
-    let (mut own, mut own_group) = (Rows::of(rows), Rows::of(rows));
+    let (tables, before) = (&model.tables, model.tables.clone());
+    let (mut own, mut own_group) = (Rows::of(lengths.rows), Rows::of(lengths.rows));
+    let mut own_links = Lent::of_length(lengths.links);
     let mut numbers = Lent::of_length(traced.places() * DIAGNOSTIC_NUMBERS);
     let mut group_numbers = Lent::of_length(group.places() * DIAGNOSTIC_NUMBERS);
     let due = library::list_connections(
         tables,
+        own_links.lend(),
         Outputs {
             rows: own.rows.lend(),
             diagnostics: numbers.lend(),
@@ -204,11 +264,13 @@ fn both_agree(
             group_diagnostics: group_numbers.lend(),
         },
     );
-    let (mut filled, mut filled_group) = (Rows::of(rows), Rows::of(rows));
+    let (mut filled, mut filled_group) = (Rows::of(lengths.rows), Rows::of(lengths.rows));
+    let mut links = Lent::of_length(lengths.links);
     let (mut diagnostics, mut group_diagnostics) =
         (Diagnostics::of(traced), Diagnostics::of(group));
     let told = library::list_connections_with_records(
         tables,
+        links.lend(),
         Outputs {
             rows: filled.rows.lend(),
             diagnostics: diagnostics.numbers.lend(),
@@ -220,6 +282,7 @@ fn both_agree(
         group_diagnostics.records.lend(),
     );
     expect(&told, &due, *tables == before, met)?;
+    model.links.is_left(&links, &told)?;
     filled.same(&own)?;
     filled_group.same(&own_group)?;
     diagnostics.hold(written(&numbers, told[0], told[2])?, met)?;
@@ -246,34 +309,49 @@ fn written(numbers: &Lent<u32>, refused: u64, count: u64) -> Result<&[u32], Stri
     numbers.used(count * DIAGNOSTIC_NUMBERS)
 }
 
-/// Tables that are not accepted: each of the three calls gives their refusal and leaves zeros.
-pub fn refused(tables: &Tables, refusal: [u64; 3]) -> Result<(), String> {
+/// Tables that are not accepted: each of the three calls gives their refusal and leaves zeros, with so many numbers of links.
+pub fn refused(tables: &Tables, links: usize, refusal: [u64; 3]) -> Result<(), String> {
+    all_refuse(tables, Lengths { links, rows: 64 }, refusal)
+}
+
+/// Each of the three calls gives this refusal and leaves zeros; there is room for as many diagnostics as rows.
+fn all_refuse(tables: &Tables, lengths: Lengths, refusal: [u64; 3]) -> Result<(), String> {
     let room = Room {
-        records: 64,
-        numbers: 64 * DIAGNOSTIC_NUMBERS,
+        records: lengths.rows,
+        numbers: lengths.rows * DIAGNOSTIC_NUMBERS,
     };
-    let (mut traced, mut diagnostics) = (Rows::of(64), Diagnostics::of(room));
-    let (mut group, mut group_diagnostics) = (Rows::of(64), Diagnostics::of(room));
+    let before = tables.clone();
+    let links = || Lent::of_length(lengths.links);
+    let outputs = || (Rows::of(lengths.rows), Diagnostics::of(room));
+    let (mut traced_links, mut group_links) = (links(), links());
+    let (mut traced, mut diagnostics) = outputs();
+    let (mut group, mut group_diagnostics) = outputs();
     let alone = [
         library::compute_semantic_connections_with_records(
             tables,
+            traced_links.lend(),
             traced.rows.lend(),
             diagnostics.numbers.lend(),
             diagnostics.records.lend(),
         ),
         library::expand_feature_group_connections_with_records(
             tables,
+            group_links.lend(),
             group.rows.lend(),
             group.names.lend(),
             group_diagnostics.numbers.lend(),
             group_diagnostics.records.lend(),
         ),
     ];
+    traced_links.used(0)?;
+    group_links.used(0)?;
     zeros(&traced.rows, &diagnostics, &group, &group_diagnostics)?;
-    let (mut traced, mut diagnostics) = (Rows::of(64), Diagnostics::of(room));
-    let (mut group, mut group_diagnostics) = (Rows::of(64), Diagnostics::of(room));
+    let mut both_links = links();
+    let (mut traced, mut diagnostics) = outputs();
+    let (mut group, mut group_diagnostics) = outputs();
     let both = library::list_connections_with_records(
         tables,
+        both_links.lend(),
         Outputs {
             rows: traced.rows.lend(),
             diagnostics: diagnostics.numbers.lend(),
@@ -284,7 +362,11 @@ pub fn refused(tables: &Tables, refusal: [u64; 3]) -> Result<(), String> {
         diagnostics.records.lend(),
         group_diagnostics.records.lend(),
     );
+    both_links.used(0)?;
     zeros(&traced.rows, &diagnostics, &group, &group_diagnostics)?;
+    if *tables != before {
+        return Err("it changed an input".to_string());
+    }
     let [number, place, letter] = refusal;
     if alone == [refusal; 2] && both == [number, place, letter, 0, 0] {
         Ok(())

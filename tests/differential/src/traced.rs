@@ -7,6 +7,7 @@ use oracle::{model, traced};
 
 use crate::lent::Lent;
 use crate::library;
+use crate::link_table::{LINK_NUMBERS, LinkTable, TOO_FEW_LINKS};
 use crate::listed;
 use crate::tables::Tables;
 use crate::{DIAGNOSTIC_NUMBERS, MOST_ROWS, ROW_NUMBERS};
@@ -19,111 +20,172 @@ pub struct Met {
     pub calls: usize,
     pub refused_11: usize,
     pub refused_12: usize,
+    pub refused_22: usize,
     pub endless: usize,
     /// Models that were listed with other array indices as well.
     pub other_indices: usize,
 }
 
+/// The lengths of the three outputs.
+#[derive(Clone, Copy)]
+struct Lengths {
+    links: usize,
+    rows: usize,
+    diagnostics: usize,
+}
+
 /// Compares the two on a sheet, with outputs of every telling size.
 pub fn compare(sheet: &Sheet, met: &mut Met) -> Result<(), String> {
     let tables = Tables::of(sheet);
+    let links = LinkTable::of(sheet);
     if traced::row_count(sheet) > MOST_ROWS {
         met.endless += 1;
-        return refused(&tables, 64 * ROW_NUMBERS, 64 * DIAGNOSTIC_NUMBERS, 11, met);
+        let conlist = Lengths {
+            links: links.length(),
+            rows: 64 * ROW_NUMBERS,
+            diagnostics: 64 * DIAGNOSTIC_NUMBERS,
+        };
+        refused(&tables, conlist, 11, met)?;
+        return too_few_links(&tables, conlist, met);
     }
     let listing = traced::run(sheet, &mut model::instance(sheet));
     met.rows += listing.rows.len();
     met.diagnostics += listing.diagnostics.len();
-    let rows = listing.rows.len() * ROW_NUMBERS;
-    let diagnostics = listing.diagnostics.len() * DIAGNOSTIC_NUMBERS;
-
-    listed(sheet, &tables, rows, diagnostics, &listing, met)?;
-    let large = tables.with_large_places();
-    listed(sheet, &large, rows, diagnostics, &listing, met)?;
+    let due = Due {
+        sheet,
+        links: &links,
+        listing: &listing,
+    };
+    let exact = Lengths {
+        links: links.length(),
+        rows: listing.rows.len() * ROW_NUMBERS,
+        diagnostics: listing.diagnostics.len() * DIAGNOSTIC_NUMBERS,
+    };
+    listed(&tables, exact, &due, met)?;
+    listed(&tables.with_large_places(), exact, &due, met)?;
     if let Some(other) = tables.with_other_indices() {
         met.other_indices += 1;
-        listed(sheet, &other, rows, diagnostics, &listing, met)?;
+        listed(&other, exact, &due, met)?;
     }
-    let (more_rows, more_diagnostics) =
-        (rows + ROW_NUMBERS - 1, diagnostics + DIAGNOSTIC_NUMBERS - 1);
-    listed(sheet, &tables, more_rows, more_diagnostics, &listing, met)?;
-    listed(
-        sheet,
-        &tables,
-        rows + 100 * ROW_NUMBERS,
-        diagnostics + 1000,
-        &listing,
-        met,
-    )?;
-    if rows > 0 {
-        refused(&tables, rows - 1, diagnostics, 11, met)?;
-        refused(&tables, 0, 0, 11, met)?;
+    let more = Lengths {
+        links: exact.links + LINK_NUMBERS - 1,
+        rows: exact.rows + ROW_NUMBERS - 1,
+        diagnostics: exact.diagnostics + DIAGNOSTIC_NUMBERS - 1,
+    };
+    listed(&tables, more, &due, met)?;
+    let huge = Lengths {
+        links: exact.links + 1000,
+        rows: exact.rows + 100 * ROW_NUMBERS,
+        diagnostics: exact.diagnostics + 1000,
+    };
+    listed(&tables, huge, &due, met)?;
+    too_short(&tables, exact, met)?;
+    too_few_links(&tables, exact, met)
+}
+
+/// Rows or diagnostics one number too short, or both: 11 stands before 12.
+fn too_short(tables: &Tables, exact: Lengths, met: &mut Met) -> Result<(), String> {
+    let less = |rows: usize, diagnostics: usize| Lengths {
+        rows: exact.rows - rows,
+        diagnostics: exact.diagnostics - diagnostics,
+        ..exact
+    };
+    if exact.rows > 0 {
+        refused(tables, less(1, 0), 11, met)?;
+        refused(tables, less(exact.rows, exact.diagnostics), 11, met)?;
     }
-    if diagnostics > 0 {
-        refused(&tables, rows, diagnostics - 1, 12, met)?;
+    if exact.diagnostics > 0 {
+        refused(tables, less(0, 1), 12, met)?;
     }
-    if rows > 0 && diagnostics > 0 {
-        refused(&tables, rows - 1, diagnostics - 1, 11, met)?;
+    if exact.rows > 0 && exact.diagnostics > 0 {
+        refused(tables, less(1, 1), 11, met)?;
     }
     Ok(())
 }
 
+/// Links one number too short, and none, the other outputs long enough and without a place: 22 stands before 11 and 12.
+fn too_few_links(tables: &Tables, enough: Lengths, met: &mut Met) -> Result<(), String> {
+    for links in [enough.links - 1, 0] {
+        refused(tables, Lengths { links, ..enough }, TOO_FEW_LINKS, met)?;
+        let no_place = Lengths {
+            links,
+            rows: 0,
+            diagnostics: 0,
+        };
+        refused(tables, no_place, TOO_FEW_LINKS, met)?;
+    }
+    Ok(())
+}
+
+struct Called {
+    told: [u64; 3],
+    links: Lent<u32>,
+    rows: Lent<u32>,
+    diagnostics: Lent<u32>,
+}
+
 /// A call into outputs of these lengths: what it tells, and the outputs afterwards.
-fn run(
-    tables: &Tables,
-    rows: usize,
-    diagnostics: usize,
-) -> Result<([u64; 3], Lent<u32>, Lent<u32>), String> {
+fn run(tables: &Tables, lengths: Lengths) -> Result<Called, String> {
     let before = tables.clone();
-    let (mut rows, mut diagnostics) = (Lent::of_length(rows), Lent::of_length(diagnostics));
-    let told = library::compute_semantic_connections(tables, rows.lend(), diagnostics.lend());
+    let mut called = Called {
+        told: [u64::MAX; 3],
+        links: Lent::of_length(lengths.links),
+        rows: Lent::of_length(lengths.rows),
+        diagnostics: Lent::of_length(lengths.diagnostics),
+    };
+    called.told = library::compute_semantic_connections(
+        tables,
+        called.links.lend(),
+        called.rows.lend(),
+        called.diagnostics.lend(),
+    );
     if *tables == before {
-        Ok((told, rows, diagnostics))
+        Ok(called)
     } else {
         Err("it changed an input".to_string())
     }
 }
 
-fn refused(
-    tables: &Tables,
-    rows: usize,
-    diagnostics: usize,
-    number: u64,
-    met: &mut Met,
-) -> Result<(), String> {
+fn refused(tables: &Tables, lengths: Lengths, number: u64, met: &mut Met) -> Result<(), String> {
     met.calls += 1;
     match number {
         11 => met.refused_11 += 1,
-        _ => met.refused_12 += 1,
+        12 => met.refused_12 += 1,
+        _ => met.refused_22 += 1,
     }
-    let (told, rows, diagnostics) = run(tables, rows, diagnostics)?;
-    if told != [number, 0, b'-'.into()] {
-        return Err(format!("refusal {number} expected, it told {told:?}"));
+    let called = run(tables, lengths)?;
+    if called.told != [number, 0, b'-'.into()] {
+        return Err(format!(
+            "refusal {number} expected, it told {:?}",
+            called.told
+        ));
     }
-    rows.used(0)?;
-    diagnostics.used(0).map(|_| ())
+    called.links.used(0)?;
+    called.rows.used(0)?;
+    called.diagnostics.used(0).map(|_| ())
 }
 
-fn listed(
-    sheet: &Sheet,
-    tables: &Tables,
-    rows: usize,
-    diagnostics: usize,
-    expected: &Listing,
-    met: &mut Met,
-) -> Result<(), String> {
+/// What is due for a model.
+struct Due<'a> {
+    sheet: &'a Sheet,
+    links: &'a LinkTable,
+    listing: &'a Listing,
+}
+
+fn listed(tables: &Tables, lengths: Lengths, due: &Due, met: &mut Met) -> Result<(), String> {
     met.calls += 1;
-    let (told, rows, diagnostics) = run(tables, rows, diagnostics)?;
-    listed::counts(told, expected)?;
-    let written = rows.used(expected.rows.len() * ROW_NUMBERS)?;
+    let called = run(tables, lengths)?;
+    listed::counts(called.told, due.listing)?;
+    due.links.fills(&called.links)?;
+    let written = called.rows.used(due.listing.rows.len() * ROW_NUMBERS)?;
     let given: Result<Vec<Row>, String> = written
         .chunks(ROW_NUMBERS)
-        .map(|row| row_of(sheet, row))
+        .map(|row| row_of(due.sheet, row))
         .collect();
-    if given? != expected.rows {
+    if given? != due.listing.rows {
         return Err("the rows differ".to_string());
     }
-    listed::diagnostics(&diagnostics, expected)
+    listed::diagnostics(&called.diagnostics, due.listing)
 }
 
 /// A row of the output, its name numbers as names.

@@ -1,5 +1,5 @@
 //! Tables that are not accepted: the checks and every listing give the same refusal, leave zeros in their outputs and their
-//! inputs as they were.
+//! inputs as they were. So do the listings that are lent too few links: the refusal of these stands behind those of tables.
 
 use oracle::letters::{LETTERS, component, mode, name, row_numbers};
 use oracle::listing::REFUSALS_OF_TABLES;
@@ -7,12 +7,16 @@ use oracle::sheet::{NAME_BYTES, Sheet};
 
 use crate::lent::Lent;
 use crate::library::{self, Outputs};
+use crate::link_table::LINK_NUMBERS;
 use crate::modes;
 use crate::records;
 use crate::tables::{LOW, MISSING, PRESENT, Tables};
 use crate::{DIAGNOSTIC_NUMBERS, ROW_NUMBERS};
 
 const ROWS: usize = 4096;
+
+/// What is lent for links: room for more components than any of these tables has, for one only, and none.
+const LINKS: [usize; 3] = [2 * ROWS * LINK_NUMBERS, LINK_NUMBERS, 0];
 
 /// How often what was met, over all sheets.
 #[derive(Default)]
@@ -180,7 +184,7 @@ pub fn refused(tables: &Tables, refusal: Refusal, met: &mut Met) -> Result<(), S
     met.tables += 1;
     let place = REFUSALS_OF_TABLES.iter().position(|&own| own == refusal[0]);
     met.refused[place.expect("a refusal of tables")] += 1;
-    met.calls += 11;
+    met.calls += 5 + 6 * LINKS.len();
     let before = tables.clone();
     expect("check_tables", library::check_tables(tables), refusal)?;
 
@@ -189,27 +193,12 @@ pub fn refused(tables: &Tables, refusal: Refusal, met: &mut Met) -> Result<(), S
     expect("expand_feature_group", told, refusal)?;
     out.used(0)?;
 
-    let (mut rows, mut diagnostics) = outputs();
-    let told = library::compute_semantic_connections(tables, rows.lend(), diagnostics.lend());
-    expect("compute_semantic_connections", told, refusal)?;
-    rows.used(0)?;
-    diagnostics.used(0)?;
-
-    let (mut group_rows, mut group_diagnostics) = outputs();
-    let mut names = Lent::<u8>::of_length(4096);
-    let told = library::expand_feature_group_connections(
-        tables,
-        group_rows.lend(),
-        names.lend(),
-        group_diagnostics.lend(),
-    );
-    expect("expand_feature_group_connections", told, refusal)?;
-    group_rows.used(0)?;
-    names.used(0)?;
-    group_diagnostics.used(0)?;
-
-    both(tables, refusal)?;
-    records::refused(tables, refusal)?;
+    for links in LINKS {
+        traced(tables, links, refusal)?;
+        group(tables, links, refusal)?;
+        both(tables, links, refusal)?;
+        records::refused(tables, links, refusal)?;
+    }
     modes::not_accepted(tables, refusal)?;
     if *tables == before {
         Ok(())
@@ -225,12 +214,47 @@ fn outputs() -> (Lent<u32>, Lent<u32>) {
     )
 }
 
-fn both(tables: &Tables, refusal: Refusal) -> Result<(), String> {
+fn traced(tables: &Tables, links: usize, refusal: Refusal) -> Result<(), String> {
+    let mut links = Lent::of_length(links);
+    let (mut rows, mut diagnostics) = outputs();
+    let told = library::compute_semantic_connections(
+        tables,
+        links.lend(),
+        rows.lend(),
+        diagnostics.lend(),
+    );
+    expect("compute_semantic_connections", told, refusal)?;
+    links.used(0)?;
+    rows.used(0)?;
+    diagnostics.used(0).map(|_| ())
+}
+
+fn group(tables: &Tables, links: usize, refusal: Refusal) -> Result<(), String> {
+    let mut links = Lent::of_length(links);
+    let (mut rows, mut diagnostics) = outputs();
+    let mut names = Lent::<u8>::of_length(4096);
+    let told = library::expand_feature_group_connections(
+        tables,
+        links.lend(),
+        rows.lend(),
+        names.lend(),
+        diagnostics.lend(),
+    );
+    expect("expand_feature_group_connections", told, refusal)?;
+    links.used(0)?;
+    rows.used(0)?;
+    names.used(0)?;
+    diagnostics.used(0).map(|_| ())
+}
+
+fn both(tables: &Tables, links: usize, refusal: Refusal) -> Result<(), String> {
+    let mut links = Lent::of_length(links);
     let (mut rows, mut diagnostics) = outputs();
     let (mut group_rows, mut group_diagnostics) = outputs();
     let mut names = Lent::<u8>::of_length(4096);
     let [number, place, letter, left, over] = library::list_connections(
         tables,
+        links.lend(),
         Outputs {
             rows: rows.lend(),
             diagnostics: diagnostics.lend(),
@@ -243,7 +267,7 @@ fn both(tables: &Tables, refusal: Refusal) -> Result<(), String> {
     if [left, over] != [0, 0] {
         return Err("list_connections told more than a refusal".to_string());
     }
-    for output in [rows, diagnostics, group_rows, group_diagnostics] {
+    for output in [links, rows, diagnostics, group_rows, group_diagnostics] {
         output.used(0)?;
     }
     names.used(0).map(|_| ())

@@ -83,7 +83,9 @@ pub fn put_numbers<T: std::fmt::Display>(text: &mut String, numbers: impl IntoIt
 }
 
 /// The refusals before any listing, which the original does not know: those of
-/// the sheet and its lines, and those of the tables.
+/// the sheet and its lines, and those of the tables. 22, of too few links, is of
+/// the listings alone: `check_tables` does not give it, and no sheet earns it,
+/// since `conlist` lends as many rows of links as of `C`.
 pub const REFUSALS_OF_LINES: [u64; 5] = [1, 2, 3, 4, 5];
 pub const REFUSALS_OF_TABLES: [u64; 6] = [6, 7, 8, 9, 10, 16];
 

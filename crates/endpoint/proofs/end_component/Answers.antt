@@ -1,8 +1,6 @@
--- `endpoint::end_component` meets its contract: a child is the first that its name finds. Assumes nothing.
-use Rattle.lent.specs.Model.{model}
-use Rattle.columns.specs.Side.{side_of}
-use Rattle.endpoint.proofs.Steps.{end_child}
+-- `endpoint::end_component` meets its contract: the owner whose children are looked for is a component. Assumes nothing.
+use Rattle.as5506.proofs.Accepted.{sound}
 use Rattle.endpoint.proofs.end_component.Goals as goal
 
-pub returns : goal.returns
-returns c = end_child (model c.args.m.now) (side_of c.args.side) c.args.i _ _ c.owner_of-owner.ensures c.subcomponent_of-sub.ensures _ _ _ c.if-sub.false c.named.ensures.left c.next.ensures.steps.0
+pub named-requires : goal.named-requires
+named-requires c = rw c.owner_of-owner.ensures ((sound _ c.args.tree.now.linked.ok).owners c.args.i c.requires)

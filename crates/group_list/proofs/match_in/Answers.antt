@@ -5,7 +5,7 @@ use lib.ListN.{length, take, replicate, length-replicate}
 use lib.Seq.{length-take-le}
 use Prim.Native.Nat.{ℕ, ◌≤◌}
 use Rattle.as5506.specs.Tables.{letter_n, count}
-use Rattle.lent.specs.Model.{model}
+use Rattle.child_links.specs.Trees.{of_tree}
 use Rattle.links.proofs.Tables.{into-linked}
 use Rattle.group_list.proofs.match_in.Goals as goal
 
@@ -16,10 +16,9 @@ pub match_connections-requires : goal.match_connections-requires
 match_connections-requires g c =
     let k = c.requires in
     let links = length-replicate {A = ℕ} g.row.ROWS 0 in
-    let names : _ ≡ count (model c.args.m.now) letter_n = front (count (model c.args.m.now) letter_n) g.row.NAMES k.names in
+    let names : _ ≡ count (of_tree c.args.tree.now) letter_n = front (count (of_tree c.args.tree.now) letter_n) g.row.NAMES k.names in
     record {
-      ok = k.ok;
-      linked = into-linked (model c.args.m.now) _ _ _ _ _ _ (record { fits-nested = rw links k.declared; fits-extends = rw links k.types; fits-inverse = rw links k.types }) c.link_groups.ensures;
+      linked = into-linked (of_tree c.args.tree.now) _ _ _ _ _ _ (record { fits-nested = rw links k.declared; fits-extends = rw links k.types; fits-inverse = rw links k.types }) c.link_groups.ensures;
       names = omega (arith, names);
       few = omega (arith, names, k.names, k.few-places);
       room = omega (arith, names, k.names, k.features, length-replicate {A = ℕ} g.row.KEPT 0);

@@ -1,8 +1,7 @@
 -- `group_match::group_connection` meets its contract. The rows of accepted tables are few. Assumes nothing.
 use native.Mathlib.Omega.{arith}
-use Rattle.lent.specs.Model.{model}
 use Rattle.group_match.proofs.Connections.{row_below}
 use Rattle.group_match.proofs.group_connection.Goals as goal
 
 pub overflow_cast-result : goal.overflow_cast-result
-overflow_cast-result c = omega (arith, row_below (model c.args.m.now) c.args.row c.requires.0 c.requires.1)
+overflow_cast-result c = omega (arith, row_below _ c.args.row c.args.tree.now.linked.ok c.requires)

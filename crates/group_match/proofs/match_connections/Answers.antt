@@ -2,7 +2,6 @@
 use mathlib.Core.Path.{refl, ◌∙◌}
 use lib.ListN.{length}
 use Rattle.std.proofs.Common.{rules}
-use Rattle.lent.specs.Model.{model}
 use Rattle.sink.proofs.Buffers.{buffers-then}
 use Rattle.group_match.proofs.Loop.{goes_start, goes_end, goes_past, goes_over, goes_on, all_new, into_over, into_end, room_ready}
 use Rattle.group_match.proofs.match_connections.Goals as goal
@@ -12,18 +11,18 @@ loop-row-init c = record { kept = refl; same = record { memo = refl; out = refl;
 
 pub match_groups-requires : goal.match_groups-requires
 match_groups-requires c =
-    let i = c.loop-row.invariant in room_ready (model c.args.m.now) c.args.links c.args.memo.now c.args.kept.now _ _ c.requires i.goes.names i.kept
+    let i = c.loop-row.invariant in room_ready _ c.args.tree.now.linked.ok c.args.links c.args.memo.now c.args.kept.now _ _ c.requires i.goes.names i.kept
 
 pub returns-in_err-match_groups : goal.returns-in_err-match_groups
 returns-in_err-match_groups c =
     into_over _ _ _ _ c.from_residual.ensures
-    (goes_over (model c.args.m.now) _ _ c.loop-row.row c.loop-row.invariant.goes c.loop-row-test.true _ (c.in-Some.ensures c.args.links c.requires.linked) _ _ c.in_err-match_groups.ensures.matched refl)
-    ∙ all_new (model c.args.m.now) _ _ _ _ c.new.ensures
+    (goes_over _ _ _ c.loop-row.row c.loop-row.invariant.goes c.loop-row-test.true _ (c.in-Some.ensures c.args.links c.requires.linked) _ _ c.in_err-match_groups.ensures.matched refl)
+    ∙ all_new _ _ _ _ _ c.new.ensures
 
 pub loop-row-preserved-in_default : goal.loop-row-preserved-in_default
 loop-row-preserved-in_default c =
     let i = c.loop-row.invariant in
-    record { kept = i.kept; same = i.same; goes = goes_past (model c.args.m.now) _ _ c.loop-row.row i.goes c.loop-row-test.true (c.in_default.ensures c.args.links c.requires.linked) }
+    record { kept = i.kept; same = i.same; goes = goes_past _ _ _ c.loop-row.row i.goes c.loop-row-test.true (c.in_default.ensures c.args.links c.requires.linked) }
 
 pub loop-row-preserved : goal.loop-row-preserved
 loop-row-preserved c =
@@ -32,8 +31,8 @@ loop-row-preserved c =
     record {
       kept = ◌∙◌ {b = length c.loop-row.kept} c.match_groups.auto.kept i.kept;
       same = buffers-then _ _ _ i.same e.same;
-      goes = goes_on (model c.args.m.now) _ _ c.loop-row.row i.goes c.loop-row-test.true _ (c.in-Some.ensures c.args.links c.requires.linked) _ _ e.matched _ refl e.names;
+      goes = goes_on _ _ _ c.loop-row.row i.goes c.loop-row-test.true _ (c.in-Some.ensures c.args.links c.requires.linked) _ _ e.matched _ refl e.names;
     }
 
 pub returns : goal.returns
-returns c = into_end c.loop-row.sink _ _ _ (goes_end (model c.args.m.now) _ _ c.loop-row.row c.loop-row.invariant.goes c.loop-row-test.false) (search rules) (search rules) ∙ all_new (model c.args.m.now) _ _ _ _ c.new.ensures
+returns c = into_end c.loop-row.sink _ _ _ (goes_end _ _ _ c.loop-row.row c.loop-row.invariant.goes c.loop-row-test.false) (search rules) (search rules) ∙ all_new _ _ _ _ _ c.new.ensures

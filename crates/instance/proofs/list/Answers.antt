@@ -1,28 +1,17 @@
 -- `instance::list` meets its contract. Each way out is a law of proofs/Answers.antt. Assumes nothing.
-use Rattle.instance.proofs.Answers.{can-trace, tables-refused, lists-11, lists-12, lists-both}
+use Rattle.as5506.specs.Tables.{letter_c}
+use Rattle.child_links.proofs.Answers.{few-linked}
+use Rattle.instance.proofs.Answers.{links-refused, links-filled}
 use Rattle.instance.proofs.list.Goals as goal
 
-pub returns-in_err-check_tables : goal.returns-in_err-check_tables
-returns-in_err-check_tables c = tables-refused _ _ _ _ c.check_tables.ensures _ c.in_err-check_tables.was _ c.from_residual.ensures.1 _ _
+pub returns-in_err-check_and_link : goal.returns-in_err-check_and_link
+returns-in_err-check_and_link c = links-refused _ _ _ _ _ _ c.check_and_link.ensures _ c.in_err-check_and_link.was _ c.from_residual.ensures.1 _ _
 
-pub trace_connections-requires : goal.trace_connections-requires
-trace_connections-requires c = can-trace _ _ c.check_tables.ensures c.in_ok-check_tables.was
+pub returns-then-m-le-ROWS_LENT : goal.returns-then-m-le-ROWS_LENT
+returns-then-m-le-ROWS_LENT c = links-filled _ _ _ _ _ _ c.check_and_link.ensures c.in_ok-check_and_link.was c.list_linked.ensures
 
-pub returns-in_err-rows : goal.returns-in_err-rows
-returns-in_err-rows c =
-    lists-11 _ _ _ _ c.check_tables.ensures c.in_ok-check_tables.was _ _ c.trace_connections.ensures _ c.from.ensures _ c.ok_or.ensures.value
-    _ c.in_err-rows.was _ c.from_residual-in_err-rows.ensures.1 _ _
-
-pub diagnose_connections-requires : goal.diagnose_connections-requires
-diagnose_connections-requires c = can-trace _ _ c.check_tables.ensures c.in_ok-check_tables.was
-
-pub returns-in_err-diagnostics : goal.returns-in_err-diagnostics
-returns-in_err-diagnostics c =
-    lists-12 _ _ _ _ c.check_tables.ensures c.in_ok-check_tables.was _ _ c.trace_connections.ensures _ c.from.ensures _ c.ok_or.ensures.value
-    _ c.in_ok-rows.was _ _ c.diagnose_connections.ensures _ c.from-2.ensures _ c.ok_or-2.ensures.value
-    _ c.in_err-diagnostics.was _ c.from_residual-in_err-diagnostics.ensures.1 _ _
+pub list_linked-requires-2-clause-room : goal.list_linked-requires-2-clause-room
+list_linked-requires-2-clause-room c = few-linked _ _ (c.check_and_link.ensures.linked c.in_ok-check_and_link.was) letter_c
 
 pub returns : goal.returns
-returns c =
-    lists-both _ _ _ _ c.check_tables.ensures c.in_ok-check_tables.was _ _ c.trace_connections.ensures _ c.from.ensures _ c.ok_or.ensures.value
-    _ c.in_ok-rows.was _ _ c.diagnose_connections.ensures _ c.from-2.ensures _ c.ok_or-2.ensures.value _ c.in_ok-diagnostics.was
+returns c = links-filled _ _ _ _ _ _ c.check_and_link.ensures c.in_ok-check_and_link.was c.list_linked-2.ensures

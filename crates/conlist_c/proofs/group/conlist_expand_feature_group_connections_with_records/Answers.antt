@@ -4,4 +4,4 @@ use Rattle.conlist_c.proofs.Laid.{group-records}
 use Rattle.conlist_c.proofs.group.conlist_expand_feature_group_connections_with_records.Goals as goal
 
 pub returns : goal.returns
-returns c = group-records _ _ _ _ _ _ _ _ _ _ c.expand_for.ensures c.fill_records.ensures
+returns c = group-records _ _ _ _ _ _ _ _ _ _ _ _ c.expand_for.ensures c.fill_records.ensures

@@ -5,4 +5,4 @@ use Rattle.conlist_c.proofs.group.expand_for.Goals as goal
 
 pub returns : goal.returns
 returns c =
-    group-laid _ _ _ _ _ _ _ _ _ _ _ _ (front _ _ _ _ _ c.numbers_for-end.ensures (c.fill.ensures.after (search rules)) c.expand.auto.diagnostics) c.expand.ensures
+    group-laid _ _ _ _ _ _ _ _ _ _ _ _ _ _ (front _ _ _ _ _ c.numbers_for-end.ensures (c.fill.ensures.after (search rules)) c.expand.auto.diagnostics) c.expand.ensures

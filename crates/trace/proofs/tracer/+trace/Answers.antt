@@ -9,15 +9,15 @@ pub returns-in-Destination : goal.returns-in-Destination
 returns-in-Destination t c = ends_destination _ _ _ _ _ _ _ _ _ c.in_default.ensures.begins c.in-Destination.is c.put_row.ensures
 
 pub loop-next-init : goal.loop-next-init
-loop-next-init t c = going_start _ _ _ _ _ _ _ _ _ _ _ c.in-Some.ensures.within c.in-Some.ensures.begins
+loop-next-init t c = going_start _ _ _ _ _ _ c.in-Some.ensures.within c.in-Some.ensures.begins
 
 pub returns-in_err-trace : goal.returns-in_err-trace
-returns-in_err-trace t c = going_full _ _ _ _ _ _ _ _ _ _ c.loop-next.invariant c.in-Some-next.is c.with.ensures c.trace-in-Some-next.ensures c.in_err-trace.was c.from_residual.ensures
+returns-in_err-trace t c = going_full _ _ _ _ _ _ c.loop-next.invariant c.in-Some-next.is c.with.ensures c.trace-in-Some-next.ensures c.in_err-trace.was c.from_residual.ensures
 
 pub loop-next-preserved : goal.loop-next-preserved
 loop-next-preserved t c =
-    going_on _ _ _ _ _ _ _ _ _ _ c.loop-next.invariant c.in-Some-next.is c.with.ensures c.trace-in-Some-next.ensures
+    going_on _ _ _ _ _ _ c.loop-next.invariant c.in-Some-next.is c.with.ensures c.trace-in-Some-next.ensures
     c.in_ok-trace.was c.next_step-next.ensures.within c.next_step-next.ensures.child_value
 
 pub returns : goal.returns
-returns t c = going_end _ _ _ _ _ _ _ _ _ _ c.loop-next.invariant c.in_default-next.is
+returns t c = going_end _ _ _ _ _ _ c.loop-next.invariant c.in_default-next.is

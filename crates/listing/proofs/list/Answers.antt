@@ -1,0 +1,25 @@
+-- `listing::list` meets its contract. Each way out is a law of proofs/Answers.antt. Assumes nothing.
+use Rattle.as5506.specs.Tables.{letter_c}
+use Rattle.child_links.proofs.Answers.{few-linked}
+use Rattle.listing.proofs.Answers.{links-refused, links-filled}
+use Rattle.listing.specs.Answer.{Outputs, outputs}
+use Rattle.listing.proofs.list.Goals as goal
+use Rattle.listing.proofs.list.Goals.{Start}
+
+pub list_linked-requires-2-clause-room : goal.list_linked-requires-2-clause-room
+list_linked-requires-2-clause-room c = few-linked _ _ (c.check_and_link.ensures.linked c.in_ok-check_and_link.was) letter_c
+
+-- the outputs at entry
+abbrev lent : Start → Outputs
+lent s = outputs s.args.links.now s.args.rows.now s.args.diagnostics.now s.args.group_rows.now s.args.names.now s.args.group_diagnostics.now
+
+pub returns-in_err-check_and_link : goal.returns-in_err-check_and_link
+returns-in_err-check_and_link c =
+    links-refused _ (lent (goal.at.returns-in_err-check_and_link c).Start) _ _ c.check_and_link.ensures _ c.in_err-check_and_link.was _ c.from_residual.ensures.1 _
+
+pub returns-then-m-le-ROWS_LENT : goal.returns-then-m-le-ROWS_LENT
+returns-then-m-le-ROWS_LENT c =
+    links-filled _ (lent (goal.at.returns-then-m-le-ROWS_LENT c).Start) _ _ c.check_and_link.ensures c.in_ok-check_and_link.was c.list_linked.ensures
+
+pub returns : goal.returns
+returns c = links-filled _ (lent (goal.at.returns c).Start) _ _ c.check_and_link.ensures c.in_ok-check_and_link.was c.list_linked-2.ensures
