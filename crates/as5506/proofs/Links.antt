@@ -231,8 +231,3 @@ linked-accepted links m t = nil-left (faults m) (links_short links m) t
 -- "No other answer changes": with enough links a listing is refused as before
 pub enough-links : (links : ℕ) (m : Tables) → c_count m ≤ links → faults_linked links m ≡ faults m
 enough-links links m h = ap (λ (b : Bool). faults m ++ fault 22 b) (le-ltb links (c_count m) h) ∙ append-nil (faults m)
-
--- and not at all where the tables are accepted
-pub none-linked : (links : ℕ) (m : Tables) → T (accepted m) → c_count m ≤ links → T (is_nil (faults_linked links m))
-unfolding accepted
-none-linked links m t h = subst (λ (fs : List Refusal). T (is_nil fs)) (sym (enough-links links m h)) t

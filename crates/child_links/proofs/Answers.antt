@@ -1,43 +1,33 @@
 -- What the answer of the call that checks tables and links their components tells a caller. Assumes nothing.
-use mathlib.Core.Path.{◌≡◌, refl, sym, ap, ◌∙◌, subst}
+use mathlib.Core.Path.{◌≡◌, sym, ap, ◌∙◌, subst}
 use mathlib.Core.List.{List, [], ◌∷◌}
 use Prim.Native.Nat.{ℕ, ◌≤◌}
 use lib.Dec.{T}
 use lib.ListN.{length}
-use Rattle.std.specs.Prelude.{Result, Ok, Err}
+use Rattle.std.specs.Prelude.{Ok, Err}
 use Rattle.as5506.specs.declared.Refusal.{Refusal as Told}
 use Rattle.as5506.specs.Tables.{Tables, Letter, count}
-use Rattle.as5506.specs.Answers.{Refusal, Answer, given, refused, told, handed, unless_faults}
+use Rattle.as5506.specs.Answers.{Refusal, Answer, given, refused, told}
 use Rattle.as5506.specs.Lists.{padded}
 use Rattle.as5506.specs.Links.{link_table, WalkGivesChildren}
 use Rattle.as5506.specs.Listing.{faults_linked}
 use Rattle.as5506.specs.Layout.{links_in, links_of, output}
-use Rattle.as5506.proofs.Answers.{is_given, ok-not-err, err-same}
+use Rattle.as5506.proofs.Answers.{is_given}
 use Rattle.as5506.proofs.Links.{walk-gives-children}
 use Rattle.tables.proofs.Facts.{facts}
+use Rattle.tables.specs.Answer.{Checked}
+use Rattle.tables.proofs.Answers.{none-is, refused-is}
 use Rattle.child_links.specs.Linked.{Linked, LinkedInto}
 
-module _ (m : Tables) (t : List ℕ) (z : Result (Unit {0}) Told) (t' : List ℕ) (w : LinkedInto m t z t') where
+module _ (m : Tables) (t : List ℕ) (z : Checked) (t' : List ℕ) (w : LinkedInto m t z t') where
   -- nothing refuses the tables or the link table
   pub accepted-is : z ≡ Ok tt → faults_linked (links_in (length t)) m ≡ []
-  accepted-is f = go (faults_linked (links_in (length t)) m) (sym w.answer ∙ f)
-    where
-      go : (fs : List Refusal) → handed (λ (u : Unit {0}). u) (unless_faults fs tt) ≡ Ok tt → fs ≡ []
-      go [] h = refl
-      go (x ∷ fs) h = absurd (ok-not-err tt (told x) (sym h))
+  accepted-is f = none-is (faults_linked (links_in (length t)) m) z w.answer f
 
-  -- they are refused for the first of their faults
-  pub refused-is : (r : Told) → z ≡ Err r → (x : Refusal) × (fs : List Refusal) × (faults_linked (links_in (length t)) m ≡ x ∷ fs) × (r ≡ told x)
-  refused-is r f = go (faults_linked (links_in (length t)) m) (sym w.answer ∙ f)
-    where
-      go : (gs : List Refusal) → handed (λ (u : Unit {0}). u) (unless_faults gs tt) ≡ Err r → (x : Refusal) × (fs : List Refusal) × (gs ≡ x ∷ fs) × (r ≡ told x)
-      go [] h = absurd (ok-not-err tt r h)
-      go (x ∷ fs) h = (x, fs, refl, sym (err-same (told x) r h))
-
-  -- so whatever goes on where there is no fault, and else is refused for the first, is refused so
+  -- whatever goes on where there is no fault, and else is refused for the first, is refused so
   pub refused-on : {A : Type 0} (on : List Refusal → Answer A) → ((x : Refusal) (fs : List Refusal) → on (x ∷ fs) ≡ refused x)
       → (r : Told) → z ≡ Err r → (x : Refusal) × (on (faults_linked (links_in (length t)) m) ≡ refused x) × (r ≡ told x)
-  refused-on on first r f = let fs = refused-is r f in (fs.0, ap on fs.2 ∙ first fs.0 fs.1, fs.3)
+  refused-on on first r f = let fs = refused-is (faults_linked (links_in (length t)) m) z w.answer r f in (fs.0, ap on fs.2 ∙ first fs.0 fs.1, fs.3)
 
 -- ---- the links that a listing hands back
 

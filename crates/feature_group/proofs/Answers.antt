@@ -127,7 +127,7 @@ module _ (m : Tables) (from name : ℕ) (inverse : Bool) (out : List ℕ) (q : C
   pub tables_refused : (r : Told) → q ≡ Err r → (z : Result Expanded Told) → IsErrAnd z (λ y. y ≡ r) → (out' : List ℕ) → Gives (answer_for m out from name inverse) out z out'
   unfolding expand_answer expand_on
   tables_refused r f z h out' =
-      let first = refused-is m q e r f in
+      let first = refused-is (faults m) q e r f in
       gives-refused (answer_for m out from name inverse) first.0
       (ap (expand_on (length out / feature_numbers) (expand_feature_group m from name inverse)) first.2) r first.3 z h out out'
 

@@ -51,7 +51,7 @@ module _ (m : Tables) where
 
     pub count_refused : (r : Told) → q ≡ Err r → Err r ≡ handed modes_told (modes_answer m)
     unfolding modes_answer modes_on
-    count_refused r f = let s = refused-is m q e r f in ap Err s.3 ∙ sym (ap (λ (fs : List Refusal). handed modes_told (modes_on m fs)) s.2)
+    count_refused r f = let s = refused-is (faults m) q e r f in ap Err s.3 ∙ sym (ap (λ (fs : List Refusal). handed modes_told (modes_on m fs)) s.2)
 
     pub count_given : q ≡ Ok tt → (z : Modes) → z ≡ modes_told (modes_counted m) → Ok z ≡ handed modes_told (modes_answer m)
     count_given f z h = ap Ok h ∙ sym (ap (handed modes_told) (counted-answer (accepted-is m q e f)))
@@ -66,7 +66,7 @@ module _ (m : Tables) where
       pub select_refused : (r : Told) → q ≡ Err r → (z : Result Selected Told) → z ≡ Err r → (rows' name' : List ℕ) → Selects wanted rows name z rows' name'
       unfolding selection_answer selection_on
       select_refused r f z g rows' name' =
-          let s = refused-is m q e r f in
+          let s = refused-is (faults m) q e r f in
           let i : wanted ≡ refused s.0 = ap (selection_on (length rows) (length name) m k) s.2 in
           record {
             answer = g ∙ ap Err s.3 ∙ sym (ap (handed selected) i);

@@ -10,6 +10,7 @@ ghost use Rattle.output.specs.Blocks.{Wrote};
 ghost use Rattle.semantic.specs.Rows.{BothAlong, EndsAlong};
 ghost use Rattle.semantic.specs.Diagnostics.{code_of, no_child_code, none_on, diags_across, diags_from};
 
+use super::found::count;
 use super::{Connection, Ends, Fault};
 use as5506::DIAGNOSTIC_NUMBERS;
 use children::Children;
@@ -93,7 +94,7 @@ impl<'a> Connection<'a> {
         self.diagnose_side(out, Side::Destination, destinations)?;
         match pattern {
             ConnectionPattern::OneToOne => {
-                self.diagnose_unequal(out, self.count(sources), self.count(destinations))
+                self.diagnose_unequal(out, count(sources), count(destinations))
             }
             ConnectionPattern::AllToAll => Some(()),
         }

@@ -6,7 +6,7 @@ ghost use Rattle.child_links.specs.Trees.{of_tree};
 ghost use Rattle.columns.specs.Side.{side_of};
 ghost use Rattle.name.specs.Pattern.{says_one_to_one};
 ghost use Rattle.children.specs.Found.{children_left};
-ghost use Rattle.semantic.specs.Rows.{edge_of, component_of, limit_of, Along};
+ghost use Rattle.semantic.specs.Rows.{edge_of, component_of, limit_of};
 ghost use Rattle.semantic.specs.Ends.{Names, EndsOf};
 
 use super::{Connection, Ends, Start};
@@ -49,14 +49,6 @@ impl<'a> Connection<'a> {
     {
         let wanted = connection::subcomponent_of(self.tree.m, side, self.row);
         children::named(self.tree, self.owner(), wanted)
-    }
-
-    // How many children are left to an iterator.
-    pub fn count(&self, children: Children<'a>) -> u32
-        requires { Along (of_tree self.now.tree.now) children }
-        ensures { result ≡ length (children_left children.entry) }
-    {
-        children.count() as u32
     }
 
     // What it is where it has a subcomponent on the side only: nothing, if its owner has a parent.
@@ -110,6 +102,14 @@ impl<'a> Connection<'a> {
             (false, false) => Ends::Nothing,
         }
     }
+}
+
+// How many children are left to an iterator.
+pub fn count(children: Children) -> u32
+    requires { length (children_left children) ≤ 4096 }
+    ensures { result ≡ length (children_left children.entry) }
+{
+    children.count() as u32
 }
 
 impl Start {

@@ -56,7 +56,7 @@ impl<'a> Steps<'a> {
     // The first step over a row from X row `row` on, if there is one.
     #[tactic(auto, using(crate::proofs::Scan::steps_hit, crate::proofs::Scan::steps_miss, crate::proofs::Scan::steps_bare, crate::proofs::Scan::steps_end))]
     fn step_from(&self, row: usize) -> Option<Step<'a>>
-        ensures child_value { steps_from self.now row ≡ after_step self.now result }
+        ensures steps { steps_from self.now row ≡ after_step self.now result }
         ensures within { Within self.now result }
     {
         for i in row..self.tree.m.x.len() / X_NUMBERS {
@@ -80,7 +80,7 @@ impl<'a> Steps<'a> {
     #[tactic(auto, using(crate::proofs::Scan::behind_next, crate::proofs::Scan::behind_last))]
     pub(crate) fn next_step(&self, step: Step<'a>) -> Option<Step<'a>>
         requires { StepWithin self.now step }
-        ensures child_value { steps_behind self.now step.entry ≡ after_step self.now result }
+        ensures steps { steps_behind self.now step.entry ≡ after_step self.now result }
         ensures within { Within self.now result }
     {
         let mut others = step.others;

@@ -7,14 +7,13 @@ use lib.Dec.{T}
 use lib.ListN.{length}
 use Rattle.as5506.specs.Lists.{padded}
 use Rattle.as5506.specs.Tables.{c_count}
-use Rattle.as5506.specs.Answers.{handed}
-use Rattle.as5506.specs.Refusals.{accepted}
+use Rattle.as5506.specs.Refusals.{faults, accepted}
 use Rattle.as5506.specs.Links.{link_table}
 use Rattle.as5506.specs.Layout.{links_in}
-use Rattle.as5506.proofs.Answers.{nil-given}
-use Rattle.as5506.proofs.Links.{none-linked}
+use Rattle.as5506.proofs.Links.{enough-links}
+use Rattle.tables.specs.Answer.{checked}
 use Rattle.lent.specs.Model.{model}
-use Rattle.tables.proofs.Answers.{accepted-is}
+use Rattle.tables.proofs.Answers.{none-is, accepted-is}
 use Rattle.child_links.proofs.fill.check_and_link.Goals as goal
 
 pub link_children-requires : goal.link_children-requires
@@ -26,7 +25,7 @@ returns c =
     let ok : T (accepted (model c.args.m.now)) = accepted-is (model c.args.m.now) c.check_tables.result c.check_tables.ensures c.in_ok-check_tables.was in
     let room : c_count (model c.args.m.now) ≤ links_in (length c.args.links.now) = omega (arith, c.if-links-m.false) in
     record {
-      answer = sym (ap (handed (λ (u : Unit {0}). u)) (nil-given _ tt (none-linked (links_in (length c.args.links.now)) (model c.args.m.now) ok room)));
+      answer = sym (ap checked (enough-links (links_in (length c.args.links.now)) (model c.args.m.now) room ∙ none-is (faults (model c.args.m.now)) c.check_tables.result c.check_tables.ensures c.in_ok-check_tables.was));
       size = c.link_children.auto.links;
       linked = λ e. record {
         ok = ok;

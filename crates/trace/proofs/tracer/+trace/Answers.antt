@@ -17,7 +17,7 @@ returns-in_err-trace t c = going_full _ _ _ _ _ _ c.loop-next.invariant c.in-Som
 pub loop-next-preserved : goal.loop-next-preserved
 loop-next-preserved t c =
     going_on _ _ _ _ _ _ c.loop-next.invariant c.in-Some-next.is c.with.ensures c.trace-in-Some-next.ensures
-    c.in_ok-trace.was c.next_step-next.ensures.within c.next_step-next.ensures.child_value
+    c.in_ok-trace.was c.next_step-next.ensures.within c.next_step-next.ensures.steps
 
 pub returns : goal.returns
 returns t c = going_end _ _ _ _ _ _ c.loop-next.invariant c.in_default-next.is
