@@ -19,13 +19,13 @@ def keep(folder, files):
             sys.exit("%s is not what make writes" % os.path.relpath(path))
 
 
-def keep_example(folder, answer, **more):
-    """The folder of a program that is run on the example that README shows: stdin is the sheet of the pitch system, stdout the answer, a file of
-    examples that has its name and this ending, and more are further files by their names."""
+def keep_example(folder, answer, name="pitch", **more):
+    """The folder of a program that is run on an example that README shows: stdin is the sheet of this name, of the pitch system where none is given, stdout the
+    answer, a file of examples that has its name and this ending, and more are further files by their names."""
     examples = os.path.join(os.path.dirname(os.path.abspath(__file__)), "..", "examples")
 
     def example(ending):
-        with open(os.path.join(examples, "pitch." + ending), "rb") as file:
+        with open(os.path.join(examples, name + "." + ending), "rb") as file:
             return file.read()
 
     keep(folder, {"stdin": example("sheet"), "stdout": example(answer), **more})

@@ -13,6 +13,9 @@
    sibling. There have to be at least as many whole rows of it as there are components. With fewer, a call refuses with 22, behind the refusals of tables
    and before those of a list; the place of 22 is 0, and its letter `-`.
 
+   Both listings have two entries, the ported one, which compares names as the original does, and the second, whose calls are the two that end in `ignoring_case` and `ignoring_case_with_records`.
+   All other calls go by the ported one.
+
    Afterwards an output holds its rows from the front and zeros behind, or zeros alone where the call refuses; that of text holds the list, or the
    line of a refusal, and zeros behind. */
 #ifndef CONLIST_H
@@ -81,7 +84,16 @@ void conlist_list_connections(CONLIST_TABLES, uint32_t *links, size_t links_leng
                               size_t group_rows_length, uint8_t *names, size_t names_length,
                               uint32_t *group_diagnostics, size_t group_diagnostics_length, uint64_t told[5]);
 
-/* The same three with the diagnostics in records of the caller's, `out`. There is room for as many as there are records, and for no more than a quarter of
+/* Lists as `list_connections` does, from the second entry: names that differ in the case of letters A to Z alone are one where tracing compares
+   features and where a child is found by its whole name. It refuses by the same rules, over its own lists. `told` is as above. Where all names
+   that differ also differ in more than letter case, both entries give one list. */
+void conlist_list_connections_ignoring_case(CONLIST_TABLES, uint32_t *links, size_t links_length, uint32_t *rows,
+                                            size_t rows_length, uint32_t *diagnostics, size_t diagnostics_length,
+                                            uint32_t *group_rows, size_t group_rows_length, uint8_t *names,
+                                            size_t names_length, uint32_t *group_diagnostics,
+                                            size_t group_diagnostics_length, uint64_t told[5]);
+
+/* The same four with the diagnostics in records of the caller's, `out`. There is room for as many as there are records, and for no more than a quarter of
    the `numbers`; beyond that the call refuses with 12. The numbers hold the diagnostics too. */
 void conlist_compute_semantic_connections_with_records(CONLIST_TABLES, uint32_t *links, size_t links_length,
                                                        uint32_t *rows, size_t rows_length, uint32_t *numbers,
@@ -101,6 +113,15 @@ void conlist_list_connections_with_records(CONLIST_TABLES, uint32_t *links, size
                                            uint32_t *group_numbers, size_t group_numbers_length,
                                            struct conlist_diagnostic *group_out, size_t group_out_length,
                                            uint64_t told[5]);
+
+void conlist_list_connections_ignoring_case_with_records(CONLIST_TABLES, uint32_t *links, size_t links_length,
+                                                         uint32_t *rows, size_t rows_length, uint32_t *numbers,
+                                                         size_t numbers_length, struct conlist_diagnostic *out,
+                                                         size_t out_length, uint32_t *group_rows,
+                                                         size_t group_rows_length, uint8_t *names, size_t names_length,
+                                                         uint32_t *group_numbers, size_t group_numbers_length,
+                                                         struct conlist_diagnostic *group_out, size_t group_out_length,
+                                                         uint64_t told[5]);
 
 /* Counts the selections of modes as `count_selections` does. `told` then holds 0, the number of selections and 1 where the list of them was cut, at
    10,000, so that a combination of all components with modes is lacking, else 0; or a refusal's number, place and letter. */

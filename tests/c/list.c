@@ -1,8 +1,9 @@
 /* Prints the connection list of a sheet on standard input, as conlist does; then reads the sheet into tables, and sees that the calls over tables
-   agree with one another: the listings each by itself and both in one call, and diagnostics as numbers and as records; and that each leaves the link
-   table, or refuses where there is no room for it. Then it gives two components modes, and asks for their selections. Last it changes the array indices:
-   any bits list the same, and numbers that no index has are refused. */
+   agree with one another: the listings each by itself and both in one call, by the ported entry, and where no names differ in letter case alone by the second
+   one too; diagnostics as numbers and as records; and that each leaves the link table, or refuses where there is no room for it. Then it gives two components modes, and asks for their selections; and changes the array indices: any bits list the same, and numbers that
+   no index has are refused. Last it lists a small sheet of its own, of which the two entries give different lists. */
 #include "conlist.h"
+#include <ctype.h>
 #include <stdio.h>
 #include <stdlib.h>
 #include <string.h>
@@ -57,6 +58,17 @@ static uint32_t links[96 * numbers_of_links];
 static uint8_t names[4096], both_names[4096];
 static struct conlist_diagnostic records[64], group_records[64];
 
+/* the entries for both listings: the ported one, and the second, which ignores letter case */
+enum { ported, ignoring_case, number_of_entries };
+static __typeof__(conlist_list_connections) *const entries[] = {
+    conlist_list_connections,
+    conlist_list_connections_ignoring_case,
+};
+static __typeof__(conlist_list_connections_with_records) *const entries_with_records[] = {
+    conlist_list_connections_with_records,
+    conlist_list_connections_ignoring_case_with_records,
+};
+
 static void expect(bool holds, const char *what) {
     if (!holds) {
         fprintf(stderr, "%s\n", what);
@@ -84,6 +96,11 @@ static void spoil(void) {
 /* So many numbers of a slice are zero. */
 static void expect_zeros(const uint32_t *slice, size_t length, const char *what) {
     for (size_t at = 0; at < length; at++) expect(slice[at] == 0, what);
+}
+
+/* The names of the group listing are zero. */
+static void expect_no_names(void) {
+    for (size_t at = 0; at < COUNT(both_names); at++) expect(both_names[at] == 0, "refused output of names is not zero");
 }
 
 /* The place of a component among its siblings, behind all where there is none. */
@@ -129,37 +146,79 @@ static void expect_group(void) {
 
 /* A link table with one number too few is refused, before rows that are too short, and every output is left zero. */
 static void expect_too_few_links(void) {
+    enum { traced, group, both, calls = both + number_of_entries };
     size_t length = read[rows_of_c] * numbers_of_links - 1;
     uint64_t told[5];
-    for (int call = 0; call < 6; call++) {
-        size_t lent = call < 3 ? COUNT(both_rows) : 0;
+    for (int number = 0; number < 2 * calls; number++) {
+        int call = number % calls;
+        size_t lent = number < calls ? COUNT(both_rows) : 0;
         spoil();
-        switch (call % 3) {
-        case 0:
+        switch (call) {
+        case traced:
             conlist_compute_semantic_connections(TABLES, links, length, both_rows, lent, WHOLE(both_diagnostics), told);
             break;
-        case 1:
+        case group:
             conlist_expand_feature_group_connections(TABLES, links, length, both_group_rows, lent, WHOLE(both_names),
                                                      WHOLE(both_group_diagnostics), told);
             break;
         default:
-            conlist_list_connections(TABLES, links, length, both_rows, lent, WHOLE(both_diagnostics), both_group_rows,
-                                     lent, WHOLE(both_names), WHOLE(both_group_diagnostics), told);
+            entries[call - both](TABLES, links, length, both_rows, lent, WHOLE(both_diagnostics), both_group_rows, lent,
+                                 WHOLE(both_names), WHOLE(both_group_diagnostics), told);
             expect(told[3] == 0 && told[4] == 0, "more than a refusal of links is told");
         }
         expect(told[0] == 22 && told[1] == 0 && told[2] == '-', "too few links are not refused");
         expect_zeros(links, length, "refused output of links is not zero");
-        if (call % 3 != 1) {
+        if (call != group) {
             expect_zeros(both_rows, lent, "refused output of rows is not zero");
             expect_zeros(WHOLE(both_diagnostics), "refused output of diagnostics is not zero");
         }
-        if (call % 3 != 0) {
+        if (call != traced) {
             expect_zeros(both_group_rows, lent, "refused output of group rows is not zero");
             expect_zeros(WHOLE(both_group_diagnostics), "refused output of group diagnostics is not zero");
-            for (size_t at = 0; at < COUNT(both_names); at++)
-                expect(both_names[at] == 0, "refused output of names is not zero");
+            expect_no_names();
         }
     }
+}
+
+/* Both listings by an entry give what the listings give each by itself, over numbers and with records. */
+static void expect_both(int entry, const uint64_t traced[3], const uint64_t grouped[3]) {
+    uint64_t both[5], recorded[5];
+    spoil_links();
+    entries[entry](TABLES, WHOLE(links), WHOLE(both_rows), WHOLE(both_diagnostics), WHOLE(both_group_rows),
+                   WHOLE(both_names), WHOLE(both_group_diagnostics), both);
+    expect_links(COUNT(links));
+    expect(both[0] == 0, "both listings are refused");
+    expect(both[1] == traced[1] && both[2] == traced[2] && both[3] == grouped[1] && both[4] == grouped[2], "other counts");
+    expect(memcmp(both_rows, rows, sizeof rows) == 0 && memcmp(both_diagnostics, diagnostics, sizeof diagnostics) == 0,
+           "another traced list");
+    expect(memcmp(both_group_rows, group_rows, sizeof group_rows) == 0 && memcmp(both_names, names, sizeof names) == 0 &&
+               memcmp(both_group_diagnostics, group_diagnostics, sizeof group_diagnostics) == 0,
+           "another group list");
+
+    spoil();
+    entries_with_records[entry](TABLES, WHOLE(links), WHOLE(both_rows), WHOLE(both_diagnostics), WHOLE(records),
+                                WHOLE(both_group_rows), WHOLE(both_names), WHOLE(both_group_diagnostics),
+                                WHOLE(group_records), recorded);
+    expect(memcmp(recorded, both, sizeof both) == 0, "other counts with records");
+    expect_links(COUNT(links));
+    expect_traced();
+    expect_group();
+}
+
+/* Whether two names are equal but for letter case, and differ. */
+static bool differ_in_case(const uint32_t *one, const uint32_t *other) {
+    if (one[1] != other[1]) return false;
+    for (uint32_t at = 0; at < one[1]; at++)
+        if (tolower(bytes[one[0] + at]) != tolower(bytes[other[0] + at])) return false;
+    return memcmp(bytes + one[0], bytes + other[0], one[1]) != 0;
+}
+
+/* Whether all names that differ also differ with letter case ignored: then both entries have one list. */
+static bool names_apart(void) {
+    for (uint64_t one = 0; one < read[rows_of_n]; one++)
+        for (uint64_t other = 0; other < one; other++)
+            if (differ_in_case(&n[one * numbers_of_n], &n[other * numbers_of_n])) return false;
+    return true;
 }
 
 /* The bytes of a joined name: those of these two names, with an underscore between them. */
@@ -253,13 +312,85 @@ static void expect_no_index(uint32_t present, uint32_t high, uint32_t low) {
     expect(told[0] == 6 && told[1] == last && told[2] == 'C', "numbers that no array index has are not refused");
 }
 
+/* A model in which the port of the child a is `cmd` outside and `Cmd` inside, so that only the second entry follows the chain to m; the child B is also wanted
+   as `b`, which only the second entry finds; and nobody is called `none`. */
+static const char letter_case[] = "N root\n"
+                                  "N a\n"
+                                  "N B\n"
+                                  "N m\n"
+                                  "N wire\n"
+                                  "N cmd\n"
+                                  "N Cmd\n"
+                                  "N b\n"
+                                  "N none\n"
+                                  "C     0     -                   -     0     0     -     0\n"
+                                  "C     1     0                   -     0     0     -     0\n"
+                                  "C     2     0                   -     0     0     -     1\n"
+                                  "C     3     1                   -     0     0     -     0\n"
+                                  "X     4     0     0     1     5     2     5\n"
+                                  "X     4     1     0     3     6     -     6\n"
+                                  "X     4     0     0     1     5     7     5\n"
+                                  "X     4     0     0     8     5     1     5\n";
+
+/* The traced listing that each entry gives of it, and zeros behind. There is no group listing. */
+struct list {
+    size_t row_count, diagnostic_count;
+    uint32_t rows[3][49], diagnostics[3][4];
+};
+static const struct list lists[] = {
+    {1, 2, {{0, 0, 1, 2, 4, 5, 5, 1, 0}}, {{3, 2, 7, 0}, {2, 3, 8, 0}}},
+    {2, 1, {{0, 0, 3, 2, 4, 6, 5, 2, 0, 1}, {2, 0, 3, 2, 4, 6, 5, 2, 2, 1}}, {{2, 3, 8, 0}}},
+};
+static const struct list nothing;
+
+/* A call with so many rows and diagnostics of room told and left what the entry gives of the model; or its refusal, and zeros. */
+static void expect_list(int entry, size_t rows_lent, size_t diagnostics_lent, const uint64_t told[5]) {
+    const struct list *due = &lists[entry];
+    uint64_t refusal = rows_lent < due->row_count ? 11 : diagnostics_lent < due->diagnostic_count ? 12 : 0;
+    const uint64_t given[5] = {0, due->row_count, due->diagnostic_count}, none[5] = {refusal, 0, '-'};
+    expect(memcmp(told, refusal ? none : given, sizeof given) == 0, "other counts or another refusal of names in two cases");
+    if (refusal)
+        expect_zeros(WHOLE(links), "refused output of links is not zero");
+    else
+        expect_links(COUNT(links));
+    due = refusal ? &nothing : due;
+    expect(memcmp(both_rows, due->rows, rows_lent * sizeof due->rows[0]) == 0, "other rows of names in two cases");
+    expect(memcmp(both_diagnostics, due->diagnostics, diagnostics_lent * sizeof due->diagnostics[0]) == 0,
+           "other diagnostics of names in two cases");
+    expect_zeros(WHOLE(both_group_rows), "group rows where there are none");
+    expect_zeros(WHOLE(both_group_diagnostics), "group diagnostics where there are none");
+    expect_no_names();
+}
+
+/* Each entry lists the model by its own reading, and refuses 11 and 12 over its own list, and 22 before these. */
+static void expect_letter_case(void) {
+    conlist_read_sheet((const uint8_t *)letter_case, sizeof letter_case - 1, WHOLE(bytes), LETTERS(WHOLE_TABLE) read);
+    expect(read[refused] == 0, "the sheet with names in two cases is refused");
+    for (int entry = 0; entry < number_of_entries; entry++)
+        for (size_t lent = 0; lent < 4 * 4; lent++) {
+            size_t rows_lent = lent / 4, diagnostics_lent = lent % 4;
+            uint64_t told[5];
+            spoil();
+            entries[entry](TABLES, WHOLE(links), both_rows, rows_lent * 49, both_diagnostics, diagnostics_lent * 4,
+                           WHOLE(both_group_rows), WHOLE(both_names), WHOLE(both_group_diagnostics), told);
+            expect_list(entry, rows_lent, diagnostics_lent, told);
+            spoil();
+            entries_with_records[entry](TABLES, WHOLE(links), both_rows, rows_lent * 49, WHOLE(both_diagnostics), records,
+                                        diagnostics_lent, WHOLE(both_group_rows), WHOLE(both_names),
+                                        WHOLE(both_group_diagnostics), WHOLE(group_records), told);
+            expect_list(entry, rows_lent, diagnostics_lent, told);
+            expect(memcmp(records, both_diagnostics, diagnostics_lent * sizeof records[0]) == 0, "other records");
+        }
+    expect_too_few_links();
+}
+
 int main(void) {
     size_t length = fread(sheet, 1, sizeof sheet, stdin);
     fwrite(text, 1, conlist_list_sheet(sheet, length, WHOLE(text)), stdout);
 
     conlist_read_sheet(sheet, length, WHOLE(bytes), LETTERS(WHOLE_TABLE) read);
     expect(read[refused] == 0, "the sheet is refused");
-    uint64_t checked[3], traced[3], grouped[3], both[5], expanded[3];
+    uint64_t checked[3], traced[3], grouped[3], recorded[3], expanded[3];
     conlist_check_tables(TABLES, checked);
     expect(checked[0] == 0 && checked[1] == 0 && checked[2] == 0, "the tables are refused");
     spoil_links();
@@ -269,27 +400,10 @@ int main(void) {
     conlist_expand_feature_group_connections(TABLES, WHOLE(links), WHOLE(group_rows), WHOLE(names),
                                              WHOLE(group_diagnostics), grouped);
     expect_links(COUNT(links));
-    spoil_links();
-    conlist_list_connections(TABLES, WHOLE(links), WHOLE(both_rows), WHOLE(both_diagnostics), WHOLE(both_group_rows),
-                             WHOLE(both_names), WHOLE(both_group_diagnostics), both);
-    expect_links(COUNT(links));
-    expect(traced[0] == 0 && grouped[0] == 0 && both[0] == 0, "a listing is refused");
-    expect(both[1] == traced[1] && both[2] == traced[2] && both[3] == grouped[1] && both[4] == grouped[2], "other counts");
-    expect(memcmp(both_rows, rows, sizeof rows) == 0 && memcmp(both_diagnostics, diagnostics, sizeof diagnostics) == 0,
-           "another traced list");
-    expect(memcmp(both_group_rows, group_rows, sizeof group_rows) == 0 && memcmp(both_names, names, sizeof names) == 0 &&
-               memcmp(both_group_diagnostics, group_diagnostics, sizeof group_diagnostics) == 0,
-           "another group list");
+    expect(traced[0] == 0 && grouped[0] == 0, "a listing is refused");
+    expect_both(ported, traced, grouped);
+    if (names_apart()) expect_both(ignoring_case, traced, grouped);
 
-    uint64_t recorded[5];
-    spoil();
-    conlist_list_connections_with_records(TABLES, WHOLE(links), WHOLE(both_rows), WHOLE(both_diagnostics),
-                                          WHOLE(records), WHOLE(both_group_rows), WHOLE(both_names),
-                                          WHOLE(both_group_diagnostics), WHOLE(group_records), recorded);
-    expect(memcmp(recorded, both, sizeof both) == 0, "other counts with records");
-    expect_links(COUNT(links));
-    expect_traced();
-    expect_group();
     spoil();
     conlist_compute_semantic_connections_with_records(TABLES, WHOLE(links), WHOLE(both_rows), WHOLE(both_diagnostics),
                                                       WHOLE(records), recorded);
@@ -320,5 +434,6 @@ int main(void) {
     expect_no_index(UINT32_MAX, 0, 0);
     expect_no_index(0, 1, 0);
     expect_no_index(0, 0, 1);
+    expect_letter_case();
     return 0;
 }

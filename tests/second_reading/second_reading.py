@@ -2,13 +2,17 @@
 and of those requests for changes of it (02) that have landed.
 
 It answers, for any bytes, what the programs print: `conlist` the connections,
-`modes` the number of selections of modes, `mode` one of these. It is written
-from the papers' own sentences, each quoted over the function that follows it, so
-that another definition of the same papers can be compared with it. Behind
-a sentence of 02 stands its request, as (02, i). Names are bytes, numbers
-do not wrap, rows count from 0.
+`modes` the number of selections of modes, `mode` one of these; and what the
+second entry lists, which ignores letter case where the ported one does not,
+in the form of `conlist`. Where a function has a parameter `ignore_case`, this
+says for which of the two entries it answers. All is written from the papers'
+own sentences, each quoted over the function that follows it, so that another
+definition of the same papers can be compared with it. Behind a sentence of 02
+stands its request, as (02, i). Names are bytes, numbers do not wrap, rows
+count from 0.
 
     second_reading.py < sheet                prints the answer of `conlist`
+    second_reading.py --ignore-case < sheet  that of the second entry
     second_reading.py modes < sheet          that of `modes`
     second_reading.py mode NUMBER < sheet    that of `mode NUMBER`
 
@@ -53,6 +57,7 @@ _WALK = ("Prove that the walk gives the same children in the same order as a sca
          "accepted model.")
 _ROW_OF_LINKS = "The link table is an output, its row the first child and the next sibling, missing as in 01."
 _22 = "One of fewer whole rows than components is refused as 22, after the tables' checks and 21."
+_FOLDED = "tracing compares features folded and the first child rule compares names folded."
 _STEP = ("a connection of that component with a source subcomponent, no destination subcomponent, "
          "its destination feature byte-equal, and one found child.")
 _CHILD = ("byte-equal names; if none and the wanted name has no `[`, children with an array index "
@@ -374,6 +379,18 @@ RULES_BEYOND_SHEETS = {
     "mode 11": _20,
     "22": _22,
     "22: last row not whole": _22,
+}
+
+# Where the second entry takes two names as one, and the ported one does not. Only lists of the
+# second entry meet these.
+RULES_IGNORING_CASE = {
+    "ignoring case: child in another case": _FOLDED,
+    "ignoring case: children in the wanted case and in another": _FOLDED,
+    "ignoring case: child in another case hides array children": _FOLDED,
+    "ignoring case: child in another case, wanted with [": _FOLDED,
+    "ignoring case: step towards the source": _FOLDED,
+    "ignoring case: step towards the destination": _FOLDED,
+    "ignoring case: first found child in another case": _FOLDED,
 }
 
 marks = collections.Counter()
@@ -1282,7 +1299,16 @@ def expansion(model, asking, type_name):
 
 
 # ---------------------------------------------------------------------------
-# Children, pattern, steps, chains.
+# Children, pattern, steps, chains. What asks for a child or a step says for which entry it asks:
+# "It gives both listings; later changes go to both entries, and all else uses the ported one,
+# which keeps the Rust's reading." (02, vi)
+
+# "in which tracing compares features folded and the first child rule compares names folded."
+# (02, vi) The ported entry compares both byte by byte.
+def taken_as_one(one, other, ignore_case):
+    """Are these two names one to this entry?"""
+    return fold(one) == fold(other) if ignore_case else one == other
+
 
 # "`base_name_of` hands back a part of the caller's own bytes."
 def base_name_of(name):
@@ -1290,21 +1316,21 @@ def base_name_of(name):
 
 
 # "`find_children_by_name`: byte-equal names; if none and the wanted name has no `[`,
-# children with an array index whose name up to the first `[` is equal folded."
-def find_children_by_name(model, owner, wanted):
-    key = owner, wanted
+# children with an array index whose name up to the first `[` is equal folded." "the first
+# child rule compares names folded" (02, vi): that of whole names, the first of the two.
+def find_children_by_name(model, owner, wanted, ignore_case):
+    key = owner, wanted, ignore_case
     if key in model.found_children:
         return model.found_children[key]
     equal, array, unindexed = [], [], []
     for child in model.children[owner]:
         component = model.rows["C"][child]
-        if model.name(component.name) == wanted:
+        if taken_as_one(model.name(component.name), wanted, ignore_case):
             equal.append(child)
         elif fold(base_name_of(model.name(component.name))) == fold(wanted):
             (unindexed if component.array_index is None else array).append(child)
     if equal:
-        mark("byte-equal child")
-        mark("byte-equal child hides array children", bool(array) and b"[" not in wanted)
+        mark_whole_name(model, wanted, equal, bool(array) and b"[" not in wanted)
         found = equal
     elif b"[" in wanted:
         children = [model.rows["C"][child] for child in model.children[owner]]
@@ -1324,6 +1350,18 @@ def find_children_by_name(model, owner, wanted):
     mark("no child found", not found)
     model.found_children[key] = found
     return found
+
+
+def mark_whole_name(model, wanted, found, hides):
+    """For the marks only: how those that are found by their whole name are spelled, and whether
+    they hide array children."""
+    spelled = [model.name(model.rows["C"][child].name) == wanted for child in found]
+    mark("byte-equal child", any(spelled))
+    mark("byte-equal child hides array children", any(spelled) and hides)
+    mark("ignoring case: child in another case", not all(spelled))
+    mark("ignoring case: children in the wanted case and in another", any(spelled) and not all(spelled))
+    mark("ignoring case: child in another case hides array children", not any(spelled) and hides)
+    mark("ignoring case: child in another case, wanted with [", not all(spelled) and b"[" in wanted)
 
 
 def mark_index(index):
@@ -1366,10 +1404,11 @@ MAX_STEPS = 20
 # with a source subcomponent, no destination subcomponent, its destination feature
 # byte-equal, and one found child. It leads to (child, source feature). Towards the
 # destination, its mirror image." "Connections, then children": "Pairs, chains and the
-# first found child follow that place"; "connections still go by row." (02, i)
-def steps(model, side, component, feature):
+# first found child follow that place"; "connections still go by row." (02, i) "tracing
+# compares features folded" (02, vi)
+def steps(model, side, component, feature, ignore_case):
     """All steps as (connection, child, feature); each found child is one."""
-    key = side, component, feature
+    key = side, component, feature, ignore_case
     if key in model.found_steps:
         return model.found_steps[key]
     found, used = [], 0
@@ -1382,14 +1421,15 @@ def steps(model, side, component, feature):
             sub, inner, other_sub, outer = destination_sub, destination, source_sub, source
         if sub is None or other_sub is not None or outer is None:
             continue
-        if outer != feature:
+        if not taken_as_one(outer, feature, ignore_case):
             mark("no step where only the case differs", fold(outer) == fold(feature))
             continue
-        children = find_children_by_name(model, component, sub)
+        children = find_children_by_name(model, component, sub, ignore_case)
         mark("no step without a found child", not children)
         mark("several found children in a step", len(children) > 1)
         mark("steps by place", children != sorted(children))
         mark("step towards the " + side, bool(children))
+        mark("ignoring case: step towards the " + side, bool(children) and outer != feature)
         used += bool(children)
         found.extend((connection, child, inner) for child in children)
     mark("several connections in a step", used > 1)
@@ -1401,12 +1441,12 @@ def steps(model, side, component, feature):
 
 # "A chain ends where no step exists or after 20 steps; it has a twenty-first step where
 # one exists from the end of its twentieth."
-def count_chains(model, side, component, feature, left, limit):
+def count_chains(model, side, component, feature, left, limit, ignore_case):
     """How many chains there are, so that too many are refused without being listed."""
-    key = side, component, feature, left
+    key = side, component, feature, left, ignore_case
     if key in model.chain_counts:
         return model.chain_counts[key]
-    onward = steps(model, side, component, feature)
+    onward = steps(model, side, component, feature, ignore_case)
     if left == 0:
         mark("chain ends after 20 steps")
         mark("twenty-first step exists" if onward else "exactly 20 steps")
@@ -1415,19 +1455,19 @@ def count_chains(model, side, component, feature, left, limit):
         mark("chain without a step" if left == limit else "chain ends by no step")
         count = 1
     else:
-        count = sum(count_chains(model, side, child, inner, left - 1, limit)
+        count = sum(count_chains(model, side, child, inner, left - 1, limit, ignore_case)
                     for _, child, inner in onward)
     model.chain_counts[key] = count
     return count
 
 
-def chains(model, side, component, feature, left, taken=()):
+def chains(model, side, component, feature, left, ignore_case, taken=()):
     """Every chain in order, as (component, feature, connections stepped through)."""
-    onward = steps(model, side, component, feature) if left > 0 else []
+    onward = steps(model, side, component, feature, ignore_case) if left > 0 else []
     if not onward:
         yield component, feature, taken
     for connection, child, inner in onward:
-        yield from chains(model, side, child, inner, left - 1, taken + (connection,))
+        yield from chains(model, side, child, inner, left - 1, ignore_case, taken + (connection,))
 
 
 # ---------------------------------------------------------------------------
@@ -1441,8 +1481,9 @@ Diagnostic = collections.namedtuple("Diagnostic", "code connection first second"
 
 
 # "`compute_semantic_connections`, per X row:" "a lent table that the listing itself fills"
-# (02, xiii)
-def traced_listing(model, rows_room, diagnostics_room, limit=MAX_STEPS, links_room=CONLIST_LINKS):
+# (02, xiii) "The second refuses by the same rules, over its own lists." (02, vi)
+def traced_listing(model, rows_room, diagnostics_room, limit=MAX_STEPS, links_room=CONLIST_LINKS,
+                   ignore_case=False):
     """(rows, diagnostics), or the number of the refusal."""
     # 22: "One of fewer whole rows than components"
     if lacks_links(model, links_room):
@@ -1477,12 +1518,12 @@ def traced_listing(model, rows_room, diagnostics_room, limit=MAX_STEPS, links_ro
         place = "both ends: " if both else "one end at the root: "
         sources = destinations = None
         if source_sub is not None:
-            sources = find_children_by_name(model, owner, model.name(source_sub))
+            sources = find_children_by_name(model, owner, model.name(source_sub), ignore_case)
             if not sources:
                 mark(place + "diagnostic 2")
                 diagnostics.append(Diagnostic(2, x, source_sub, 0))
         if destination_sub is not None:
-            destinations = find_children_by_name(model, owner, model.name(destination_sub))
+            destinations = find_children_by_name(model, owner, model.name(destination_sub), ignore_case)
             if not destinations:
                 mark(place + "diagnostic 3")
                 diagnostics.append(Diagnostic(3, x, destination_sub, 0))
@@ -1500,10 +1541,10 @@ def traced_listing(model, rows_room, diagnostics_room, limit=MAX_STEPS, links_ro
 
         # How many rows this makes.
         source_counts = [1] if sources is None else \
-            [count_chains(model, SOURCE, child, model.name(source), limit, limit)
+            [count_chains(model, SOURCE, child, model.name(source), limit, limit, ignore_case)
              for child in sources]
         destination_counts = [1] if destinations is None else \
-            [count_chains(model, DESTINATION, child, model.name(destination), limit, limit)
+            [count_chains(model, DESTINATION, child, model.name(destination), limit, limit, ignore_case)
              for child in destinations]
         if one_to_one:
             total += sum(a * b for a, b in zip(source_counts, destination_counts))
@@ -1548,9 +1589,10 @@ def traced_listing(model, rows_room, diagnostics_room, limit=MAX_STEPS, links_ro
         for start, end in pairs:
             source_limit = 0 if sources is None else limit
             destination_limit = 0 if destinations is None else limit
-            for a, a_feature, a_steps in chains(model, SOURCE, start, model.name(source), source_limit):
+            for a, a_feature, a_steps in chains(model, SOURCE, start, model.name(source),
+                                                source_limit, ignore_case):
                 for b, b_feature, b_steps in chains(model, DESTINATION, end, model.name(destination),
-                                                    destination_limit):
+                                                    destination_limit, ignore_case):
                     path = [x] + list(a_steps)
                     for step in b_steps:
                         if step not in path:
@@ -1573,15 +1615,21 @@ FEATURE_KIND_TO_CONNECTION_KIND = [0, 0, 0, 4, 1, 1, 1, 1, 2, 3]
 
 # "first found child, or the owner where no subcomponent is named; skip if none." "the
 # first found child follow that place" (02, i)
-def endpoint_component(model, owner, subcomponent):
+def endpoint_component(model, owner, subcomponent, ignore_case):
     if subcomponent is None:
         mark("group list: the owner itself")
         return owner
-    found = find_children_by_name(model, owner, model.name(subcomponent))
+    wanted = model.name(subcomponent)
+    found = find_children_by_name(model, owner, wanted, ignore_case)
     mark("group list: first of several children", len(found) > 1)
     mark("group list: first child by place", found != [] and found[0] != min(found))
     mark("group list: no child, skip", not found)
-    return found[0] if found else None
+    if not found:
+        return None
+    spelled = model.name(model.rows["C"][found[0]].name)
+    mark("ignoring case: first found child in another case",
+         spelled != wanted and taken_as_one(spelled, wanted, ignore_case))
+    return found[0]
 
 
 # "It needs an F row of the component (folded name, kind 8), the component's type
@@ -1650,8 +1698,10 @@ def expanded_name(group, feature):
 # "`expand_feature_group_connections`, per X row of kind 2 with both ends: first found
 # child, or the owner where no subcomponent is named; skip if none.
 # `expand_endpoint_feature_group` on both, always; if either gives none (an empty
-# expansion is not none), skip." "a lent table that the listing itself fills" (02, xiii)
-def group_listing(model, rows_room, diagnostics_room, composed_room, links_room=CONLIST_LINKS):
+# expansion is not none), skip." "a lent table that the listing itself fills" (02, xiii) "The
+# second refuses by the same rules, over its own lists." (02, vi)
+def group_listing(model, rows_room, diagnostics_room, composed_room, links_room=CONLIST_LINKS,
+                  ignore_case=False):
     """(rows, diagnostics, composed bytes), or the number of the refusal."""
     # 22: "One of fewer whole rows than components"
     if lacks_links(model, links_room):
@@ -1665,8 +1715,8 @@ def group_listing(model, rows_room, diagnostics_room, composed_room, links_room=
         if source is None or destination is None:
             mark("group list: an end is missing")
             continue
-        a = endpoint_component(model, values.owner, source_sub)
-        b = endpoint_component(model, values.owner, destination_sub)
+        a = endpoint_component(model, values.owner, source_sub, ignore_case)
+        b = endpoint_component(model, values.owner, destination_sub, ignore_case)
         if a is None or b is None:
             continue
         a_asks = endpoint_reference(model, a, model.name(source))
@@ -1760,24 +1810,31 @@ Listings = collections.namedtuple("Listings", "traced_rows traced_diagnostics "
 
 
 # "The traced listing ends, refusals included, before the group listing starts."
-def listings(bytes_table, tables, traced_rows, traced_diagnostics,
-             group_rows, group_diagnostics, composed_room, links_room=CONLIST_LINKS):
+def listings(bytes_table, tables, traced_rows, traced_diagnostics, group_rows, group_diagnostics,
+             composed_room, links_room=CONLIST_LINKS, ignore_case=False):
     """Listings over accepted tables with outputs of these sizes (in rows, diagnostics
     and bytes), or the number of the refusal."""
     return listings_of_model(Model(bytes_table, tables), traced_rows, traced_diagnostics,
-                             group_rows, group_diagnostics, composed_room, links_room)
+                             group_rows, group_diagnostics, composed_room, links_room, ignore_case)
 
 
-# Both lists are made over one link table.
-def listings_of_model(model, traced_rows, traced_diagnostics,
-                      group_rows, group_diagnostics, composed_room, links_room=CONLIST_LINKS):
-    traced = traced_listing(model, traced_rows, traced_diagnostics, links_room=links_room)
+# Both lists are made over one link table. "It gives both listings" (02, vi)
+def listings_of_model(model, traced_rows, traced_diagnostics, group_rows, group_diagnostics,
+                      composed_room, links_room=CONLIST_LINKS, ignore_case=False):
+    traced = traced_listing(model, traced_rows, traced_diagnostics, links_room=links_room,
+                            ignore_case=ignore_case)
     if isinstance(traced, int):
         return traced
-    group = group_listing(model, group_rows, group_diagnostics, composed_room, links_room)
+    group = group_listing(model, group_rows, group_diagnostics, composed_room, links_room, ignore_case)
     if isinstance(group, int):
         return group
     return Listings(*traced, *group)
+
+
+# "Where all names that differ also differ folded, both entries give one list." (02, vi)
+def names_apart(model):
+    """Do all names that differ also differ folded?"""
+    return len(set(model.names)) == len(set(map(fold, model.names)))
 
 
 # ---------------------------------------------------------------------------
@@ -2078,11 +2135,11 @@ def printed(model, text_of):
     return text
 
 
-def text_of_lists(model):
+def text_of_lists(model, ignore_case=False):
     """The text of both lists, or the number of the refusal, with outputs as `conlist` lends
     them."""
-    lists = listings_of_model(model, CONLIST_ROWS, CONLIST_DIAGNOSTICS,
-                              CONLIST_ROWS, CONLIST_DIAGNOSTICS, CONLIST_COMPOSED)
+    lists = listings_of_model(model, CONLIST_ROWS, CONLIST_DIAGNOSTICS, CONLIST_ROWS,
+                              CONLIST_DIAGNOSTICS, CONLIST_COMPOSED, ignore_case=ignore_case)
     return lists if isinstance(lists, int) else list_text(model, lists)
 
 
@@ -2100,9 +2157,9 @@ def text_of_selection(number):
     return text_of
 
 
-def answer(sheet):
-    """What `conlist` prints for these bytes."""
-    return printed(accepted(sheet), text_of_lists)
+def answer(sheet, ignore_case=False):
+    """What `conlist` prints for these bytes, or the same of the second entry."""
+    return printed(accepted(sheet), lambda model: text_of_lists(model, ignore_case))
 
 
 def modes_answer(sheet):
@@ -2149,11 +2206,13 @@ def main(words):
     sheet = sys.stdin.buffer.read
     if words == []:
         return answer(sheet())
+    if words == ["--ignore-case"]:
+        return answer(sheet(), ignore_case=True)
     if words == ["modes"]:
         return modes_answer(sheet())
     if len(words) == 2 and words[0] == "mode" and number_of(words[1]) is not None:
         return mode_answer(sheet(), number_of(words[1]))
-    sys.exit("usage: second_reading.py [modes | mode NUMBER] < sheet")
+    sys.exit("usage: second_reading.py [--ignore-case | modes | mode NUMBER] < sheet")
 
 
 if __name__ == "__main__":

@@ -316,6 +316,75 @@ def features_that_differ_in_case():
     return sheet
 
 
+def wired(names, source, destination="b", pattern=None, wires=1):
+    """Children of the root with these names, an index at those of elements, and so many wires between the ones that are wanted; None is the root itself."""
+    sheet = Sheet()
+    sheet.component("root", pattern=pattern)
+    for name in names.split():
+        sheet.component(name, 0, 1 if "[" in name else None)
+    for _ in range(wires):
+        sheet.connection("c", 0, 0, source, "f", destination, "f")
+    return sheet
+
+
+def with_names(sheet, *names):
+    """The sheet with these names, which nothing in it has."""
+    for name in names:
+        sheet.name(name)
+    return sheet
+
+
+def one_step(side, *outer, wanted="m"):
+    """A wire from a to b. Inside the one at this side, the child m, wanted by a name, has a connection to each of these outer features."""
+    sheet = Sheet()
+    sheet.component("root")
+    inside = {"source": sheet.component("a", 0), "destination": sheet.component("b", 0)}[side]
+    sheet.component("m", inside)
+    sheet.connection("c", 0, 0, "a", "f", "b", "f")
+    for feature in outer:
+        ends = (wanted, "g", None, feature) if side == "source" else (None, feature, wanted, "g")
+        sheet.connection("in", inside, 0, *ends)
+    return sheet
+
+
+def with_feature(sheet, connection, field, feature):
+    """The sheet with this feature at an end of a connection."""
+    sheet.rows["X"][connection] = sheet.rows["X"][connection]._replace(**{field: sheet.name(feature)})
+    return sheet
+
+
+def group_of_a_child(sheet, names, wanted, has):
+    """A sheet with a group of the root, and a group connection to it from the one wanted of its children with these names. Those of these rows have the group."""
+    sheet.rows["X"] = []
+    for name in names.split():
+        sheet.component(name, 0, 1 if "[" in name else None)
+    for row in has:
+        sheet.feature("g", row)
+    sheet.connection("c", 0, 2, wanted, "g", None, "g")
+    return sheet
+
+
+def group_of_one_feature():
+    sheet = one_group((None, "u", None))
+    group = sheet.group_type(0, "u")
+    sheet.declared(1, group, "f")
+    return sheet
+
+
+def printed(text):
+    """A text as conlist prints it: here ` | ` stands between its lines, and a blank between their numbers, which take six columns."""
+    lines = []
+    for line in text.split(" | "):
+        letter, *words = line.split(" ")
+        lines.append(line if letter in "=<>!@" else letter + "".join(word.rjust(6) if word.isdigit() else " " + word for word in words))
+    return "".join(line + "\n" for line in lines).encode("latin-1")
+
+
+def wires(*rows):
+    """The text of traced rows with these numbers, each from a feature f to a feature f by a connection c."""
+    return printed(" | ".join(["S %s | = c | < f | > f" % row for row in rows] + ["Z %d 0" % len(rows)]))
+
+
 def private_group_of_another_package():
     sheet = one_group(("q", "u", None))
     other = sheet.package("q")
@@ -747,6 +816,100 @@ SELECTIONS = [
     ("joined names over 4,096 bytes of a cut list", 9999, 14),
     ("joined names over 4,096 bytes of a cut list", 10000, 20),
 ]
+
+# Label -> (sheet, what the ported entry prints of it, what the second one prints, which ignores letter case). All are accepted, and the Rust answers all.
+IGNORING_CASE = {
+    "Pump before pump[1]": (wired("Pump pump[1] b", "pump"), wires("0 0 2 3 1 0"), wires("0 0 1 3 1 0")),
+    "Pump with an index before pump[1]": (
+        with_fields(wired("Pump pump[1] b", "pump"), 1, array_index=7),
+        wires("0 0 1 3 1 0", "0 0 2 3 1 0"),
+        wires("0 0 1 3 1 0")),
+    "elements in two cases": (wired("pump[1] PUMP[2] b", "pump"), wires("0 0 1 3 1 0", "0 0 2 3 1 0"), wires("0 0 1 3 1 0", "0 0 2 3 1 0")),
+    "Pump[1] wanted as pump[1]": (
+        wired("Pump[1] b", "pump[1]"),
+        printed("D 2 0 6 0 | ! connection 'c': unresolved source subcomponent 'pump[1]' | @ root | @ c | Z 0 0"),
+        wires("0 0 1 2 1 0")),
+    "Pump[1] and pump[1] wanted as pump[1]": (wired("Pump[1] pump[1] b", "pump[1]"), wires("0 0 2 3 1 0"), wires("0 0 1 3 1 0", "0 0 2 3 1 0")),
+    "Pump[2] wanted as pump[1]": (
+        wired("Pump[2] b", "pump[1]"),
+        *2 * [printed("D 2 0 6 0 | ! connection 'c': unresolved source subcomponent 'pump[1]' | @ root | @ c | Z 0 0")]),
+    "children in two cases": (wired("A a b", "a"), wires("0 0 2 3 1 0"), wires("0 0 1 3 1 0", "0 0 2 3 1 0")),
+    "children in two cases by place": (with_fields(wired("A a b", "a"), 1, place=9), wires("0 0 2 3 1 0"), wires("0 0 2 3 1 0", "0 0 1 3 1 0")),
+    "one to one, more sources in two cases": (
+        wired("a A b", "a", pattern="one_to_one"),
+        wires("0 0 1 3 1 0"),
+        printed("S 0 0 1 3 1 0 | = c | < f | > f"
+                " | D 4 0 2 1 | ! connection 'c': One_To_One pattern requires equal array sizes (source=2, destination=1) | @ root | @ c | Z 1 0")),
+    "one to one, as many sources in two cases": (
+        wired("A a b b", "a", pattern="one_to_one"),
+        printed("S 0 0 2 3 1 0 | = c | < f | > f"
+                " | D 4 0 1 2 | ! connection 'c': One_To_One pattern requires equal array sizes (source=1, destination=2) | @ root | @ c | Z 1 0"),
+        wires("0 0 1 3 1 0", "0 0 2 4 1 0")),
+    "both ends in another case": (
+        wired("A B", "a"),
+        printed("D 2 0 6 0 | ! connection 'c': unresolved source subcomponent 'a' | @ root | @ c"
+                " | D 3 0 8 0 | ! connection 'c': unresolved destination subcomponent 'b' | @ root | @ c | Z 0 0"),
+        wires("0 0 1 2 1 0")),
+    "source in another case, wired to the root": (
+        wired("A", "a", None),
+        printed("D 2 0 5 0 | ! connection 'c': unresolved source subcomponent 'a' | @ root | @ c | Z 0 0"),
+        wires("0 0 1 0 1 0")),
+    "destination in another case, wired to the root": (
+        wired("A", None, "a"),
+        printed("D 3 0 6 0 | ! connection 'c': unresolved destination subcomponent 'a' | @ root | @ c | Z 0 0"),
+        wires("0 0 0 1 1 0")),
+    "feature in another case towards the source": (one_step("source", "F"), wires("0 0 1 2 1 0"), printed("S 0 0 3 2 2 0 1 | = c | < g | > f | Z 1 0")),
+    "feature in another case towards the destination": (one_step("destination", "F"), wires("0 0 1 2 1 0"), printed("S 0 0 1 3 2 0 1 | = c | < f | > g | Z 1 0")),
+    "feature in two cases": (
+        one_step("source", "F", "f"),
+        printed("S 0 0 3 2 2 0 2 | = c | < g | > f | Z 1 0"),
+        printed("S 0 0 3 2 2 0 1 | = c | < g | > f | S 0 0 3 2 2 0 2 | = c | < g | > f | Z 2 0")),
+    "child in another case towards the source": (one_step("source", "f", wanted="M"), wires("0 0 1 2 1 0"), printed("S 0 0 3 2 2 0 1 | = c | < g | > f | Z 1 0")),
+    "child in another case towards the destination": (
+        one_step("destination", "f", wanted="M"),
+        wires("0 0 1 2 1 0"),
+        printed("S 0 0 1 3 2 0 1 | = c | < f | > g | Z 1 0")),
+    "feature and child in another case": (one_step("source", "F", wanted="M"), wires("0 0 1 2 1 0"), printed("S 0 0 3 2 2 0 1 | = c | < g | > f | Z 1 0")),
+    "outer feature in another case in the midst of a chain": (
+        with_feature(chain(3), 2, "destination_feature", "F"),
+        printed("S 0 0 3 1 2 0 1 | = top | < f | > f | Z 1 0"),
+        printed("S 0 0 5 1 4 0 1 2 3 | = top | < f | > f | Z 1 0")),
+    "inner feature in another case in the midst of a chain": (
+        with_feature(chain(3), 2, "source_feature", "F"),
+        printed("S 0 0 4 1 3 0 1 2 | = top | < F | > f | Z 1 0"),
+        printed("S 0 0 5 1 4 0 1 2 3 | = top | < f | > f | Z 1 0")),
+    "inner feature in another case at the end of a chain": (
+        with_feature(chain(3), 3, "source_feature", "F"),
+        *2 * [printed("S 0 0 5 1 4 0 1 2 3 | = top | < F | > f | Z 1 0")]),
+    "chain of 21 steps, the first in another case": (
+        with_feature(chain(21), 1, "destination_feature", "F"),
+        printed("S 0 0 2 1 1 0 | = top | < f | > f | Z 1 0"),
+        printed("S 0 0 22 1 21 0 1 2 3 4 5 6 7 8 9 10 11 12 13 14 15 16 17 18 19 20 | = top | < f | > f | Z 1 0")),
+    "group of children in two cases": (
+        group_of_a_child(group_of_one_feature(), "A a", "a", (1, 2)),
+        printed("S 0 2 2 0 1 0 | = c | < g | > g | S 0 0 2 0 1 0 | = c.f | < g.f | > g.f | Z 1 1"),
+        printed("S 0 2 1 0 1 0 | = c | < g | > g | S 0 2 2 0 1 0 | = c | < g | > g | S 0 0 1 0 1 0 | = c.f | < g.f | > g.f | Z 2 1")),
+    "group of a child in another case": (
+        group_of_a_child(group_of_one_feature(), "A", "a", (1,)),
+        printed("D 2 0 8 0 | ! connection 'c': unresolved source subcomponent 'a' | @ root | @ c | Z 0 0"),
+        printed("S 0 2 1 0 1 0 | = c | < g | > g | S 0 0 1 0 1 0 | = c.f | < g.f | > g.f | Z 1 1")),
+    "group of pump[1], which Pump has not": (
+        group_of_a_child(group_of_one_feature(), "Pump pump[1]", "pump", (2,)),
+        printed("S 0 2 2 0 1 0 | = c | < g | > g | S 0 0 2 0 1 0 | = c.f | < g.f | > g.f | Z 1 1"),
+        printed("S 0 2 1 0 1 0 | = c | < g | > g | Z 1 0")),
+    "group over the visits of a child in another case": (
+        group_of_a_child(nested_in_itself(3), "A", "a", (1,)),
+        printed("D 2 0 10 0 | ! connection 'c': unresolved source subcomponent 'a' | @ root | @ c | Z 0 0"),
+        printed("R 13 0 -")),
+    "33 wires from a child in two cases": (
+        wired("a A b", "a", wires=33),
+        wires(*("%d 0 1 3 1 %d" % (x, x) for x in range(33))),
+        printed("R 11 0 -")),
+    "33 wires between children in another case": (wired("a b", "A", "B", wires=33), printed("R 12 0 -"), wires(*("%d 0 1 2 1 %d" % (x, x) for x in range(33)))),
+    "65 wires from a child in another case": (wired("a b", "A", wires=65), printed("R 12 0 -"), printed("R 11 0 -")),
+    "names in two cases that meet nowhere": (with_names(wired("a b", "a"), "A", "B", "F"), *2 * [wires("0 0 1 2 1 0")]),
+    "names apart": (run(), *2 * [printed("S 0 0 3 2 2 0 1 | = c1 | < set | > set | Z 1 0")]),
+}
 
 # Label -> (sheet, its refusal). A label has no number in second place: that is where the seed of a generated sheet stands.
 REFUSED = {

@@ -5,7 +5,7 @@ use oracle::sheet::{Sheet, rows_lent};
 use oracle::stream::Case;
 use oracle::{MOST_VISITS, Options, endpoint, listing, traced};
 
-use crate::library::{self, Outputs};
+use crate::library::{self, Entry, Outputs};
 use crate::plain::original::Numbers;
 use crate::tables::Tables;
 use crate::{plain, quick};
@@ -120,7 +120,7 @@ impl Lent {
             names: &mut self.names,
             group_diagnostics: &mut self.group_diagnostics,
         };
-        library::list_connections(&self.tables, &mut self.links, outputs)
+        library::list_connections(Entry::Ported, &self.tables, &mut self.links, outputs)
     }
 
     /// The checks alone.

@@ -8,7 +8,7 @@ use native.Mathlib.Omega.{arith}
 use lib.Dec.{T, eqb, eqb→eq, eqb_refl}
 use Rattle.as5506.specs.Lists.{up_to, keep, has}
 use Rattle.as5506.specs.Tables.{Tables, letter_c, rows_naming, c_count, c_parent, c_place, children_of}
-use Rattle.as5506.specs.Names.{bracket}
+use Rattle.as5506.specs.Names.{Comparison, bracket}
 use Rattle.as5506.specs.Tracing.{is_named, is_element, or_elements, found_children}
 use Rattle.as5506.specs.Followed.{In}
 use Rattle.as5506.specs.Drawing.{PlacesRise, InDrawingOrder}
@@ -40,9 +40,9 @@ pub children-ordered : (m : Tables) (c : ℕ) → Ordered (Before (c_place m)) (
 children-ordered m c = sorted-ordered (c_place m) (rows_naming m letter_c (c_parent m) c) (rows-ordered m c)
 
 -- WHAT A NAME FINDS are those of the children that pass a test, whatever the tables
-pub found-kept : (m : Tables) (c : ℕ) (w : List ℕ) (P : List ℕ → Type 0) → ((p : ℕ → Bool) → P (keep p (children_of m c))) → P (found_children m c w)
+pub found-kept : (same : Comparison) (m : Tables) (c : ℕ) (w : List ℕ) (P : List ℕ → Type 0) → ((p : ℕ → Bool) → P (keep p (children_of m c))) → P (found_children same m c w)
 unfolding found_children or_elements
-found-kept m c w P kept = go (has bracket w) (keep (is_named m w) (children_of m c)) (kept (is_named m w))
+found-kept same m c w P kept = go (has bracket w) (keep (is_named same m w) (children_of m c)) (kept (is_named same m w))
   where
     go : (b : Bool) (l : List ℕ) → P l → P (or_elements b m c w l)
     go b (i ∷ l) h = h
@@ -98,6 +98,6 @@ module _ (m : Tables) (ok : T (accepted m)) where
       (λ i h. let k = d.alone i h in row-child m c i k.0 k.1) (λ i h. let k = child-row m c i h in d.each i k.0 k.1)
 
   -- WHAT A NAME FINDS FOLLOWS THE PLACES: pairs and steps are made of these children, and the group listing takes the first
-  pub found-rise : (c : ℕ) (w : List ℕ) → PlacesRise m (found_children m c w)
-  found-rise c w =
-      found-kept m c w (PlacesRise m) (λ p. rise m (keep p (children_of m c)) (ordered-keep (λ i j. c_place m i < c_place m j) p (children_of m c) (children-ascend c)))
+  pub found-rise : (same : Comparison) (c : ℕ) (w : List ℕ) → PlacesRise m (found_children same m c w)
+  found-rise same c w =
+      found-kept same m c w (PlacesRise m) (λ p. rise m (keep p (children_of m c)) (ordered-keep (λ i j. c_place m i < c_place m j) p (children_of m c) (children-ascend c)))

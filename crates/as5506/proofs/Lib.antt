@@ -18,6 +18,7 @@
 --     Demand        demand 3 over the definition
 --     Back          rows and diagnostics read back from their outputs
 --     Output        demand 3 of what the traced listing hands back
+--     Entries       02 (vi): both entries give one list where all names that differ also differ folded
 --     Widened       tables with the index in three numbers in place of one: refused as before
 --     PaddedLines   lines with the index in six columns, padded: their rows, refused as before
 --     IndexKept     02 (ii): a sheet written before keeps its index once padded
@@ -42,6 +43,7 @@ pub mod Links
 pub mod Demand
 pub mod Back
 pub mod Output
+pub mod Entries
 pub mod Widened
 pub mod PaddedLines
 pub mod IndexKept

@@ -12,6 +12,7 @@ use borrow.Author.Tests.{ne_eqb}
 use Rattle.as5506.specs.Lists.{up_to, keep, each, has, total}
 use Rattle.as5506.proofs.Laws.{All, all_map, all-of, all-zip, all_append, all_keep, all-passing, all-kept, all-each, each_all, all-mapped, mapped-all, each_same, total-same, total_mono, total-tight, total-times, total-times-right, total-each, total-map, total-append, up_to-below, times-tight, and_left, and_right, in_all}
 use Rattle.as5506.specs.Tables.{Tables, present, rows_naming, Side, source, destination, other, name_of, c_count, c_parent, children_of, x_count, x_owner, x_sub, connections_of}
+use Rattle.as5506.specs.Names.{Comparison}
 use Rattle.as5506.specs.Tracing.{found_children, Step, Chain, Start, child, owner, Pair, stop, push, grow, chains_by, chains, steps, steps_over, step_to, leads, shape, Shape, faulty, across, upward, downward, neither, named, one_to_one, pairs_by, pairs, zip_as, all_as, pairs_across, pairs_edge, pair_across, pair_up, pair_down, append_new, row_of, reach, pair_rows, rows_at, traced, shown, rows, unlimited}
 use Rattle.as5506.proofs.Children.{child-row, found-kept}
 use Rattle.as5506.proofs.Whole.{Sound, StartWhole, PairWhole, NoFurther}
@@ -156,46 +157,15 @@ module _ (m : Tables) (ok : Sound m) where
   children-below : (c : ℕ) → c < c_count m → All (Below m c) (children_of m c)
   children-below c h = in_all (Below m c) (children_of m c) (λ i k. let r = child-row m c i k in below c i h r.0 r.1)
 
-  found_below : (c : ℕ) (w : List ℕ) → c < c_count m → All (Below m c) (found_children m c w)
-  found_below c w h = found-kept m c w (All (Below m c)) (λ p. all-kept (Below m c) p (children_of m c) (children-below c h))
-
   -- the connections of a component are its own
   connections-of : (c : ℕ) → All (λ x. x_owner m x ≡ c) (connections_of m c)
   unfolding rows_naming
   connections-of c = all-passing (λ x. x_owner m x ≡ c) (λ x. eqb (x_owner m x) c) (λ x t. eqb→eq _ _ t) (up_to (x_count m))
 
-  leading : (s : Side) (c : ℕ) (w : List ℕ) (x i : ℕ) → T (leads m s w x) → x_owner m x ≡ c → Below m c i → Leading m s c (step_to m s x i)
-  unfolding leads
-  leading s c w x i t o b =
-      record {
-        of = o;
-        near = search and_left;
-        far = search (and_left, and_right);
-        below = b;
-      }
-
-  steps-leading : (s : Side) (c f : ℕ) → c < c_count m → All (Leading m s c) (steps m s c f)
-  unfolding steps steps_over
-  steps-leading s c f h =
-      all-each (λ x. T (leads m s (name_of m f) x) × (x_owner m x ≡ c)) (Leading m s c) (steps_over m s c)
-      (λ x t. all-mapped (Below m c) (Leading m s c) (step_to m s x) (λ i b. leading s c (name_of m f) x i t.0 t.1 b) (found_children m c (name_of m (x_sub m s x))) (found_below c _ h))
-      (keep (leads m s (name_of m f)) (connections_of m c))
-      (all_keep (λ x. x_owner m x ≡ c) (λ x. T (leads m s (name_of m f) x) × (x_owner m x ≡ c)) (leads m s (name_of m f)) (λ x t o. (t, o)) (connections_of m c) (connections-of c))
-
   -- the connections of a chain from c: each belongs to a component that is larger than the one before's
   abbrev pub Trail : Side → ℕ → List ℕ → Type 0
   Trail s c [] = Unit {0}
   Trail s c (x ∷ xs) = (x_owner m x ≡ c) × T (present (x_sub m s x)) × T (not (present (x_sub m (other s) x))) × ((d : ℕ) × (c < d) × Trail s d xs)
-
-  chains-trail : (s : Side) (k c f : ℕ) → c < c_count m → All (λ e. Trail s c e.path) (chains m s k c f)
-  unfolding chains chains_by
-  chains-trail s zero c f h = (tt, tt)
-  chains-trail s (suc k) c f h =
-      all-grown (steps m s) (λ e. Trail s c e.path) (λ st e. Leading m s c st × Trail s st.child e.path) k c f (λ z. tt)
-      (λ st e q. (q.0.of, q.0.near, q.0.far, (st.child, q.0.below.0, q.1)))
-      (all_map (Leading m s c) _
-      (λ st g. all_map (λ e. Trail s st.child e.path) (λ e. Leading m s c st × Trail s st.child e.path) (λ e q. (g, q)) (chains m s k st.child st.feat) (chains-trail s k st.child st.feat g.below.1))
-      (steps m s c f) (steps-leading s c f h))
 
   trail-near : (s : Side) (c : ℕ) (p : List ℕ) → Trail s c p → All (λ x. T (present (x_sub m s x))) p
   trail-near s c [] t = tt
@@ -227,14 +197,46 @@ module _ (m : Tables) (ok : Sound m) where
       (all_append (Old u.3.0) p (x ∷ []) (all_map (Old d) (Old u.3.0) (λ y o. old-later d u.3.0 y (omega (arith, u.3.1)) o) p t) (inr (omega (arith, u.0, u.3.1)), tt)) u.3.2
       ∙ append_assoc p (x ∷ []) xs)
 
+module _ (same : Comparison) (m : Tables) (ok : Sound m) where
+  found_below : (c : ℕ) (w : List ℕ) → c < c_count m → All (Below m c) (found_children same m c w)
+  found_below c w h = found-kept same m c w (All (Below m c)) (λ p. all-kept (Below m c) p (children_of m c) (children-below m ok c h))
+
+  leading : (s : Side) (c : ℕ) (w : List ℕ) (x i : ℕ) → T (leads same m s w x) → x_owner m x ≡ c → Below m c i → Leading m s c (step_to m s x i)
+  unfolding leads
+  leading s c w x i t o b =
+      record {
+        of = o;
+        near = search and_left;
+        far = search (and_left, and_right);
+        below = b;
+      }
+
+  steps-leading : (s : Side) (c f : ℕ) → c < c_count m → All (Leading m s c) (steps same m s c f)
+  unfolding steps steps_over
+  steps-leading s c f h =
+      all-each (λ x. T (leads same m s (name_of m f) x) × (x_owner m x ≡ c)) (Leading m s c) (steps_over same m s c)
+      (λ x t. all-mapped (Below m c) (Leading m s c) (step_to m s x) (λ i b. leading s c (name_of m f) x i t.0 t.1 b) (found_children same m c (name_of m (x_sub m s x))) (found_below c _ h))
+      (keep (leads same m s (name_of m f)) (connections_of m c))
+      (all_keep (λ x. x_owner m x ≡ c) (λ x. T (leads same m s (name_of m f) x) × (x_owner m x ≡ c)) (leads same m s (name_of m f)) (λ x t o. (t, o)) (connections_of m c) (connections-of m ok c))
+
+  chains-trail : (s : Side) (k c f : ℕ) → c < c_count m → All (λ e. Trail m ok s c e.path) (chains same m s k c f)
+  unfolding chains chains_by
+  chains-trail s zero c f h = (tt, tt)
+  chains-trail s (suc k) c f h =
+      all-grown (steps same m s) (λ e. Trail m ok s c e.path) (λ st e. Leading m s c st × Trail m ok s st.child e.path) k c f (λ z. tt)
+      (λ st e q. (q.0.of, q.0.near, q.0.far, (st.child, q.0.below.0, q.1)))
+      (all_map (Leading m s c) _
+      (λ st g. all_map (λ e. Trail m ok s st.child e.path) (λ e. Leading m s c st × Trail m ok s st.child e.path) (λ e q. (g, q)) (chains same m s k st.child st.feat) (chains-trail s k st.child st.feat g.below.1))
+      (steps same m s c f) (steps-leading s c f h))
+
 -- ---- pairs
 
 -- the weight of a pair's rows, by the chains of its starts
-abbrev start_mass : Tables → Side → ℕ → Start → ℕ
-start_mass m s k st = total end_weight (reach m s k st)
+abbrev start_mass : Comparison → Tables → Side → ℕ → Start → ℕ
+start_mass same m s k st = total end_weight (reach same m s k st)
 
-abbrev pair_mass : Tables → ℕ → Pair → ℕ
-pair_mass m k p = 2 * (start_mass m source k p.from * start_mass m destination k p.to)
+abbrev pair_mass : Comparison → Tables → ℕ → Pair → ℕ
+pair_mass same m k p = 2 * (start_mass same m source k p.from * start_mass same m destination k p.to)
 
 abbrev pub GoodStart : Tables → ℕ → Start → Type 0
 GoodStart m x (child c f) = (x_owner m x < c) × (c < c_count m)
@@ -259,35 +261,35 @@ all-pairs_edge : (P : ℕ → Type 0) (Q : Pair → Type 0) (o : Bool) (g : ℕ 
 all-pairs_edge P Q true g h l t = tt
 all-pairs_edge P Q false g h l t = all-mapped P Q g h l t
 
-module _ (m : Tables) (ok : Sound m) (x : ℕ) (lx : x < x_count m) where
-  named-below : (s : Side) → All (Below m (x_owner m x)) (named m s x)
+module _ (same : Comparison) (m : Tables) (ok : Sound m) (x : ℕ) (lx : x < x_count m) where
+  named-below : (s : Side) → All (Below m (x_owner m x)) (named same m s x)
   unfolding named
-  named-below s = found_below m ok (x_owner m x) _ (ok.owners x lx)
+  named-below s = found_below same m ok (x_owner m x) _ (ok.owners x lx)
 
-  pairs_by-good : (h : Shape) → All (GoodPair m x) (pairs_by m x h)
+  pairs_by-good : (h : Shape) → All (GoodPair m x) (pairs_by same m x h)
   unfolding pairs_by
   pairs_by-good faulty = tt
   pairs_by-good across =
       all-pairs_across (Below m (x_owner m x)) (GoodPair m x) (one_to_one m (x_owner m x)) (pair_across m x) (λ a b p q. (p, q))
-      (named m source x) (named m destination x) (named-below source) (named-below destination)
+      (named same m source x) (named same m destination x) (named-below source) (named-below destination)
   pairs_by-good upward =
-      all-pairs_edge (Below m (x_owner m x)) (GoodPair m x) (present (c_parent m (x_owner m x))) (pair_up m x) (λ a p. (p, tt)) (named m source x) (named-below source)
+      all-pairs_edge (Below m (x_owner m x)) (GoodPair m x) (present (c_parent m (x_owner m x))) (pair_up m x) (λ a p. (p, tt)) (named same m source x) (named-below source)
   pairs_by-good downward =
-      all-pairs_edge (Below m (x_owner m x)) (GoodPair m x) (present (c_parent m (x_owner m x))) (pair_down m x) (λ a p. (tt, p)) (named m destination x) (named-below destination)
+      all-pairs_edge (Below m (x_owner m x)) (GoodPair m x) (present (c_parent m (x_owner m x))) (pair_down m x) (λ a p. (tt, p)) (named same m destination x) (named-below destination)
   pairs_by-good neither = tt
 
-  pub pairs-good : All (GoodPair m x) (pairs m x)
+  pub pairs-good : All (GoodPair m x) (pairs same m x)
   unfolding pairs
   pairs-good = pairs_by-good (shape m x)
 
-  pub from-good : (k : ℕ) (st : Start) → GoodStart m x st → All (λ e. All (λ y. T (present (x_sub m source y))) e.path) (reach m source k st)
+  pub from-good : (k : ℕ) (st : Start) → GoodStart m x st → All (λ e. All (λ y. T (present (x_sub m source y))) e.path) (reach same m source k st)
   from-good k (child c f) g =
-      all_map (λ e. Trail m ok source c e.path) (λ e. All (λ y. T (present (x_sub m source y))) e.path) (λ e t. trail-near m ok source c e.path t) (chains m source k c f)
-      (chains-trail m ok source k c f g.1)
+      all_map (λ e. Trail m ok source c e.path) (λ e. All (λ y. T (present (x_sub m source y))) e.path) (λ e t. trail-near m ok source c e.path t) (chains same m source k c f)
+      (chains-trail same m ok source k c f g.1)
   from-good k (owner c f) g = (tt, tt)
 
-  pub to-good : (k : ℕ) (st : Start) → GoodStart m x st → (d : ℕ) × (x_owner m x < d) × All (λ e. Trail m ok destination d e.path) (reach m destination k st)
-  to-good k (child c f) g = (c, g.0, chains-trail m ok destination k c f g.1)
+  pub to-good : (k : ℕ) (st : Start) → GoodStart m x st → (d : ℕ) × (x_owner m x < d) × All (λ e. Trail m ok destination d e.path) (reach same m destination k st)
+  to-good k (child c f) g = (c, g.0, chains-trail same m ok destination k c f g.1)
   to-good k (owner c f) g = (suc (x_owner m x), le_refl _, (tt, tt))
 
   -- ---- the weight of a pair's rows
@@ -316,133 +318,133 @@ module _ (m : Tables) (ok : Sound m) (x : ℕ) (lx : x < x_count m) where
       ∙ ap (λ (n : ℕ). n * total end_weight es) (total-times 2 end_weight ss)
       ∙ mul_assoc 2 (total end_weight ss) (total end_weight es)
 
-  pair-weight : (k : ℕ) (p : Pair) → GoodPair m x p → total (λ r. weight r.path) (pair_rows m k x p) ≡ pair_mass m k p
+  pair-weight : (k : ℕ) (p : Pair) → GoodPair m x p → total (λ r. weight r.path) (pair_rows same m k x p) ≡ pair_mass same m k p
   unfolding pair_rows
   pair-weight k p g =
       let (d, l, u) = to-good k p.to g.1 in
-      product-weight d (reach m source k p.from) (reach m destination k p.to) l (from-good k p.from g.0) u
+      product-weight d (reach same m source k p.from) (reach same m destination k p.to) l (from-good k p.from g.0) u
 
-start-pos : (m : Tables) (s : Side) (k : ℕ) (st : Start) → 0 < start_mass m s k st
+start-pos : (same : Comparison) (m : Tables) (s : Side) (k : ℕ) (st : Start) → 0 < start_mass same m s k st
 unfolding chains
-start-pos m s k (child c f) = heft-pos (steps m s) k c f
-start-pos m s k (owner c f) = le_refl 1
+start-pos same m s k (child c f) = heft-pos (steps same m s) k c f
+start-pos same m s k (owner c f) = le_refl 1
 
-start-mono : (m : Tables) (s : Side) (a b : ℕ) → a ≤ b → (st : Start) → start_mass m s a st ≤ start_mass m s b st
+start-mono : (same : Comparison) (m : Tables) (s : Side) (a b : ℕ) → a ≤ b → (st : Start) → start_mass same m s a st ≤ start_mass same m s b st
 unfolding chains
-start-mono m s a b h (child c f) = heft-mono (steps m s) a b h c f
-start-mono m s a b h (owner c f) = le_refl 1
+start-mono same m s a b h (child c f) = heft-mono (steps same m s) a b h c f
+start-mono same m s a b h (owner c f) = le_refl 1
 
-start-tight : (m : Tables) (s : Side) (a b : ℕ) → a < b → (st : Start) → start_mass m s b st ≤ start_mass m s a st → StartWhole m s a st
+start-tight : (same : Comparison) (m : Tables) (s : Side) (a b : ℕ) → a < b → (st : Start) → start_mass same m s b st ≤ start_mass same m s a st → StartWhole same m s a st
 unfolding chains
-start-tight m s a b h (child c f) e =
-    ends→whole (steps m s) a c f (tight (steps m s) a b h c f (omega (arith, e, heft-mono (steps m s) a b (omega arith) c f)))
-start-tight m s a b h (owner c f) e = tt
+start-tight same m s a b h (child c f) e =
+    ends→whole (steps same m s) a c f (tight (steps same m s) a b h c f (omega (arith, e, heft-mono (steps same m s) a b (omega arith) c f)))
+start-tight same m s a b h (owner c f) e = tt
 
-start-same : (m : Tables) (s : Side) (a b : ℕ) → a ≤ b → (st : Start) → StartWhole m s a st → reach m s a st ≡ reach m s b st
+start-same : (same : Comparison) (m : Tables) (s : Side) (a b : ℕ) → a ≤ b → (st : Start) → StartWhole same m s a st → reach same m s a st ≡ reach same m s b st
 unfolding chains
-start-same m s a b h (child c f) w = same-chains (steps m s) a b h c f (whole→ends (steps m s) a c f w)
-start-same m s a b h (owner c f) w = refl
+start-same same m s a b h (child c f) w = same-chains (steps same m s) a b h c f (whole→ends (steps same m s) a c f w)
+start-same same m s a b h (owner c f) w = refl
 
 -- ⇐, for any model
-pub traced-same : (m : Tables) (a b : ℕ) → a ≤ b → NoFurther a m → traced a m ≡ traced b m
+pub traced-same : (same : Comparison) (m : Tables) (a b : ℕ) → a ≤ b → NoFurther same a m → traced same a m ≡ traced same b m
 unfolding traced rows_at pair_rows NoFurther
-traced-same m a b h w =
-    each_same (rows_at m a) (rows_at m b) (up_to (x_count m))
-    (all_map (λ x. All (PairWhole m a) (pairs m x)) (λ x. rows_at m a x ≡ rows_at m b x)
-    (λ x t. each_same (pair_rows m a x) (pair_rows m b x) (pairs m x)
-    (all_map (PairWhole m a) (λ p. pair_rows m a x p ≡ pair_rows m b x p)
-    (λ p q. ap₂ (λ (us vs : List Chain). each (λ s. map (row_of m x s) vs) us) (start-same m source a b h p.from q.0) (start-same m destination a b h p.to q.1))
-    (pairs m x) t)) (up_to (x_count m)) w)
+traced-same same m a b h w =
+    each_same (rows_at same m a) (rows_at same m b) (up_to (x_count m))
+    (all_map (λ x. All (PairWhole same m a) (pairs same m x)) (λ x. rows_at same m a x ≡ rows_at same m b x)
+    (λ x t. each_same (pair_rows same m a x) (pair_rows same m b x) (pairs same m x)
+    (all_map (PairWhole same m a) (λ p. pair_rows same m a x p ≡ pair_rows same m b x p)
+    (λ p q. ap₂ (λ (us vs : List Chain). each (λ s. map (row_of m x s) vs) us) (start-same same m source a b h p.from q.0) (start-same same m destination a b h p.to q.1))
+    (pairs same m x) t)) (up_to (x_count m)) w)
 
-module _ (m : Tables) (ok : Sound m) where
+module _ (same : Comparison) (m : Tables) (ok : Sound m) where
   abbrev mass : ℕ → ℕ
-  mass k = total (λ r. weight r.path) (traced k m)
+  mass k = total (λ r. weight r.path) (traced same k m)
 
   abbrev x_mass : ℕ → ℕ → ℕ
-  x_mass k x = total (λ r. weight r.path) (rows_at m k x)
+  x_mass k x = total (λ r. weight r.path) (rows_at same m k x)
 
   mass-rows : (k : ℕ) → mass k ≡ total (x_mass k) (up_to (x_count m))
   unfolding traced
-  mass-rows k = total-each (λ r. weight r.path) (rows_at m k) (up_to (x_count m))
+  mass-rows k = total-each (λ r. weight r.path) (rows_at same m k) (up_to (x_count m))
 
-  mass-pairs : (k x : ℕ) → x < x_count m → x_mass k x ≡ total (pair_mass m k) (pairs m x)
+  mass-pairs : (k x : ℕ) → x < x_count m → x_mass k x ≡ total (pair_mass same m k) (pairs same m x)
   unfolding rows_at
   mass-pairs k x lx =
-      total-each (λ r. weight r.path) (pair_rows m k x) (pairs m x)
-      ∙ total-same (λ p. total (λ r. weight r.path) (pair_rows m k x p)) (pair_mass m k) (pairs m x)
-      (all_map (GoodPair m x) _ (λ p g. pair-weight m ok x lx k p g) (pairs m x) (pairs-good m ok x lx))
+      total-each (λ r. weight r.path) (pair_rows same m k x) (pairs same m x)
+      ∙ total-same (λ p. total (λ r. weight r.path) (pair_rows same m k x p)) (pair_mass same m k) (pairs same m x)
+      (all_map (GoodPair m x) _ (λ p g. pair-weight same m ok x lx k p g) (pairs same m x) (pairs-good same m ok x lx))
 
-  pair_mass-mono : (a b : ℕ) → a ≤ b → (p : Pair) → pair_mass m a p ≤ pair_mass m b p
-  pair_mass-mono a b h p = mul-le-mul_left 2 (mul-le-mul (start-mono m source a b h p.from) (start-mono m destination a b h p.to))
+  pair_mass-mono : (a b : ℕ) → a ≤ b → (p : Pair) → pair_mass same m a p ≤ pair_mass same m b p
+  pair_mass-mono a b h p = mul-le-mul_left 2 (mul-le-mul (start-mono same m source a b h p.from) (start-mono same m destination a b h p.to))
 
   x_mass-mono : (a b : ℕ) → a ≤ b → (x : ℕ) → x < x_count m → x_mass a x ≤ x_mass b x
-  x_mass-mono a b h x lx = rw (mass-pairs a x lx, mass-pairs b x lx) (total_mono (pair_mass m a) (pair_mass m b) (pairs m x) (all-of _ (pair_mass-mono a b h) (pairs m x)))
+  x_mass-mono a b h x lx = rw (mass-pairs a x lx, mass-pairs b x lx) (total_mono (pair_mass same m a) (pair_mass same m b) (pairs same m x) (all-of _ (pair_mass-mono a b h) (pairs same m x)))
 
-  pair-tight : (a b : ℕ) → a < b → (p : Pair) → pair_mass m a p ≡ pair_mass m b p → PairWhole m a p
+  pair-tight : (a b : ℕ) → a < b → (p : Pair) → pair_mass same m a p ≡ pair_mass same m b p → PairWhole same m a p
   pair-tight a b h p e = (
-    start-tight m source a b h p.from (times-tight _ _ _ _ (start-pos m destination a p.to) (start-mono m destination a b (omega arith) p.to) w),
-    start-tight m destination a b h p.to (times-tight _ _ _ _ (start-pos m source a p.from) (start-mono m source a b (omega arith) p.from) (mul_comm (to a) (from a) ∙ w ∙ mul_comm (from b) (to b))),
+    start-tight same m source a b h p.from (times-tight _ _ _ _ (start-pos same m destination a p.to) (start-mono same m destination a b (omega arith) p.to) w),
+    start-tight same m destination a b h p.to (times-tight _ _ _ _ (start-pos same m source a p.from) (start-mono same m source a b (omega arith) p.from) (mul_comm (to a) (from a) ∙ w ∙ mul_comm (from b) (to b))),
   )
     where
       from : ℕ → ℕ
-      from k = start_mass m source k p.from
+      from k = start_mass same m source k p.from
 
       to : ℕ → ℕ
-      to k = start_mass m destination k p.to
+      to k = start_mass same m destination k p.to
 
       w : from a * to a ≡ from b * to b
       w = omega (arith, e)
 
-  x-tight : (a b : ℕ) → a < b → (x : ℕ) → x < x_count m → x_mass a x ≡ x_mass b x → All (PairWhole m a) (pairs m x)
+  x-tight : (a b : ℕ) → a < b → (x : ℕ) → x < x_count m → x_mass a x ≡ x_mass b x → All (PairWhole same m a) (pairs same m x)
   x-tight a b h x lx e =
-      all_map (λ p. pair_mass m a p ≡ pair_mass m b p) (PairWhole m a) (pair-tight a b h) (pairs m x)
-      (total-tight (pair_mass m a) (pair_mass m b) (pairs m x) (all-of _ (pair_mass-mono a b (omega arith)) (pairs m x)) (sym (mass-pairs a x lx) ∙ e ∙ mass-pairs b x lx))
+      all_map (λ p. pair_mass same m a p ≡ pair_mass same m b p) (PairWhole same m a) (pair-tight a b h) (pairs same m x)
+      (total-tight (pair_mass same m a) (pair_mass same m b) (pairs same m x) (all-of _ (pair_mass-mono a b (omega arith)) (pairs same m x)) (sym (mass-pairs a x lx) ∙ e ∙ mass-pairs b x lx))
 
   -- ⇒: of the rows only the sum of their paths' weights is used
-  mass-tight : (a b : ℕ) → a < b → mass a ≡ mass b → NoFurther a m
+  mass-tight : (a b : ℕ) → a < b → mass a ≡ mass b → NoFurther same a m
   unfolding NoFurther
   mass-tight a b h e =
-      all-zip (λ x. x < x_count m) (λ x. x_mass a x ≡ x_mass b x) (λ x. All (PairWhole m a) (pairs m x)) (x-tight a b h) (up_to (x_count m)) (up_to-below (x_count m))
+      all-zip (λ x. x < x_count m) (λ x. x_mass a x ≡ x_mass b x) (λ x. All (PairWhole same m a) (pairs same m x)) (x-tight a b h) (up_to (x_count m)) (up_to-below (x_count m))
       (total-tight (x_mass a) (x_mass b) (up_to (x_count m))
       (all_map (λ x. x < x_count m) (λ x. x_mass a x ≤ x_mass b x) (x_mass-mono a b (omega arith)) (up_to (x_count m)) (up_to-below (x_count m))) (sym (mass-rows a) ∙ e ∙ mass-rows b))
 
-  shown-mass : (k : ℕ) → total (λ r. weight r.path) (rows k m) ≡ mass k
+  shown-mass : (k : ℕ) → total (λ r. weight r.path) (rows same k m) ≡ mass k
   unfolding rows shown
-  shown-mass k = total-map (λ r. weight r.path) (shown m) (traced k m)
+  shown-mass k = total-map (λ r. weight r.path) (shown m) (traced same k m)
 
   -- THE LIMIT, over two limits: the rows with their names' bytes
-  pub limit : (a b : ℕ) → a < b → (rows a m ≡ rows b m) ↔ NoFurther a m
+  pub limit : (a b : ℕ) → a < b → (rows same a m ≡ rows same b m) ↔ NoFurther same a m
   unfolding rows
   limit a b h =
-      ((λ e. mass-tight a b h (sym (shown-mass a) ∙ ap (total (λ r. weight r.path)) e ∙ shown-mass b)), (λ w. ap (map (shown m)) (traced-same m a b (omega arith) w)))
+      ((λ e. mass-tight a b h (sym (shown-mass a) ∙ ap (total (λ r. weight r.path)) e ∙ shown-mass b)), (λ w. ap (map (shown m)) (traced-same same m a b (omega arith) w)))
 
   -- ---- without a limit
 
   -- each step leads to a larger component, so a chain has fewer steps than there are components
-  pub runs-out : (s : Side) (k c f : ℕ) → c < c_count m → c_count m ≤ c + k → Ends (steps m s) k c f
+  pub runs-out : (s : Side) (k c f : ℕ) → c < c_count m → c_count m ≤ c + k → Ends (steps same m s) k c f
   runs-out s zero c f h l = absurd (omega arith)
   runs-out s (suc k) c f h l =
-      all_map (Leading m s c) _ (λ st g. runs-out s k st.child st.feat g.below.1 (omega (arith, g.below.0))) (steps m s c f) (steps-leading m ok s c f h)
+      all_map (Leading m s c) _ (λ st g. runs-out s k st.child st.feat g.below.1 (omega (arith, g.below.0))) (steps same m s c f) (steps-leading same m ok s c f h)
 
-  start-ends : (s : Side) (k x : ℕ) → c_count m ≤ k → (st : Start) → GoodStart m x st → StartWhole m s k st
+  start-ends : (s : Side) (k x : ℕ) → c_count m ≤ k → (st : Start) → GoodStart m x st → StartWhole same m s k st
   unfolding chains
-  start-ends s k x h (child c f) g = ends→whole (steps m s) k c f (runs-out s k c f g.1 (omega arith))
+  start-ends s k x h (child c f) g = ends→whole (steps same m s) k c f (runs-out s k c f g.1 (omega arith))
   start-ends s k x h (owner c f) g = tt
 
-  pub no-further : (k : ℕ) → c_count m ≤ k → NoFurther k m
+  pub no-further : (k : ℕ) → c_count m ≤ k → NoFurther same k m
   unfolding NoFurther
   no-further k h =
-      all_map (λ x. x < x_count m) (λ x. All (PairWhole m k) (pairs m x))
-      (λ x lx. all_map (GoodPair m x) (PairWhole m k) (λ p g. (start-ends source k x h p.from g.0, start-ends destination k x h p.to g.1)) (pairs m x) (pairs-good m ok x lx))
+      all_map (λ x. x < x_count m) (λ x. All (PairWhole same m k) (pairs same m x))
+      (λ x lx. all_map (GoodPair m x) (PairWhole same m k) (λ p g. (start-ends source k x h p.from g.0, start-ends destination k x h p.to g.1)) (pairs same m x) (pairs-good same m ok x lx))
       (up_to (x_count m)) (up_to-below (x_count m))
 
   -- what `unlimited` gives is what every limit gives that is at least the number of components
-  pub unlimited-is : (k : ℕ) → c_count m ≤ k → unlimited m ≡ rows k m
+  pub unlimited-is : (k : ℕ) → c_count m ≤ k → unlimited same m ≡ rows same k m
   unfolding unlimited rows
-  unlimited-is k h = ap (map (shown m)) (traced-same m (c_count m) k h (no-further (c_count m) (le_refl (c_count m))))
+  unlimited-is k h = ap (map (shown m)) (traced-same same m (c_count m) k h (no-further (c_count m) (le_refl (c_count m))))
 
   -- a limit against none
-  pub limit-unlimited : (k : ℕ) → (rows k m ≡ unlimited m) ↔ NoFurther k m
+  pub limit-unlimited : (k : ℕ) → (rows same k m ≡ unlimited same m) ↔ NoFurther same k m
   limit-unlimited k = (
     (λ e. (limit k (c_count m + suc k) (omega arith)).0 (e ∙ unlimited-is (c_count m + suc k) (omega arith))),
     (λ w. (limit k (c_count m + suc k) (omega arith)).1 w ∙ sym (unlimited-is (c_count m + suc k) (omega arith))),

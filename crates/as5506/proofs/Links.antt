@@ -13,7 +13,8 @@ use lib.ListN.{length, get_or, get_or-append}
 use Rattle.std.specs.Prelude.{Option, None, Some}
 use Rattle.as5506.specs.Lists.{span, up_to, put_if, keep, is_nil, first_of, zeros, padded}
 use Rattle.as5506.specs.Tables.{Tables, letter_c, rows_naming, missing, c_count, c_parent, c_place, children_of}
-use Rattle.as5506.specs.Answers.{Refusal, fault}
+use Rattle.as5506.specs.Answers.{fault}
+use Rattle.as5506.specs.Names.{Comparison}
 use Rattle.as5506.specs.Tracing.{found_children}
 use Rattle.as5506.specs.Followed.{In}
 use Rattle.as5506.specs.Refusals.{faults, accepted}
@@ -126,9 +127,9 @@ module _ (m : Tables) where
   pub length-siblings : (c : ℕ) → length (children_of m c) ≤ c_count m
   length-siblings c = omega (arith, children-length c, keep-few (λ i. eqb (c_parent m i) c) (up_to (c_count m)), up_to-length (c_count m))
 
-  pub length-found : (c : ℕ) (w : List ℕ) → length (found_children m c w) ≤ c_count m
-  length-found c w =
-      found-kept m c w (λ l. length l ≤ c_count m) (λ p. omega (arith, keep-few p (children_of m c), length-siblings c))
+  pub length-found : (same : Comparison) (c : ℕ) (w : List ℕ) → length (found_children same m c w) ≤ c_count m
+  length-found same c w =
+      found-kept same m c w (λ l. length l ≤ c_count m) (λ p. omega (arith, keep-few p (children_of m c), length-siblings c))
 
 -- ---- accepted tables: component 0 is in no other component, and has no sibling behind it
 

@@ -11,7 +11,7 @@ use lib.Pointwise.{pointwise, pointwise_decides}
 use Rattle.std.specs.Prelude.{Option, None, Some}
 use Rattle.as5506.specs.Lists.{keep, each, first_of, same_bytes, bytes_of}
 use Rattle.as5506.specs.Tables.{Tables, count, c_count, missing, two_to32, Letter, letter_n, letter_c, letter_f, letter_x, letter_p, letter_i, letter_t, letter_q, letter_u, letter_e, letter_r, letter_m, table, name_of, Ref, ref}
-use Rattle.as5506.specs.Names.{good_name, folded, base_name, is_one_to_one}
+use Rattle.as5506.specs.Names.{Comparison, same_folded, good_name, folded, base_name, is_one_to_one}
 use Rattle.as5506.specs.Answers.{Place, nowhere, line, row, Refusal, refusal, Answer, given, refused}
 use Rattle.as5506.specs.Sheet.{Lent, is_n, lent_of, read_sheet, table_after, bytes_after}
 use Rattle.as5506.specs.Refusals.{faults10, faults, accepted}
@@ -26,7 +26,7 @@ use Rattle.as5506.specs.Listing.{Room, TracedList, GroupList, BothLists, group_o
 use Rattle.as5506.specs.Layout.{room_in, links_in, links_of, output, feature_numbers, traced_row_numbers, traced_diag_numbers, group_row_numbers, group_diag_numbers, expansion_numbers, composed_names, of_traced, of_group}
 use Rattle.as5506.specs.Modes.{modal, selections_of, is_cut, Modes, modes_answer, Selection, selection_answer}
 use Rattle.as5506.specs.Text.{column}
-use Rattle.as5506.specs.Program.{rows_lent, lent, text_lent, conlist_text, text_after, conlist, modes, mode}
+use Rattle.as5506.specs.Program.{rows_lent, lent, text_lent, conlist_text, text_after, conlist, conlist_ignoring_case, modes, mode}
 use Rattle.as5506.proofs.Laws.{All, and_left, and_right, and_both, is_true, same-bytes, bytes-same}
 
 -- ---- sheets, and models in words
@@ -218,9 +218,9 @@ refusal_before sheet = refusal_in (read_before (record { bytes = 16384; numbers 
 abbrev pub lengths : Lent → List ℕ
 lengths l = l.bytes ∷ map l.numbers letters
 
--- what conlist prints for tables
-abbrev pub listed : Tables → List ℕ
-listed m = conlist_text text_lent m
+-- what is printed for tables, from the entry of a comparison
+abbrev pub listed : Comparison → Tables → List ℕ
+listed same m = conlist_text same text_lent m
 
 -- 02 (xi): the number of selections and whether they are cut, of which a refusal has none; what a selection puts into its outputs
 abbrev pub mode_count : Answer Modes → ℕ
@@ -237,17 +237,17 @@ selection_rows s = s.rows
 abbrev pub selection_name : Selection → List ℕ
 selection_name s = s.name
 
--- the listings of a model in outputs of the given lengths: the link table, rows and diagnostics, of the group listing also composed names; of both, all five
--- beside the link table, and each of the five afterwards
-abbrev pub traced_in : Tables → (links rows diags : List ℕ) → Answer TracedList
-traced_in m ls rs ds = traced_answer (links_in (length ls)) (room_in (length rs) (length ds)) m
+-- by a comparison, the listings of a model in outputs of the given lengths: the link table, rows and diagnostics, of the group listing also composed names;
+-- of both, all five beside the link table, and each of the five afterwards
+abbrev pub traced_in : Comparison → Tables → (links rows diags : List ℕ) → Answer TracedList
+traced_in same m ls rs ds = traced_answer same (links_in (length ls)) (room_in (length rs) (length ds)) m
 
-abbrev pub group_in : Tables → (links rows diags names : List ℕ) → Answer GroupList
-group_in m ls rs ds ns = group_answer (links_in (length ls)) (room_in (length rs) (length ds)) (length ns) m
+abbrev pub group_in : Comparison → Tables → (links rows diags names : List ℕ) → Answer GroupList
+group_in same m ls rs ds ns = group_answer same (links_in (length ls)) (room_in (length rs) (length ds)) (length ns) m
 
-abbrev pub both_in : Tables → List ℕ → List (List ℕ) → Answer BothLists
-both_in m ls out =
-    both_answer (links_in (length ls)) (room_in (length (get_or out 0 [])) (length (get_or out 1 []))) (room_in (length (get_or out 2 [])) (length (get_or out 3 []))) (length (get_or out 4 [])) m
+abbrev pub both_in : Comparison → Tables → List ℕ → List (List ℕ) → Answer BothLists
+both_in same m ls out =
+    both_answer same (links_in (length ls)) (room_in (length (get_or out 0 [])) (length (get_or out 1 []))) (room_in (length (get_or out 2 [])) (length (get_or out 3 []))) (length (get_or out 4 [])) m
 
 abbrev pub both_outputs : Tables → List (List ℕ) → Answer BothLists → List (List ℕ)
 both_outputs m out a =
@@ -265,8 +265,10 @@ pub data Trial : Type 0 where
   lends : List ℕ → Trial
   -- a sheet written before 02 (ii), its refusal then or none, and what it is once padded
   pads : List ℕ → Option Refusal → List ℕ → Trial
-  -- tables, and what conlist prints for them
-  lists : Tables → List String → Trial
+  -- a sheet's bytes, and what conlist_ignoring_case prints
+  prints_folded : List ℕ → List String → Trial
+  -- a comparison and tables, and what is printed for them
+  lists_by : Comparison → Tables → List String → Trial
   -- and how many bytes that is
   length_is : Tables → ℕ → Trial
   name : List ℕ → Bool → Trial
@@ -287,18 +289,18 @@ pub data Trial : Type 0 where
   stops : ℕ → Expansion → Option Refusal → ℕ → ℕ → Trial
   -- tables, the names of the asking package and of the group, the inverse flag: the refusal or none, and the output of features afterwards
   expands_into : Tables → ℕ → ℕ → Bool → Option Refusal → List ℕ → Trial
-  -- an accepted model, a component and a name: the children that are found
-  children : Tables → ℕ → String → List ℕ → Trial
-  -- of an accepted model the rows of at most 20 steps are the rows without a limit; they are not
-  whole : Tables → Trial
-  cut : Tables → Trial
+  -- a comparison, an accepted model, a component and a name: the children that are found
+  children_by : Comparison → Tables → ℕ → String → List ℕ → Trial
+  -- by a comparison, of an accepted model the rows of at most 20 steps are the rows without a limit; they are not
+  whole_by : Comparison → Tables → Trial
+  cut_by : Comparison → Tables → Trial
   -- 02 (xiii): an accepted model and a component: the walk along the link table from its first child on
   walks : Tables → ℕ → List ℕ → Trial
-  -- tables, the refusal of a listing or none, its outputs afterwards: the link table, rows and diagnostics; of the group listing also composed names; of
-  -- both, the link table and all five
-  traces : Tables → Option Refusal → (links rows diags : List ℕ) → Trial
-  groups : Tables → Option Refusal → (links rows diags names : List ℕ) → Trial
-  both : Tables → Option Refusal → (links : List ℕ) → List (List ℕ) → Trial
+  -- a comparison and tables, the refusal of a listing or none, its outputs afterwards: the link table, rows and diagnostics; of the group listing also
+  -- composed names; of both, the link table and all five
+  traces_by : Comparison → Tables → Option Refusal → (links rows diags : List ℕ) → Trial
+  groups_by : Comparison → Tables → Option Refusal → (links rows diags names : List ℕ) → Trial
+  both_by : Comparison → Tables → Option Refusal → (links : List ℕ) → List (List ℕ) → Trial
   -- 02 (xi): under a limit, the selections of tables and whether they are cut
   grows : ℕ → Tables → List (List ℕ) → Bool → Trial
   -- the refusal or none, the number of selections and whether they are cut; a number, the refusal or none, the outputs of M rows and of the name
@@ -310,13 +312,57 @@ pub data Trial : Type 0 where
   -- the group listing of connections whose ends are expanded
   joins : Room → ℕ → Tables → List GroupConnection → Option Refusal → Trial
 
+-- by bytes, as the ported entry compares; and folded, as the second one
+abbrev pub lists : Tables → List String → Trial
+lists = lists_by same_bytes
+
+abbrev pub lists_folded : Tables → List String → Trial
+lists_folded = lists_by same_folded
+
+abbrev pub children : Tables → ℕ → String → List ℕ → Trial
+children = children_by same_bytes
+
+abbrev pub children_folded : Tables → ℕ → String → List ℕ → Trial
+children_folded = children_by same_folded
+
+abbrev pub whole : Tables → Trial
+whole = whole_by same_bytes
+
+abbrev pub whole_folded : Tables → Trial
+whole_folded = whole_by same_folded
+
+abbrev pub cut : Tables → Trial
+cut = cut_by same_bytes
+
+abbrev pub cut_folded : Tables → Trial
+cut_folded = cut_by same_folded
+
+abbrev pub traces : Tables → Option Refusal → (links rows diags : List ℕ) → Trial
+traces = traces_by same_bytes
+
+abbrev pub traces_folded : Tables → Option Refusal → (links rows diags : List ℕ) → Trial
+traces_folded = traces_by same_folded
+
+abbrev pub groups : Tables → Option Refusal → (links rows diags names : List ℕ) → Trial
+groups = groups_by same_bytes
+
+abbrev pub groups_folded : Tables → Option Refusal → (links rows diags names : List ℕ) → Trial
+groups_folded = groups_by same_folded
+
+abbrev pub both : Tables → Option Refusal → (links : List ℕ) → List (List ℕ) → Trial
+both = both_by same_bytes
+
+abbrev pub both_folded : Tables → Option Refusal → (links : List ℕ) → List (List ℕ) → Trial
+both_folded = both_by same_folded
+
 abbrev pub Means : Trial → Type 0
 Means (prints sheet list) = conlist sheet ≡ text list
 Means (fills sheet out) = text_after (length out) sheet ≡ out
 Means (lends ns) = lengths lent ≡ ns
 Means (pads sheet r padded) = (refusal_before sheet ≡ r) × (padded_sheet sheet ≡ padded)
-Means (lists m list) = listed m ≡ text list
-Means (length_is m n) = length (listed m) ≡ n
+Means (prints_folded sheet list) = conlist_ignoring_case sheet ≡ text list
+Means (lists_by same m list) = listed same m ≡ text list
+Means (length_is m n) = length (listed same_bytes m) ≡ n
 Means (name s b) = good_name s ≡ b
 Means (folds s t) = folded (bytes_of s) ≡ bytes_of t
 Means (base s t) = base_name (bytes_of s) ≡ bytes_of t
@@ -335,25 +381,25 @@ Means (stops room x r fs visits) =
 Means (expands_into m g u inverse r out) =
     (refusal_of (expand_answer (length out / feature_numbers) m g u inverse) ≡ r)
     × (output (length out) expansion_numbers (expand_answer (length out / feature_numbers) m g u inverse) ≡ out)
-Means (children m c s l) = T (accepted m) × (found_children m c (bytes_of s) ≡ l)
-Means (whole m) = T (accepted m) × (rows step_limit m ≡ unlimited m)
-Means (cut m) = T (accepted m) × (rows step_limit m ≡ unlimited m → ⊥)
+Means (children_by same m c s l) = T (accepted m) × (found_children same m c (bytes_of s) ≡ l)
+Means (whole_by same m) = T (accepted m) × (rows same step_limit m ≡ unlimited same m)
+Means (cut_by same m) = T (accepted m) × (rows same step_limit m ≡ unlimited same m → ⊥)
 Means (walks m c l) = T (accepted m) × (walk (link_table m) (c_count m) (first_in (link_table m) c) ≡ l)
-Means (traces m r ls rs ds) =
-    (refusal_of (traced_in m ls rs ds) ≡ r)
-    × (output (length ls) (links_of m) (traced_in m ls rs ds) ≡ ls)
-    × (output (length rs) (traced_row_numbers m) (traced_in m ls rs ds) ≡ rs)
-    × (output (length ds) traced_diag_numbers (traced_in m ls rs ds) ≡ ds)
-Means (groups m r ls rs ds ns) =
-    (refusal_of (group_in m ls rs ds ns) ≡ r)
-    × (output (length ls) (links_of m) (group_in m ls rs ds ns) ≡ ls)
-    × (output (length rs) group_row_numbers (group_in m ls rs ds ns) ≡ rs)
-    × (output (length ds) group_diag_numbers (group_in m ls rs ds ns) ≡ ds)
-    × (output (length ns) composed_names (group_in m ls rs ds ns) ≡ ns)
-Means (both m r ls out) =
-    (refusal_of (both_in m ls out) ≡ r)
-    × (output (length ls) (links_of m) (both_in m ls out) ≡ ls)
-    × (both_outputs m out (both_in m ls out) ≡ out)
+Means (traces_by same m r ls rs ds) =
+    (refusal_of (traced_in same m ls rs ds) ≡ r)
+    × (output (length ls) (links_of m) (traced_in same m ls rs ds) ≡ ls)
+    × (output (length rs) (traced_row_numbers m) (traced_in same m ls rs ds) ≡ rs)
+    × (output (length ds) traced_diag_numbers (traced_in same m ls rs ds) ≡ ds)
+Means (groups_by same m r ls rs ds ns) =
+    (refusal_of (group_in same m ls rs ds ns) ≡ r)
+    × (output (length ls) (links_of m) (group_in same m ls rs ds ns) ≡ ls)
+    × (output (length rs) group_row_numbers (group_in same m ls rs ds ns) ≡ rs)
+    × (output (length ds) group_diag_numbers (group_in same m ls rs ds ns) ≡ ds)
+    × (output (length ns) composed_names (group_in same m ls rs ds ns) ≡ ns)
+Means (both_by same m r ls out) =
+    (refusal_of (both_in same m ls out) ≡ r)
+    × (output (length ls) (links_of m) (both_in same m ls out) ≡ ls)
+    × (both_outputs m out (both_in same m ls out) ≡ out)
 Means (grows limit m ss b) = (selections_of limit (modal m) ≡ ss) × (is_cut limit (modal m) ≡ b)
 Means (counts_modes m r n b) = (refusal_of (modes_answer m) ≡ r) × (mode_count (modes_answer m) ≡ n) × (modes_cut (modes_answer m) ≡ b)
 Means (selects m k r rs ns) =
@@ -501,8 +547,9 @@ passes (prints sheet list) = same_bytes (conlist sheet) (text list)
 passes (fills sheet out) = same_bytes (text_after (length out) sheet) out
 passes (lends ns) = same_bytes (lengths lent) ns
 passes (pads sheet r padded) = same_refusal (refusal_before sheet) r && same_bytes (padded_sheet sheet) padded
-passes (lists m list) = same_bytes (listed m) (text list)
-passes (length_is m n) = eqb (length (listed m)) n
+passes (prints_folded sheet list) = same_bytes (conlist_ignoring_case sheet) (text list)
+passes (lists_by same m list) = same_bytes (listed same m) (text list)
+passes (length_is m n) = eqb (length (listed same_bytes m)) n
 passes (name s b) = beq (good_name s) b
 passes (folds s t) = same_bytes (folded (bytes_of s)) (bytes_of t)
 passes (base s t) = same_bytes (base_name (bytes_of s)) (bytes_of t)
@@ -521,24 +568,24 @@ passes (stops room x r fs visits) =
 passes (expands_into m g u inverse r out) =
     same_refusal (refusal_of (expand_answer (length out / feature_numbers) m g u inverse)) r
     && same_bytes (output (length out) expansion_numbers (expand_answer (length out / feature_numbers) m g u inverse)) out
-passes (children m c s l) = accepted m && same_bytes (found_children m c (bytes_of s)) l
-passes (whole m) = accepted m && same_rows (rows step_limit m) (unlimited m)
-passes (cut m) = accepted m && not (same_rows (rows step_limit m) (unlimited m))
+passes (children_by same m c s l) = accepted m && same_bytes (found_children same m c (bytes_of s)) l
+passes (whole_by same m) = accepted m && same_rows (rows same step_limit m) (unlimited same m)
+passes (cut_by same m) = accepted m && not (same_rows (rows same step_limit m) (unlimited same m))
 passes (walks m c l) = accepted m && same_bytes (walk (link_table m) (c_count m) (first_in (link_table m) c)) l
-passes (traces m r ls rs ds) =
-    same_refusal (refusal_of (traced_in m ls rs ds)) r
-    && (same_bytes (output (length ls) (links_of m) (traced_in m ls rs ds)) ls
-    && (same_bytes (output (length rs) (traced_row_numbers m) (traced_in m ls rs ds)) rs
-    && same_bytes (output (length ds) traced_diag_numbers (traced_in m ls rs ds)) ds))
-passes (groups m r ls rs ds ns) =
-    same_refusal (refusal_of (group_in m ls rs ds ns)) r
-    && (same_bytes (output (length ls) (links_of m) (group_in m ls rs ds ns)) ls
-    && (same_bytes (output (length rs) group_row_numbers (group_in m ls rs ds ns)) rs
-    && (same_bytes (output (length ds) group_diag_numbers (group_in m ls rs ds ns)) ds
-    && same_bytes (output (length ns) composed_names (group_in m ls rs ds ns)) ns)))
-passes (both m r ls out) =
-    same_refusal (refusal_of (both_in m ls out)) r
-    && (same_bytes (output (length ls) (links_of m) (both_in m ls out)) ls && same_lists (both_outputs m out (both_in m ls out)) out)
+passes (traces_by same m r ls rs ds) =
+    same_refusal (refusal_of (traced_in same m ls rs ds)) r
+    && (same_bytes (output (length ls) (links_of m) (traced_in same m ls rs ds)) ls
+    && (same_bytes (output (length rs) (traced_row_numbers m) (traced_in same m ls rs ds)) rs
+    && same_bytes (output (length ds) traced_diag_numbers (traced_in same m ls rs ds)) ds))
+passes (groups_by same m r ls rs ds ns) =
+    same_refusal (refusal_of (group_in same m ls rs ds ns)) r
+    && (same_bytes (output (length ls) (links_of m) (group_in same m ls rs ds ns)) ls
+    && (same_bytes (output (length rs) group_row_numbers (group_in same m ls rs ds ns)) rs
+    && (same_bytes (output (length ds) group_diag_numbers (group_in same m ls rs ds ns)) ds
+    && same_bytes (output (length ns) composed_names (group_in same m ls rs ds ns)) ns)))
+passes (both_by same m r ls out) =
+    same_refusal (refusal_of (both_in same m ls out)) r
+    && (same_bytes (output (length ls) (links_of m) (both_in same m ls out)) ls && same_lists (both_outputs m out (both_in same m ls out)) out)
 passes (grows limit m ss b) = same_lists (selections_of limit (modal m)) ss && beq (is_cut limit (modal m)) b
 passes (counts_modes m r n b) = same_refusal (refusal_of (modes_answer m)) r && (eqb (mode_count (modes_answer m)) n && beq (modes_cut (modes_answer m)) b)
 passes (selects m k r rs ns) =
@@ -554,8 +601,9 @@ meant (prints sheet list) t = same-bytes (conlist sheet) (text list) t
 meant (fills sheet out) t = same-bytes (text_after (length out) sheet) out t
 meant (lends ns) t = same-bytes (lengths lent) ns t
 meant (pads sheet r padded) t = (same-refusal _ r (search and_left), same-bytes _ padded (search and_right))
-meant (lists m list) t = same-bytes (listed m) (text list) t
-meant (length_is m n) t = eqb→eq (length (listed m)) n t
+meant (prints_folded sheet list) t = same-bytes (conlist_ignoring_case sheet) (text list) t
+meant (lists_by same m list) t = same-bytes (listed same m) (text list) t
+meant (length_is m n) t = eqb→eq (length (listed same_bytes m)) n t
 meant (name s b) t = same-bool (good_name s) b t
 meant (folds s r) t = same-bytes (folded (bytes_of s)) (bytes_of r) t
 meant (base s r) t = same-bytes (base_name (bytes_of s)) (bytes_of r) t
@@ -576,27 +624,27 @@ meant (expands m g u fs visits) t = (and_left (accepted m) _ t, same-lists _ (ma
 meant (stops room x r fs visits) t =
     (same-refusal _ r (search and_left), eqb→eq _ fs (search (and_left, and_right)), eqb→eq _ visits (search (and_left, and_right)))
 meant (expands_into m g u inverse r out) t = (same-refusal _ r (search and_left), same-bytes _ out (search and_right))
-meant (children m c s l) t = (and_left (accepted m) _ t, same-bytes (found_children m c (bytes_of s)) l (and_right (accepted m) _ t))
-meant (whole m) t = (and_left (accepted m) _ t, same-rows (rows step_limit m) (unlimited m) (and_right (accepted m) _ t))
-meant (cut m) t = (
-  and_left (accepted m) (not (same_rows (rows step_limit m) (unlimited m))) t,
-  (λ e. T_not (same_rows (rows step_limit m) (unlimited m)) (and_right (accepted m) (not (same_rows (rows step_limit m) (unlimited m))) t) (rows_same (rows step_limit m) (unlimited m) e)),
+meant (children_by same m c s l) t = (and_left (accepted m) _ t, same-bytes (found_children same m c (bytes_of s)) l (and_right (accepted m) _ t))
+meant (whole_by same m) t = (and_left (accepted m) _ t, same-rows (rows same step_limit m) (unlimited same m) (and_right (accepted m) _ t))
+meant (cut_by same m) t = (
+  and_left (accepted m) (not (same_rows (rows same step_limit m) (unlimited same m))) t,
+  (λ e. T_not (same_rows (rows same step_limit m) (unlimited same m)) (and_right (accepted m) (not (same_rows (rows same step_limit m) (unlimited same m))) t) (rows_same (rows same step_limit m) (unlimited same m) e)),
 )
 meant (walks m c l) t = (and_left (accepted m) _ t, same-bytes _ l (and_right (accepted m) _ t))
-meant (traces m r ls rs ds) t = (
+meant (traces_by same m r ls rs ds) t = (
   same-refusal _ r (search and_left),
   same-bytes _ ls (search (and_left, and_right)),
   same-bytes _ rs (search (and_left, and_right)),
   same-bytes _ ds (search (and_left, and_right)),
 )
-meant (groups m r ls rs ds ns) t = (
+meant (groups_by same m r ls rs ds ns) t = (
   same-refusal _ r (search and_left),
   same-bytes _ ls (search (and_left, and_right)),
   same-bytes _ rs (search (and_left, and_right)),
   same-bytes _ ds (search (and_left, and_right)),
   same-bytes _ ns (search (and_left, and_right)),
 )
-meant (both m r ls out) t = (same-refusal _ r (search and_left), same-bytes _ ls (search (and_left, and_right)), same-lists _ out (search (and_left, and_right)))
+meant (both_by same m r ls out) t = (same-refusal _ r (search and_left), same-bytes _ ls (search (and_left, and_right)), same-lists _ out (search (and_left, and_right)))
 meant (grows limit m ss b) t = (same-lists _ ss (search and_left), same-bool _ b (search and_right))
 meant (counts_modes m r n b) t = (same-refusal _ r (search and_left), eqb→eq _ n (search (and_left, and_right)), same-bool (modes_cut (modes_answer m)) b (search and_right))
 meant (selects m k r rs ns) t =

@@ -22,12 +22,12 @@ use Rattle.as5506.specs.Listing.{expansion_within, expand_on, expand_answer, tra
 use Rattle.as5506.specs.Layout.{feature_block, expansion_numbers, traced_block, group_block, diag_block, traced_row_numbers, traced_diag_numbers, group_row_numbers, group_diag_numbers, composed_names}
 use Rattle.as5506.specs.Text.{digits_within, digits, column, number_line, text_line, row_text, message, path_names, diag_text, list_text, modes_line, selection_lines, refusal_text, text_within}
 use Rattle.as5506.specs.Modes.{modal, grown, selections_of, combinations, selections, underscored, joined_name, modes_counted, modes_on, modes_answer, selection_at, selection_within, selection_on, selection_answer}
-use Rattle.as5506.specs.Program.{text_or_refusal, printed_or_refusal, conlist_text, modes_text, mode_text, of_reading, what_fits, conlist_within, text_after, conlist, modes, mode}
+use Rattle.as5506.specs.Program.{text_or_refusal, printed_or_refusal, conlist_text, modes_text, mode_text, of_reading, what_fits, conlist_within, text_after, conlist, conlist_ignoring_case, modes, mode}
 use Rattle.as5506.proofs.Laws.{All}
-use Rattle.as5506.proofs.TrialForms.{Trial, Means, prints, lists, pattern, children, expands, whole, cut, text, component_rows, offsets, every, all-meant}
+use Rattle.as5506.proofs.TrialForms.{Trial, Means, prints, prints_folded, lists, lists_folded, pattern, children, expands, whole, whole_folded, cut, cut_folded, text, component_rows, offsets, every, all-meant}
 use Rattle.as5506.proofs.TrialsRead.{of_names, of_sheets, of_index, of_lent, of10, of6, of7to9, of16}
-use Rattle.as5506.proofs.TrialsFind.{of_packages, of_searches, of_groups, of_children}
-use Rattle.as5506.proofs.TrialsList.{of_chains, of_places, of_shapes, of_matching, of_endpoints, of_rooms, of_links, of_conlist, of_modes}
+use Rattle.as5506.proofs.TrialsFind.{of_packages, of_searches, of_groups, of_children, of_spellings}
+use Rattle.as5506.proofs.TrialsList.{of_chains, of_places, of_shapes, of_matching, of_endpoints, of_rooms, of_links, of_entries, of_conlist, of_visits, of_modes}
 
 -- ---- models made by rule
 
@@ -72,6 +72,17 @@ mirror n =
     made (map bytes_of ("r" ∷ "a" ∷ "b" ∷ "f" ∷ []))
     (comp 0 missing missing ∷ comp 2 0 missing ∷ comp 1 0 missing ∷ nest 2 3 n)
     (conn 3 0 2 3 1 3 ∷ downs 2 3 n) [] [] []
+
+-- as `chain`, but each step names the child, and the feature that the step before leads to, in other case: folded a source chain of n steps, by bytes of none
+abbrev spelled_ups : ℕ → ℕ → ℕ → List (List ℕ)
+spelled_ups p i zero = []
+spelled_ups p i (suc n) = conn 3 p 5 3 missing 4 ∷ spelled_ups i (suc i) n
+
+abbrev pub spelled : ℕ → Tables
+spelled n =
+    made (map bytes_of ("r" ∷ "a" ∷ "b" ∷ "f" ∷ "F" ∷ "A" ∷ []))
+    (comp 0 missing missing ∷ comp 2 0 missing ∷ comp 1 0 missing ∷ nest 2 3 n)
+    (conn 3 0 1 3 2 3 ∷ spelled_ups 2 3 n) [] [] []
 
 -- one to one, 3 against 2: the third a, which is paired with nothing, holds a chain of n steps
 abbrev unpaired : ℕ → Tables
@@ -120,15 +131,18 @@ uneven =
     "! connection 'c': One_To_One pattern requires equal array sizes (source=3, destination=2)" ∷ "@ top" ∷ "@ c" ∷
     "Z     2     0" ∷ [])
 
--- "Traps: folding in tracing"
-abbrev unfolded : Trial
-unfolded =
-    prints
-    (text ("N top" ∷ "N p" ∷ "N t" ∷ "N a" ∷ "N z" ∷ "N k" ∷ "N c" ∷ "N f" ∷ "N g" ∷ "N d" ∷ "N h" ∷ "N F" ∷
+-- connection d leads to F inside a, and connection c begins at f of a
+abbrev in_other_case : List ℕ
+in_other_case =
+    text
+    ("N top" ∷ "N p" ∷ "N t" ∷ "N a" ∷ "N z" ∷ "N k" ∷ "N c" ∷ "N f" ∷ "N g" ∷ "N d" ∷ "N H" ∷ "N F" ∷
     "C     0     -                   -     1     2     -     0" ∷ "C     3     0                   -     1     2     -     0" ∷
     "C     4     0                   -     1     2     -     1" ∷ "C     5     1                   -     1     2     -     0" ∷
-    "X     6     0     0     3     7     4     8" ∷ "X     9     1     0     5    10     -    11" ∷ []))
-    ("S     0     0     1     2     1     0" ∷ "= c" ∷ "< f" ∷ "> g" ∷ "Z     1     0" ∷ [])
+    "X     6     0     0     3     7     4     8" ∷ "X     9     1     0     5    10     -    11" ∷ [])
+
+-- "Traps: folding in tracing"
+abbrev unfolded : Trial
+unfolded = prints in_other_case ("S     0     0     1     2     1     0" ∷ "= c" ∷ "< f" ∷ "> g" ∷ "Z     1     0" ∷ [])
 
 -- "own features beside inverse_of"
 abbrev inverse : Trial
@@ -191,23 +205,40 @@ of_limit =
     ∷ whole (unpaired 21)
     ∷ []
 
+-- 02 (vi): sheets through the second entry, and "the step-limit statement is shown for both readings": chains that only the second one follows
+abbrev of_folded : List Trial
+of_folded =
+    prints_folded in_other_case ("S     0     0     3     2     2     0     1" ∷ "= c" ∷ "< H" ∷ "> g" ∷ "Z     1     0" ∷ [])
+    ∷ prints_folded [] ("R     7     0 C" ∷ [])
+    ∷ prints_folded (bytes_of "N") ("R     2     1 -" ∷ [])
+    ∷ whole (spelled 21)
+    ∷ whole_folded (spelled 20)
+    ∷ cut_folded (spelled 21)
+    ∷ lists_folded (spelled 21)
+    ("S     0     0    22     1    21     0     1     2     3     4     5     6     7     8     9    10    11    12    13    14    15    16    17    18    19    20" ∷
+    "= f" ∷ "< f" ∷ "> f" ∷ "Z     1     0" ∷ [])
+    -- chains that both follow
+    ∷ whole_folded (mirror 20)
+    ∷ cut_folded (mirror 21)
+    ∷ []
+
 -- A TRIAL FOR EACH RULE; the quick ones first, since a definition that differs is refused at the first trial that fails
 abbrev pub further : List Trial
 further =
-    of_names ++ of_index ++ of_lent ++ of10 ++ of7to9 ++ of16 ++ of_packages ++ of_searches ++ of_groups ++ of_children ++ of_chains ++ of_places ++ of_shapes ++ of_matching ++ of_endpoints
-    ++ of_rooms ++ of_links ++ of_sheets ++ of_limit ++ of6 ++ of_conlist ++ of_modes
+    of_names ++ of_index ++ of_lent ++ of10 ++ of7to9 ++ of16 ++ of_packages ++ of_searches ++ of_groups ++ of_children ++ of_spellings ++ of_chains ++ of_places ++ of_shapes ++ of_matching
+    ++ of_endpoints ++ of_rooms ++ of_folded ++ of_entries ++ of_links ++ of_sheets ++ of_limit ++ of6 ++ of_conlist ++ of_visits ++ of_modes
 
 abbrev pub trial_table : List Trial
 trial_table = starred ++ traps ++ further
 
 -- how many there are
-trials-counted : length trial_table ≡ 668
+trials-counted : length trial_table ≡ 747
 trials-counted = refl
 
 -- ---- THE PROOF
 
 table-passes : T (every trial_table)
-unfolding padded sort_by rows_naming name_in good_name folded key same_folded base_name is_one_to_one unspaced decimal_from is_decimal is_number field_of fields_fit field_numbers line_with lines_of letter_of lines_with keeps_rules has_place is_earlier line_faults faults_from sheet_faults placed rows_read tables_read read_sheet table_after bytes_after broken_rows too_many_rows bad_name faults10 allows_from bad_row faults6 faults7 clashes_from clashes faults16 faults8 faults9 faults accepted has_place_before line_faults_before lines_faults_before tables_read_before read_before faults10_before allows_from_before faults6_before faults7_before faults16_before faults_before padded_sheet package_named type_named impl_named group_named renames_named type_hit in_package_by in_package in_found replaced_by replaced in_named with_package from_imports target renames_for after_rename after_own without_package resolve_by resolve turned feature_by features_walked extended_by type_by found_by visit_within expand_feature_group expand expansion_within expand_on expand_answer feature_block expansion_numbers is_named is_element or_elements found_children leads steps_over steps chains_by chains shape named one_to_one pairs_by pairs append_new row_of pair_rows rows_at traced shown rows unlimited diags_by diags_at traced_diags first_child siblings_behind next_sibling link_row link_table walk is_group_feature type_of declared_group classifier_by declared_by typed_by endpoint_by endpoint is_group_connection end_component_by end_component group_connection group_connections overrun partner matches_by matches dotted full_name connection_kind match_row match_diag rows_matched diags_matched traced_list traced_within row_names group_within group_list_of group_of traced_on traced_answer group_on group_answer with_group after_traced both_answer traced_block group_block diag_block traced_row_numbers traced_diag_numbers group_row_numbers group_diag_numbers composed_names digits_within digits column number_line text_line row_text message path_names diag_text list_text modes_line selection_lines refusal_text text_within modal grown selections_of combinations selections underscored joined_name modes_counted modes_on modes_answer selection_at selection_within selection_on selection_answer text_or_refusal printed_or_refusal conlist_text modes_text mode_text of_reading what_fits conlist_within text_after conlist modes mode
+unfolding padded sort_by rows_naming name_in good_name folded key same_folded base_name is_one_to_one unspaced decimal_from is_decimal is_number field_of fields_fit field_numbers line_with lines_of letter_of lines_with keeps_rules has_place is_earlier line_faults faults_from sheet_faults placed rows_read tables_read read_sheet table_after bytes_after broken_rows too_many_rows bad_name faults10 allows_from bad_row faults6 faults7 clashes_from clashes faults16 faults8 faults9 faults accepted has_place_before line_faults_before lines_faults_before tables_read_before read_before faults10_before allows_from_before faults6_before faults7_before faults16_before faults_before padded_sheet package_named type_named impl_named group_named renames_named type_hit in_package_by in_package in_found replaced_by replaced in_named with_package from_imports target renames_for after_rename after_own without_package resolve_by resolve turned feature_by features_walked extended_by type_by found_by visit_within expand_feature_group expand expansion_within expand_on expand_answer feature_block expansion_numbers is_named is_element or_elements found_children leads steps_over steps chains_by chains shape named one_to_one pairs_by pairs append_new row_of pair_rows rows_at traced shown rows unlimited diags_by diags_at traced_diags first_child siblings_behind next_sibling link_row link_table walk is_group_feature type_of declared_group classifier_by declared_by typed_by endpoint_by endpoint is_group_connection end_component_by end_component group_connection group_connections overrun partner matches_by matches dotted full_name connection_kind match_row match_diag rows_matched diags_matched traced_list traced_within row_names group_within group_list_of group_of traced_on traced_answer group_on group_answer with_group after_traced both_answer traced_block group_block diag_block traced_row_numbers traced_diag_numbers group_row_numbers group_diag_numbers composed_names digits_within digits column number_line text_line row_text message path_names diag_text list_text modes_line selection_lines refusal_text text_within modal grown selections_of combinations selections underscored joined_name modes_counted modes_on modes_answer selection_at selection_within selection_on selection_answer text_or_refusal printed_or_refusal conlist_text modes_text mode_text of_reading what_fits conlist_within text_after conlist conlist_ignoring_case modes mode
 table-passes = tt
 
 -- EVERY TRIAL HOLDS

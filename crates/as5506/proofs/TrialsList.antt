@@ -10,7 +10,7 @@ use Rattle.as5506.specs.Tables.{Tables, missing, letter_c, letter_n, letter_p, l
 use Rattle.as5506.specs.Answers.{Refusal, refusal, nowhere, row}
 use Rattle.as5506.specs.Groups.{Expansion}
 use Rattle.as5506.specs.GroupList.{GroupConnection}
-use Rattle.as5506.proofs.TrialForms.{Trial, fills, lends, lists, length_is, walks, traces, groups, both, joins, grows, counts_modes, selects, modes_prints, mode_prints, text, model, change}
+use Rattle.as5506.proofs.TrialForms.{Trial, fills, lends, lists, lists_folded, length_is, walks, traces, traces_folded, groups, groups_folded, both, both_folded, joins, grows, counts_modes, selects, modes_prints, mode_prints, text, model, change}
 
 -- a model in words, and what is printed
 abbrev prints-of : List String → List String → Trial
@@ -506,9 +506,12 @@ repeated = change mixed letter_p (λ t. t ++ t)
 abbrev bad_package : Option Refusal
 bad_package = Some (refusal 9 (row letter_p 1))
 
--- an end of the group connection has three nested groups, each with three, and so on: over 65,536 visits, 13
+-- G, which visits G twice and H, which visits G and H: 75,024 visits, 13
+abbrev with_many : List String
+with_many = "U 0 G 0 - G - - - -" ∷ "U 0 H 0 - G - - - -" ∷ "E 1 0 s 8 - - G -" ∷ "E 1 0 s 8 - - H -" ∷ "E 1 1 s 8 - - H -" ∷ []
+
 abbrev bushy : Tables
-bushy = model (own ("U 0 G 0 - - - - - -" ∷ replicate 3 "E 1 0 s 8 - - G -"))
+bushy = model (own with_many)
 
 -- n components below component 0, each the child of the one before
 abbrev deep : ℕ → Tables
@@ -547,8 +550,208 @@ of_links =
     -- conlist has a row for each component that a sheet can have, and no more
     ∷ lists (deep 95) nothing
     ∷ lists (deep 96) ("R    22     0 -" ∷ [])
-    -- with enough links 13 strikes as before
-    ∷ groups bushy (over 13) (zeros 2) [] [] []
+    ∷ []
+
+-- ---- 02 (vi): the second entry, "in which tracing compares features folded and the first child rule compares names folded. It gives both listings". Of two
+-- lines on the same model the first is the ported entry's
+
+-- a model in words, and what the second entry prints
+abbrev folded-of : List String → List String → Trial
+folded-of ls list = lists_folded (model ls) list
+
+-- connection d leads to F inside a, where connection c begins at f; and from G inside b, where c ends at g
+abbrev to_source : List String
+to_source = across_top ("C k 1 - p t -" ∷ "X d 1 0 k Cmd - F" ∷ [])
+
+abbrev to_destination : List String
+to_destination = across_top ("C k 2 - p t -" ∷ "X d 2 0 - G k Set" ∷ [])
+
+-- connection c has no step
+abbrev stepless : List String
+stepless = "S     0     3     1     2     1     0" ∷ "= c" ∷ "< f" ∷ "> g" ∷ "Z     1     0" ∷ []
+
+-- inside a, d leads from F to u and e from f to v; from u and from v a step leads on only folded
+abbrev spelled_twice : List String
+spelled_twice = across_top ("C k 1 - p t -" ∷ "C l 3 - p t -" ∷ "X d 1 0 k u - F" ∷ "X e 1 0 k v - f" ∷ "X h 3 0 l w - U" ∷ "X i 3 0 l x - V" ∷ [])
+
+-- the subcomponents of steps in other case than the children: K and an element of that name inside a, L inside b
+abbrev spelled_inside : List String
+spelled_inside = across_top ("C K 1 - p t -" ∷ "C k[1] 1 1 p t -" ∷ "C L 2 - p t -" ∷ "X d 1 0 k u - f" ∷ "X e 2 0 - g l v" ∷ [])
+
+-- connections from a; inside it others lead to features that differ from theirs by 32 in a byte that is no letter, and in Q for 1
+abbrev other_bytes : List String
+other_bytes =
+    "C top - - p t -" ∷ "C a 0 - p t -" ∷ "C k 1 - p t -" ∷ "X c 0 3 a @ - g" ∷ "X c 0 3 a a[ - g" ∷ "X c 0 3 a a] - g" ∷ "X c 0 3 a a^ - g" ∷ "X c 0 3 a a1 - g" ∷
+    "X d 1 0 k u - `" ∷ "X d 1 0 k u - a{" ∷ "X d 1 0 k u - a}" ∷ "X d 1 0 k u - a~" ∷ "X d 1 0 k u - aQ" ∷ []
+
+-- both ends of c in other case than the children
+abbrev ends_spelled : List String
+ends_spelled = "C top - - p t -" ∷ "C a 0 - p t -" ∷ "C b 0 - p t -" ∷ "X c 0 0 A f B g" ∷ []
+
+-- one end each
+abbrev one_end_spelled : List String
+one_end_spelled = "C top - - p t -" ∷ "C a 0 - p t -" ∷ "X c 0 1 A CMD - g" ∷ "X d 0 4 - g A Cmd" ∷ []
+
+-- one to one: a twice in two spellings against b; a twice against b in two spellings; A beside two elements against two elements
+abbrev two_to_one : List String
+two_to_one = "C top - - p t One_To_One" ∷ "C a 0 - p t -" ∷ "C A 0 - p t -" ∷ "C b 0 - p t -" ∷ "X c 0 0 a f b g" ∷ []
+
+abbrev two_to_two : List String
+two_to_two = "C top - - p t One_To_One" ∷ "C a 0 - p t -" ∷ "C a 0 - p t -" ∷ "C b 0 - p t -" ∷ "C B 0 - p t -" ∷ "X c 0 0 a f b g" ∷ []
+
+abbrev one_to_two : List String
+one_to_two =
+    "C top - - p t One_To_One" ∷ "C A 0 - p t -" ∷ "C a[1] 0 1 p t -" ∷ "C a[2] 0 2 p t -" ∷ "C b[1] 0 1 p t -" ∷ "C B[2] 0 2 p t -" ∷ "X c 0 0 a f b g" ∷ []
+
+-- every name of this model that differs from another also differs folded
+abbrev apart : List String
+apart =
+    across_top ("C k 1 - p t -" ∷ "C l[1] 2 1 p t -" ∷ "X d 1 0 k u - f" ∷ "X e 2 0 - g l v" ∷ "X h 0 0 z f b g" ∷ [])
+
+abbrev apart_list : List String
+apart_list =
+    "S     0     3     3     4     3     0     1     2" ∷ "= c" ∷ "< u" ∷ "> v" ∷
+    "D     2     3    29     0" ∷ "! connection 'h': unresolved source subcomponent 'z'" ∷ "@ top" ∷ "@ h" ∷ "Z     1     0" ∷ []
+
+-- connection c from the a of component 0 to its own g: A has a group there, and a has none; and from its own g to a, where a alone has one
+abbrev group_of_capital : List String
+group_of_capital =
+    "C top - - p t -" ∷ "C A 0 - p t -" ∷ "C a 0 - p s -" ∷ "F g 0 8" ∷ "F g 1 8" ∷ "F g 2 8" ∷ "X c 0 2 a g - g" ∷ "P p" ∷ "T 0 t 0" ∷ "T 0 s 0" ∷
+    "E 0 0 g 8 - - G -" ∷ with_x
+
+abbrev group_of_small : List String
+group_of_small =
+    "C top - - p t -" ∷ "C A 0 - p s -" ∷ "C a 0 - p t -" ∷ "F g 0 8" ∷ "F g 1 8" ∷ "F g 2 8" ∷ "X c 0 2 - g a g" ∷ "P p" ∷ "T 0 t 0" ∷ "T 0 s 0" ∷
+    "E 0 0 g 8 - - G -" ∷ with_x
+
+-- the one child in other case; the group's feature in three
+abbrev group_spelled : List String
+group_spelled =
+    "C top - - p t -" ∷ "C a 0 - p t -" ∷ "F grp 0 8" ∷ "F grp 1 8" ∷ "X c 0 2 A GRP - Grp" ∷ "P p" ∷ "T 0 t 0" ∷ "E 0 0 gRP 8 - - G -" ∷ with_x
+
+-- two rows of the second listing, and one of the ported one; a diagnostic of the ported one, and a row of the second
+abbrev second_longer : Tables
+second_longer = model ("C top - - p t -" ∷ "C a 0 - p t -" ∷ "C A 0 - p t -" ∷ "X c 0 0 a f - g" ∷ [])
+
+abbrev ported_faulty : Tables
+ported_faulty = model ("C top - - p t -" ∷ "C A 0 - p t -" ∷ "X c 0 0 a f - g" ∷ [])
+
+-- the rows of `second_longer`: from a, and from A; and of the two children the links
+abbrev row_a : List ℕ
+row_a = filled row_width (0 ∷ 0 ∷ 1 ∷ 0 ∷ 9 ∷ 11 ∷ 12 ∷ 1 ∷ 0 ∷ [])
+
+abbrev row_A : List ℕ
+row_A = filled row_width (0 ∷ 0 ∷ 2 ∷ 0 ∷ 9 ∷ 11 ∷ 12 ∷ 1 ∷ 0 ∷ [])
+
+abbrev two_links : List ℕ
+two_links = 1 ∷ missing ∷ missing ∷ 2 ∷ missing ∷ missing ∷ []
+
+-- of `group_of_capital` the traced rows from A and from a, and the group row
+abbrev group_traced_A : List ℕ
+group_traced_A = filled row_width (0 ∷ 2 ∷ 1 ∷ 0 ∷ 12 ∷ 14 ∷ 15 ∷ 1 ∷ 0 ∷ [])
+
+abbrev group_traced_a : List ℕ
+group_traced_a = filled row_width (0 ∷ 2 ∷ 2 ∷ 0 ∷ 12 ∷ 14 ∷ 15 ∷ 1 ∷ 0 ∷ [])
+
+-- and of `group_of_small` the traced rows to A and to a
+abbrev group_traced_to_A : List ℕ
+group_traced_to_A = filled row_width (0 ∷ 2 ∷ 0 ∷ 1 ∷ 12 ∷ 13 ∷ 15 ∷ 1 ∷ 0 ∷ [])
+
+abbrev group_traced_to_a : List ℕ
+group_traced_to_a = filled row_width (0 ∷ 2 ∷ 0 ∷ 2 ∷ 12 ∷ 13 ∷ 15 ∷ 1 ∷ 0 ∷ [])
+
+abbrev group_row_A : List ℕ
+group_row_A = filled row_width (0 ∷ 0 ∷ 1 ∷ 0 ∷ 3 ∷ 3 ∷ 3 ∷ 1 ∷ 0 ∷ [])
+
+abbrev pub of_entries : List Trial
+of_entries =
+    -- a chain that goes on only folded, towards the source; a row keeps the spelling that the names have
+    prints-of to_source stepless
+    ∷ folded-of to_source ("S     0     3     3     2     2     0     1" ∷ "= c" ∷ "< Cmd" ∷ "> g" ∷ "Z     1     0" ∷ [])
+    -- and towards the destination
+    ∷ prints-of to_destination stepless
+    ∷ folded-of to_destination ("S     0     3     1     3     2     0     1" ∷ "= c" ∷ "< f" ∷ "> Set" ∷ "Z     1     0" ∷ [])
+    -- steps by other bytes and by the same ones, in row order; each step asks for the spelling that the one before led to
+    ∷ prints-of spelled_twice ("S     0     3     3     2     2     0     2" ∷ "= c" ∷ "< v" ∷ "> g" ∷ "Z     1     0" ∷ [])
+    ∷ folded-of spelled_twice
+    ("S     0     3     4     2     3     0     1     3" ∷ "= c" ∷ "< w" ∷ "> g" ∷
+    "S     0     3     4     2     3     0     2     4" ∷ "= c" ∷ "< x" ∷ "> g" ∷ "Z     2     0" ∷ [])
+    -- the children of steps: by bytes the element k[1] and nothing of the name l; folded K and L
+    ∷ prints-of spelled_inside ("S     0     3     4     2     2     0     1" ∷ "= c" ∷ "< u" ∷ "> g" ∷ "Z     1     0" ∷ [])
+    ∷ folded-of spelled_inside ("S     0     3     3     5     3     0     1     2" ∷ "= c" ∷ "< u" ∷ "> v" ∷ "Z     1     0" ∷ [])
+    -- "only A to Z fold"
+    ∷ folded-of other_bytes
+    ("S     0     3     1     0     1     0" ∷ "= c" ∷ "< @" ∷ "> g" ∷ "S     1     3     1     0     1     1" ∷ "= c" ∷ "< a[" ∷ "> g" ∷
+    "S     2     3     1     0     1     2" ∷ "= c" ∷ "< a]" ∷ "> g" ∷ "S     3     3     1     0     1     3" ∷ "= c" ∷ "< a^" ∷ "> g" ∷
+    "S     4     3     1     0     1     4" ∷ "= c" ∷ "< a1" ∷ "> g" ∷ "Z     5     0" ∷ [])
+    -- 2 and 3 where by bytes there is no child
+    ∷ prints-of ends_spelled
+    ("D     2     0    10     0" ∷ "! connection 'c': unresolved source subcomponent 'A'" ∷ "@ top" ∷ "@ c" ∷
+    "D     3     0    12     0" ∷ "! connection 'c': unresolved destination subcomponent 'B'" ∷ "@ top" ∷ "@ c" ∷ "Z     0     0" ∷ [])
+    ∷ folded-of ends_spelled ("S     0     0     1     2     1     0" ∷ "= c" ∷ "< f" ∷ "> g" ∷ "Z     1     0" ∷ [])
+    -- one end alone, with features in other case
+    ∷ prints-of one_end_spelled
+    ("D     2     0     7     0" ∷ "! connection 'c': unresolved source subcomponent 'A'" ∷ "@ top" ∷ "@ c" ∷
+    "D     3     1    12     0" ∷ "! connection 'd': unresolved destination subcomponent 'A'" ∷ "@ top" ∷ "@ d" ∷ "Z     0     0" ∷ [])
+    ∷ folded-of one_end_spelled
+    ("S     0     1     1     0     1     0" ∷ "= c" ∷ "< CMD" ∷ "> g" ∷ "S     1     4     0     1     1     1" ∷ "= d" ∷ "< g" ∷ "> Cmd" ∷ "Z     2     0" ∷ [])
+    -- 4: only the folded counts differ; only the counts by bytes do; the array rule gives two, the whole name folded one
+    ∷ prints-of two_to_one ("S     0     0     1     3     1     0" ∷ "= c" ∷ "< f" ∷ "> g" ∷ "Z     1     0" ∷ [])
+    ∷ folded-of two_to_one
+    ("S     0     0     1     3     1     0" ∷ "= c" ∷ "< f" ∷ "> g" ∷ "D     4     0     2     1" ∷
+    "! connection 'c': One_To_One pattern requires equal array sizes (source=2, destination=1)" ∷ "@ top" ∷ "@ c" ∷ "Z     1     0" ∷ [])
+    ∷ prints-of two_to_two
+    ("S     0     0     1     3     1     0" ∷ "= c" ∷ "< f" ∷ "> g" ∷ "D     4     0     2     1" ∷
+    "! connection 'c': One_To_One pattern requires equal array sizes (source=2, destination=1)" ∷ "@ top" ∷ "@ c" ∷ "Z     1     0" ∷ [])
+    ∷ folded-of two_to_two
+    ("S     0     0     1     3     1     0" ∷ "= c" ∷ "< f" ∷ "> g" ∷ "S     0     0     2     4     1     0" ∷ "= c" ∷ "< f" ∷ "> g" ∷ "Z     2     0" ∷ [])
+    ∷ prints-of one_to_two
+    ("S     0     0     2     4     1     0" ∷ "= c" ∷ "< f" ∷ "> g" ∷ "S     0     0     3     5     1     0" ∷ "= c" ∷ "< f" ∷ "> g" ∷ "Z     2     0" ∷ [])
+    ∷ folded-of one_to_two
+    ("S     0     0     1     4     1     0" ∷ "= c" ∷ "< f" ∷ "> g" ∷ "D     4     0     1     2" ∷
+    "! connection 'c': One_To_One pattern requires equal array sizes (source=1, destination=2)" ∷ "@ top" ∷ "@ c" ∷ "Z     1     0" ∷ [])
+    -- the first found child of the group listing: A is the first one folded, so that its group alone counts
+    ∷ prints-of group_of_capital ("S     0     2     2     0     1     0" ∷ "= c" ∷ "< g" ∷ "> g" ∷ "Z     1     0" ∷ [])
+    ∷ folded-of group_of_capital
+    ("S     0     2     1     0     1     0" ∷ "= c" ∷ "< g" ∷ "> g" ∷ "S     0     2     2     0     1     0" ∷ "= c" ∷ "< g" ∷ "> g" ∷
+    "S     0     0     1     0     1     0" ∷ "= c.x" ∷ "< g.x" ∷ "> g.x" ∷ "Z     2     1" ∷ [])
+    ∷ prints-of group_of_small
+    ("S     0     2     0     2     1     0" ∷ "= c" ∷ "< g" ∷ "> g" ∷ "S     0     0     0     2     1     0" ∷ "= c.x" ∷ "< g.x" ∷ "> g.x" ∷ "Z     1     1" ∷ [])
+    ∷ folded-of group_of_small
+    ("S     0     2     0     1     1     0" ∷ "= c" ∷ "< g" ∷ "> g" ∷ "S     0     2     0     2     1     0" ∷ "= c" ∷ "< g" ∷ "> g" ∷ "Z     2     0" ∷ [])
+    -- "skip if none": by bytes there is no child; the group is spelled as in the X row
+    ∷ prints-of group_spelled ("D     2     0     9     0" ∷ "! connection 'c': unresolved source subcomponent 'A'" ∷ "@ top" ∷ "@ c" ∷ "Z     0     0" ∷ [])
+    ∷ folded-of group_spelled
+    ("S     0     2     1     0     1     0" ∷ "= c" ∷ "< GRP" ∷ "> Grp" ∷ "S     0     0     1     0     1     0" ∷ "= c.x" ∷ "< GRP.x" ∷ "> Grp.x" ∷ "Z     1     1" ∷ [])
+    -- "Where all names that differ also differ folded, both entries give one list"
+    ∷ prints-of apart apart_list
+    ∷ folded-of apart apart_list
+    -- "The second refuses by the same rules, over its own lists": 11, where only its own is too long, by itself and in one call with the group listing
+    ∷ both second_longer None two_links (row_a ∷ [] ∷ [] ∷ [] ∷ [] ∷ [])
+    ∷ both_folded second_longer (over 11) (zeros 6) (zeros row_width ∷ [] ∷ [] ∷ [] ∷ [] ∷ [])
+    ∷ both_folded second_longer None two_links ((row_a ++ row_A) ∷ [] ∷ [] ∷ [] ∷ [] ∷ [])
+    ∷ traces second_longer None two_links row_a []
+    ∷ traces_folded second_longer (over 11) (zeros 6) (zeros row_width) []
+    -- 12, where only the ported one is too long
+    ∷ both ported_faulty (over 12) (zeros 4) (zeros row_width ∷ zeros 3 ∷ [] ∷ [] ∷ [] ∷ [])
+    ∷ both_folded ported_faulty None mixed_links (filled row_width (0 ∷ 0 ∷ 1 ∷ 0 ∷ 6 ∷ 8 ∷ 9 ∷ 1 ∷ 0 ∷ []) ∷ zeros 3 ∷ [] ∷ [] ∷ [] ∷ [])
+    -- 11 and 14 of the group listing, where only the second one has a row
+    ∷ both (model group_of_capital) None two_links (filled (2 * row_width) group_traced_a ∷ [] ∷ [] ∷ [] ∷ [] ∷ [])
+    ∷ both_folded (model group_of_capital) (over 11) (zeros 6) (zeros (2 * row_width) ∷ [] ∷ [] ∷ [] ∷ [] ∷ [])
+    ∷ both_folded (model group_of_capital) (over 14) (zeros 6) (zeros (2 * row_width) ∷ [] ∷ zeros row_width ∷ [] ∷ zeros 8 ∷ [])
+    ∷ both_folded (model group_of_capital) None two_links ((group_traced_A ++ group_traced_a) ∷ [] ∷ group_row_A ∷ [] ∷ bytes_of "c.xg.xg.x" ∷ [])
+    ∷ groups (model group_of_capital) None two_links [] [] []
+    ∷ groups_folded (model group_of_capital) None two_links group_row_A [] (bytes_of "c.xg.xg.x")
+    -- and 11 where only the ported one has a row
+    ∷ both (model group_of_small) (over 11) (zeros 6) (zeros (2 * row_width) ∷ [] ∷ [] ∷ [] ∷ [] ∷ [])
+    ∷ both_folded (model group_of_small) None two_links ((group_traced_to_A ++ group_traced_to_a) ∷ [] ∷ [] ∷ [] ∷ [] ∷ [])
+    -- both listings as the ported entry has them, 5 among them
+    ∷ both_folded mixed None mixed_links (traced_row ∷ traced_diag ∷ group_row ∷ group_diag ∷ composed ∷ [])
+    -- what both refuse alike: 22 before 11 and 12, and the tables' refusals before 22
+    ∷ both_folded mixed (over 22) (zeros 3) (zeros (row_width - 1) ∷ zeros 3 ∷ zeros (row_width - 1) ∷ zeros 3 ∷ zeros 11 ∷ [])
+    ∷ both_folded repeated bad_package (zeros 3) (zeros row_width ∷ zeros 4 ∷ zeros row_width ∷ zeros 4 ∷ zeros 12 ∷ [])
+    ∷ both_folded parented bad_root (zeros 4) (zeros row_width ∷ zeros 4 ∷ zeros row_width ∷ zeros 4 ∷ zeros 12 ∷ [])
+    ∷ lists_folded parented ("R     7     0 C" ∷ [])
     ∷ []
 
 -- ---- what conlist lends
@@ -588,6 +791,23 @@ of_conlist =
     -- "4,096 bytes for composed names"
     ∷ length_is (wide "X cccccccccccccccccccccccccccccccccccccccccccccccccccccccccccccc 0 2 - ggggggggggggggggggggggggggggggggggggggggggggggggggggggggggggggg - ggggggggggggggggggggggggggggggggggggggggggggggggggggggggggggggg" 6 5) (4096 + 11 * 47 + 14)
     ∷ lists (wide "X ccccccccccccccccccccccccccccccccccccccccccccccccccccccccccccc 0 2 - ggggggggggggggggggggggggggggggggggggggggggggggggggggggggggggggg - ggggggggggggggggggggggggggggggggggggggggggggggggggggggggggggggg" 2 9) ("R    14     0 -" ∷ [])
+    ∷ []
+
+-- ---- 13 of groups that are expanded
+
+-- connection c from a: A has a group of 75,024 visits, and a has none
+abbrev bushy_of_capital : List String
+bushy_of_capital =
+    "C top - - p s -" ∷ "C A 0 - p t -" ∷ "C a 0 - p s -" ∷ "F g 0 8" ∷ "F g 1 8" ∷ "X c 0 2 a g - g" ∷ "P p" ∷ "T 0 t 0" ∷ "T 0 s 0" ∷
+    "E 0 0 g 8 - - G -" ∷ with_many
+
+abbrev pub of_visits : List Trial
+of_visits =
+    -- with enough links 13 strikes as before
+    groups bushy (over 13) (zeros 2) [] [] []
+    -- 02 (vi): where only the first found child of the second entry has the group
+    ∷ prints-of bushy_of_capital ("S     0     2     2     0     1     0" ∷ "= c" ∷ "< g" ∷ "> g" ∷ "Z     1     0" ∷ [])
+    ∷ folded-of bushy_of_capital ("R    13     0 -" ∷ [])
     ∷ []
 
 -- ---- 02 (xi): operation modes

@@ -1,29 +1,29 @@
--- Children, tracing, listing (instance.rs): one definition over the side and over the limit on steps. Assumes nothing.
+-- Children, tracing, listing (instance.rs): one definition over the comparison of names (`same`), over the side and over the limit on steps. Assumes nothing.
 use Rattle.std.specs.Prelude.{Bool, true, false, not, ◌&&◌, cond, List, [], ◌∷◌, ◌++◌, map, ℕ, zero, suc, eqb, length}
-use Rattle.as5506.specs.Lists.{keep, when, is_nil, each, up_to, same_bytes, has}
+use Rattle.as5506.specs.Lists.{keep, when, is_nil, each, up_to, has}
 use Rattle.as5506.specs.Tables.{Tables, present, Side, source, destination, other, name_of, c_count, c_name, c_parent, has_index, c_pattern, children_of, x_count, x_name, x_owner, x_kind, x_sub, x_feat, has_ends, connections_of}
-use Rattle.as5506.specs.Names.{same_folded, bracket, base_name, is_one_to_one}
+use Rattle.as5506.specs.Names.{Comparison, same_folded, bracket, base_name, is_one_to_one}
 use Rattle.as5506.specs.Rows.{Row, Diag, diag}
 
 -- ---- `find_children_by_name`
 
--- "byte-equal names"
-unfoldable pub is_named : Tables → List ℕ → ℕ → Bool
-is_named m w i = same_bytes (name_of m (c_name m i)) w
+-- the first child rule, of the whole name: "byte-equal names" in the ported entry, and in the second "the first child rule compares names folded"
+unfoldable pub is_named : Comparison → Tables → List ℕ → ℕ → Bool
+is_named same m w i = same (name_of m (c_name m i)) w
 
 -- "children with an array index whose name up to the first `[` is equal folded"
 unfoldable pub is_element : Tables → List ℕ → ℕ → Bool
 is_element m w i = has_index m i && same_folded (base_name (name_of m (c_name m i))) w
 
--- "if none and the wanted name has no `[`": of the byte-equal children, and whether the wanted name has one
+-- "if none and the wanted name has no `[`": of the children of that whole name, and whether the wanted name has one
 unfoldable pub or_elements : Bool → Tables → ℕ → List ℕ → List ℕ → List ℕ
 or_elements b m c w (i ∷ is) = i ∷ is
 or_elements true m c w [] = []
 or_elements false m c w [] = keep (is_element m w) (children_of m c)
 
 -- the children of component c that the name w finds
-unfoldable pub found_children : Tables → ℕ → List ℕ → List ℕ
-found_children m c w = or_elements (has bracket w) m c w (keep (is_named m w) (children_of m c))
+unfoldable pub found_children : Comparison → Tables → ℕ → List ℕ → List ℕ
+found_children same m c w = or_elements (has bracket w) m c w (keep (is_named same m w) (children_of m c))
 
 -- ---- steps
 
@@ -34,21 +34,22 @@ pub record Step : Type 0 where
   pub feat : ℕ
 
 -- "a connection of that component with a source subcomponent, no destination subcomponent, its destination feature byte-equal"; "Towards the
--- destination, its mirror image"; "AS5506 names ignore case, tracing doesn't": connection x, from the feature of name w towards side s
-unfoldable pub leads : Tables → Side → List ℕ → ℕ → Bool
-leads m s w x =
-    present (x_sub m s x) && (not (present (x_sub m (other s) x)) && (present (x_feat m (other s) x) && same_bytes (name_of m (x_feat m (other s) x)) w))
+-- destination, its mirror image"; "AS5506 names ignore case, tracing doesn't", but in the second entry "tracing compares features folded": connection x, from
+-- the feature of name w towards side s
+unfoldable pub leads : Comparison → Tables → Side → List ℕ → ℕ → Bool
+leads same m s w x =
+    present (x_sub m s x) && (not (present (x_sub m (other s) x)) && (present (x_feat m (other s) x) && same (name_of m (x_feat m (other s) x)) w))
 
 abbrev pub step_to : Tables → Side → ℕ → ℕ → Step
 step_to m s x i = record { conn = x; child = i; feat = x_feat m s x }
 
 -- "and one found child": each found child is a step
-unfoldable pub steps_over : Tables → Side → ℕ → ℕ → List Step
-steps_over m s c x = map (step_to m s x) (found_children m c (name_of m (x_sub m s x)))
+unfoldable pub steps_over : Comparison → Tables → Side → ℕ → ℕ → List Step
+steps_over same m s c x = map (step_to m s x) (found_children same m c (name_of m (x_sub m s x)))
 
 -- "A step from (component, feature) towards" side s. "Connections, then children, in row order" (02 (i): children by place)
-unfoldable pub steps : Tables → Side → ℕ → ℕ → List Step
-steps m s c f = each (steps_over m s c) (keep (leads m s (name_of m f)) (connections_of m c))
+unfoldable pub steps : Comparison → Tables → Side → ℕ → ℕ → List Step
+steps same m s c f = each (steps_over same m s c) (keep (leads same m s (name_of m f)) (connections_of m c))
 
 -- ---- chains: where each ends, and the connections of its steps
 
@@ -76,8 +77,8 @@ chains_by next zero c f = stop c f ∷ []
 chains_by next (suc k) c f = grow (stop c f) (λ st. map (push st.conn) (chains_by next k st.child st.feat)) (next c f)
 
 -- the chains from (c, f) towards side s
-unfoldable pub chains : Tables → Side → ℕ → ℕ → ℕ → List Chain
-chains m s k c f = chains_by (steps m s) k c f
+unfoldable pub chains : Comparison → Tables → Side → ℕ → ℕ → ℕ → List Chain
+chains same m s k c f = chains_by (steps same m s) k c f
 
 -- ---- `compute_semantic_connections`: what an X row is
 
@@ -96,8 +97,8 @@ unfoldable pub shape : Tables → ℕ → Shape
 shape m x = shape_by (has_ends m x) (present (x_sub m source x)) (present (x_sub m destination x))
 
 -- the children that X row x names on side s
-unfoldable pub named : Tables → Side → ℕ → List ℕ
-named m s x = found_children m (x_owner m x) (name_of m (x_sub m s x))
+unfoldable pub named : Comparison → Tables → Side → ℕ → List ℕ
+named same m s x = found_children same m (x_owner m x) (name_of m (x_sub m s x))
 
 -- the pattern of a component's connections; "and missing, is all to all"
 unfoldable pub one_to_one : Tables → ℕ → Bool
@@ -142,16 +143,16 @@ pairs_edge true g l = []
 pairs_edge false g l = map g l
 
 -- the pairs by what the row is. "Neither: nothing"
-unfoldable pub pairs_by : Tables → ℕ → Shape → List Pair
-pairs_by m x faulty = []
-pairs_by m x across = pairs_across (one_to_one m (x_owner m x)) (pair_across m x) (named m source x) (named m destination x)
-pairs_by m x upward = pairs_edge (present (c_parent m (x_owner m x))) (pair_up m x) (named m source x)
-pairs_by m x downward = pairs_edge (present (c_parent m (x_owner m x))) (pair_down m x) (named m destination x)
-pairs_by m x neither = []
+unfoldable pub pairs_by : Comparison → Tables → ℕ → Shape → List Pair
+pairs_by same m x faulty = []
+pairs_by same m x across = pairs_across (one_to_one m (x_owner m x)) (pair_across m x) (named same m source x) (named same m destination x)
+pairs_by same m x upward = pairs_edge (present (c_parent m (x_owner m x))) (pair_up m x) (named same m source x)
+pairs_by same m x downward = pairs_edge (present (c_parent m (x_owner m x))) (pair_down m x) (named same m destination x)
+pairs_by same m x neither = []
 
 -- what the rules pair for X row x
-unfoldable pub pairs : Tables → ℕ → List Pair
-pairs m x = pairs_by m x (shape m x)
+unfoldable pub pairs : Comparison → Tables → ℕ → List Pair
+pairs same m x = pairs_by same m x (shape m x)
 
 -- ---- rows
 
@@ -176,21 +177,21 @@ row_of m x s d =
     record { conn = x; kind = x_kind m x; src = s.comp; dst = d.comp; src_feat = s.feat; dst_feat = d.feat; path = append_new (x ∷ s.path) d.path }
 
 -- "the other end is the owner and is not traced"
-abbrev pub reach : Tables → Side → ℕ → Start → List Chain
-reach m s k (child c f) = chains m s k c f
-reach m s k (owner c f) = stop c f ∷ []
+abbrev pub reach : Comparison → Tables → Side → ℕ → Start → List Chain
+reach same m s k (child c f) = chains same m s k c f
+reach same m s k (owner c f) = stop c f ∷ []
 
 -- "Per pair every source chain with every destination chain"
-unfoldable pub pair_rows : Tables → ℕ → ℕ → Pair → List Traced
-pair_rows m k x p = each (λ s. map (row_of m x s) (reach m destination k p.to)) (reach m source k p.from)
+unfoldable pub pair_rows : Comparison → Tables → ℕ → ℕ → Pair → List Traced
+pair_rows same m k x p = each (λ s. map (row_of m x s) (reach same m destination k p.to)) (reach same m source k p.from)
 
 -- "`compute_semantic_connections`, per X row": the rows of X row x
-unfoldable pub rows_at : Tables → ℕ → ℕ → List Traced
-rows_at m k x = each (pair_rows m k x) (pairs m x)
+unfoldable pub rows_at : Comparison → Tables → ℕ → ℕ → List Traced
+rows_at same m k x = each (pair_rows same m k x) (pairs same m x)
 
 -- the rows under a limit of k steps, as numbers
-unfoldable pub traced : ℕ → Tables → List Traced
-traced k m = each (rows_at m k) (up_to (x_count m))
+unfoldable pub traced : Comparison → ℕ → Tables → List Traced
+traced same k m = each (rows_at same m k) (up_to (x_count m))
 
 -- a row with its three names' bytes
 unfoldable pub shown : Tables → Traced → Row
@@ -207,8 +208,8 @@ shown m r =
     }
 
 -- THE ROWS under a limit of k steps
-unfoldable pub rows : ℕ → Tables → List Row
-rows k m = map (shown m) (traced k m)
+unfoldable pub rows : Comparison → ℕ → Tables → List Row
+rows same k m = map (shown m) (traced same k m)
 
 -- "A chain ends .. after 20 steps"
 abbrev pub step_limit : ℕ
@@ -216,8 +217,8 @@ step_limit = 20
 
 -- THE ROWS WITHOUT A LIMIT: "rows grow, so it ends". No chain of an accepted model has as many steps as there are components
 -- (proofs: unlimited-is, unlimited-ends, unlimited-none)
-unfoldable pub unlimited : Tables → List Row
-unlimited m = rows (c_count m) m
+unfoldable pub unlimited : Comparison → Tables → List Row
+unlimited same m = rows same (c_count m) m
 
 -- ---- diagnostics
 
@@ -230,18 +231,18 @@ abbrev pub unequal : Bool → ℕ → ℕ → ℕ → List Diag
 unequal one x a b = when (one && not (eqb a b)) (diag 4 x a b)
 
 -- the diagnostics by what the row is
-unfoldable pub diags_by : Tables → ℕ → Shape → List Diag
-diags_by m x faulty = diag 1 x 0 0 ∷ []
-diags_by m x across =
-    no_child 2 x (x_sub m source x) (named m source x) ++ no_child 3 x (x_sub m destination x) (named m destination x)
-    ++ unequal (one_to_one m (x_owner m x)) x (length (named m source x)) (length (named m destination x))
-diags_by m x upward = cond (present (c_parent m (x_owner m x))) [] (no_child 2 x (x_sub m source x) (named m source x))
-diags_by m x downward = cond (present (c_parent m (x_owner m x))) [] (no_child 3 x (x_sub m destination x) (named m destination x))
-diags_by m x neither = []
+unfoldable pub diags_by : Comparison → Tables → ℕ → Shape → List Diag
+diags_by same m x faulty = diag 1 x 0 0 ∷ []
+diags_by same m x across =
+    no_child 2 x (x_sub m source x) (named same m source x) ++ no_child 3 x (x_sub m destination x) (named same m destination x)
+    ++ unequal (one_to_one m (x_owner m x)) x (length (named same m source x)) (length (named same m destination x))
+diags_by same m x upward = cond (present (c_parent m (x_owner m x))) [] (no_child 2 x (x_sub m source x) (named same m source x))
+diags_by same m x downward = cond (present (c_parent m (x_owner m x))) [] (no_child 3 x (x_sub m destination x) (named same m destination x))
+diags_by same m x neither = []
 
-unfoldable pub diags_at : Tables → ℕ → List Diag
-diags_at m x = diags_by m x (shape m x)
+unfoldable pub diags_at : Comparison → Tables → ℕ → List Diag
+diags_at same m x = diags_by same m x (shape m x)
 
 -- THE TRACED DIAGNOSTICS
-unfoldable pub traced_diags : Tables → List Diag
-traced_diags m = each (diags_at m) (up_to (x_count m))
+unfoldable pub traced_diags : Comparison → Tables → List Diag
+traced_diags same m = each (diags_at same m) (up_to (x_count m))

@@ -1,19 +1,19 @@
 -- Laws of keys: how they are made, and that names that are equal folded have the same. Assumes nothing.
-use mathlib.Core.Bool.{Bool, true, false}
-use mathlib.Core.Path.{◌≡◌, refl, sym, ap, ◌∙◌}
+use mathlib.Core.Bool.{Bool, true, false, ◌&&◌, cond}
+use mathlib.Core.Path.{◌≡◌, refl, sym, ap, ◌∙◌, subst}
 use mathlib.Core.List.{List, [], ◌∷◌, map}
 use native.Mathlib.Numerals.{add-one}
 use lib.Seq.{get_or-set_same, get_or-set_other}
 use Rattle.std.proofs.Math.Seq.{drop-cons}
-use borrow.Author.Tests.{eqb-true, eqb-false}
+use borrow.Author.Tests.{eqb-true, eqb-false, ne_eqb}
 use Prim.Native.Nat.{ℕ, suc, ◌+◌, ◌*◌, ◌%◌, ◌≤◌, ◌<◌}
 use native.Mathlib.Omega.{arith}
-use lib.Dec.{T, eqb, eqb→eq}
+use lib.Dec.{T, eqb, leb, eqb→eq, leb→le}
 use lib.ListN.{length, get_or, set, drop, length-set, drop_of_length-le}
 use Rattle.as5506.specs.Lists.{same_bytes}
 use Rattle.as5506.specs.Tables.{Tables, c_count}
-use Rattle.as5506.specs.Names.{fold_byte, folded, same_folded}
-use Rattle.as5506.proofs.Laws.{and_left, and_right}
+use Rattle.as5506.specs.Names.{fold_byte, folded, same_folded, bracket, base_name}
+use Rattle.as5506.proofs.Laws.{and_left, and_right, and_both}
 use Rattle.child_links.specs.Keys.{key_from, key_of, component_key, KeyedBelow}
 
 -- behind bytes of one key
@@ -31,6 +31,42 @@ keys-from k (a ∷ s) (b ∷ t) h =
 pub same-keys : (s t : List ℕ) → T (same_folded s t) → key_of s ≡ key_of t
 unfolding same_folded folded
 same-keys s t h = keys-from 0 s t h
+
+-- a bracket is no letter, and no letter folds to one
+bracket-kept : (c : ℕ) → eqb (fold_byte c) bracket ≡ eqb c bracket
+bracket-kept c = go (leb 65 c && leb c 90) refl
+  where
+    go : (b : Bool) → (leb 65 c && leb c 90) ≡ b → eqb (cond b (c + 32) c) bracket ≡ eqb c bracket
+    go false e = refl
+    go true e =
+        let t : T (leb 65 c && leb c 90) = subst T (sym e) tt in
+        let low = leb→le 65 c (and_left (leb 65 c) (leb c 90) t) in
+        let high = leb→le c 90 (and_right (leb 65 c) (leb c 90) t) in
+        ne_eqb (c + 32) bracket (λ z. omega (arith, z, low)) ∙ sym (ne_eqb c bracket (λ z. omega (arith, z, high)))
+
+base-folded : (s t : List ℕ) → T (same_bytes (map fold_byte s) (map fold_byte t)) → T (same_bytes (map fold_byte (base_name s)) (map fold_byte (base_name t)))
+unfolding base_name
+base-folded [] [] h = tt
+base-folded [] (b ∷ t) h = absurd h
+base-folded (a ∷ s) [] h = absurd h
+base-folded (a ∷ s) (b ∷ t) h =
+    go (eqb a bracket) (eqb b bracket) (sym (bracket-kept a) ∙ ap (λ (c : ℕ). eqb c bracket) (eqb→eq (fold_byte a) (fold_byte b) first) ∙ bracket-kept b)
+    (base-folded s t (and_right (eqb (fold_byte a) (fold_byte b)) (same_bytes (map fold_byte s) (map fold_byte t)) h))
+  where
+    first : T (eqb (fold_byte a) (fold_byte b))
+    first = and_left (eqb (fold_byte a) (fold_byte b)) (same_bytes (map fold_byte s) (map fold_byte t)) h
+
+    go : (p q : Bool) → p ≡ q → T (same_bytes (map fold_byte (base_name s)) (map fold_byte (base_name t)))
+        → T (same_bytes (map fold_byte (cond p [] (a ∷ base_name s))) (map fold_byte (cond q [] (b ∷ base_name t))))
+    go true true e more = tt
+    go true false e more = absurd (subst T e tt)
+    go false true e more = absurd (subst T (sym e) tt)
+    go false false e more = and_both (eqb (fold_byte a) (fold_byte b)) (same_bytes (map fold_byte (base_name s)) (map fold_byte (base_name t))) first more
+
+-- and one up to a bracket
+pub same-base-keys : (s t : List ℕ) → T (same_folded s t) → key_of (base_name s) ≡ key_of (base_name t)
+unfolding same_folded folded
+same-base-keys s t h = keys-from 0 (base_name s) (base_name t) (base-folded s t h)
 
 -- ---- a key is made byte by byte
 

@@ -1,4 +1,4 @@
-// The tree of the components: their tables, with the links of their children.
+// The tree of the components: their tables, with the links of their children and how their names are read.
 ghost use Rattle.std.specs.Prelude.{◌≡◌, ◌≤◌, ◌<◌, length};
 ghost use Rattle.as5506.specs.Tables.{c_count, x_count};
 ghost use Rattle.as5506.specs.Links.{first_child, next_sibling};
@@ -8,13 +8,15 @@ ghost use Rattle.child_links.specs.Keys.{Keyed, component_key};
 
 use as5506::{LINK_NUMBERS, MISSING};
 use lent::Tables;
+use name::Reading;
 
-// Accepted tables, the link table that is theirs, and the keys of their components' names.
+// Accepted tables, the link table that is theirs, the keys of their components' names, and which of their names are one.
 #[derive(Clone, Copy)]
 pub struct Tree<'a> {
     pub m: &'a Tables<'a>,
     pub links: &'a [u32],
     pub keys: &'a [u32],
+    pub reading: Reading,
     ghost linked: { Linked (model m.now) links.now },
     ghost keyed: { Keyed (model m.now) keys.now },
     ghost components: { c_count (model m.now) ≤ 4096 },

@@ -4,7 +4,7 @@ use Rattle.std.specs.Iterator.{YieldsFirst}
 use Rattle.as5506.specs.Lists.{keep}
 use Rattle.as5506.specs.Tables.{Tables, name_of}
 use Rattle.as5506.specs.Links.{siblings_behind, siblings_from}
-use Rattle.child_links.specs.Trees.{of_tree}
+use Rattle.child_links.specs.Trees.{of_tree, same_in}
 use Rattle.child_links.specs.Linked.{Inside}
 use Rattle.children.specs.Rules.{fits}
 use Rattle.children.specs.declared.Children.{Children}
@@ -20,7 +20,7 @@ name_in s = name_of (tables_in s) s.wanted
 
 -- of some components those that it finds
 abbrev pub finds : Search → List ℕ → List ℕ
-finds s l = keep (fits (tables_in s) s.rule (name_in s)) l
+finds s l = keep (fits (same_in s.tree.now) (tables_in s) s.rule (name_in s)) l
 
 -- of a component and the siblings behind it those that it finds
 unfoldable pub found_from : Search → Option ℕ → List ℕ

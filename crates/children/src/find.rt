@@ -3,6 +3,7 @@ ghost use Rattle.std.specs.Prelude.{◌≡◌, ◌<◌};
 ghost use Rattle.as5506.specs.Tables.{c_count};
 ghost use Rattle.as5506.specs.Tracing.{is_element};
 ghost use Rattle.child_links.specs.Linked.{Inside};
+ghost use Rattle.child_links.specs.Trees.{same_in};
 ghost use Rattle.children.specs.Rules.{fits};
 ghost use Rattle.children.specs.Found.{found_from, after_child, tables_in, name_in};
 
@@ -26,12 +27,12 @@ impl Search<'_> {
     // Whether component i has the wanted name by the rule, in whichever component it stands.
     #[tactic(auto, unfolding(crate::specs::Rules::fits, as5506::specs::Tracing::is_named))]
     fn name_fits(&self, i: usize) -> bool
-        ensures { result ≡ fits (tables_in self.now) self.now.rule (name_in self.now) i }
+        ensures { result ≡ fits (same_in self.now.tree.now) (tables_in self.now) self.now.rule (name_in self.now) i }
     {
         match self.rule {
-            Rule::Exact => {
+            Rule::Whole => {
                 let m = self.tree.m;
-                name::same_names(m, component::name_of(m, i), self.wanted)
+                name::same_by(m, self.tree.reading, component::name_of(m, i), self.wanted)
             }
             Rule::Base => self.is_element(i),
         }
@@ -41,7 +42,7 @@ impl Search<'_> {
     #[tactic(auto, using(crate::proofs::Finding::other_key))]
     fn finds(&self, i: usize) -> bool
         requires { i < c_count (tables_in self.now) }
-        ensures { result ≡ fits (tables_in self.now) self.now.rule (name_in self.now) i }
+        ensures { result ≡ fits (same_in self.now.tree.now) (tables_in self.now) self.now.rule (name_in self.now) i }
     {
         self.tree.key(i) == self.key && self.name_fits(i)
     }

@@ -3,30 +3,30 @@ ghost use Rattle.std.specs.Prelude.{◌≡◌, ◌<◌};
 ghost use Rattle.as5506.specs.Lists.{first_of};
 ghost use Rattle.as5506.specs.Tables.{name_of, c_count};
 ghost use Rattle.as5506.specs.Tracing.{found_children};
-ghost use Rattle.child_links.specs.Trees.{of_tree};
+ghost use Rattle.child_links.specs.Trees.{of_tree, same_in};
 ghost use Rattle.children.specs.Found.{tables_of, children_left, GivesChild};
 
 use super::{Children, Rule, Search};
 use child_links::Tree;
 
-// The children of `owner` that the wanted name finds: array elements only where no child has that very name and the name has no bracket.
+// The children of `owner` that the wanted name finds: array elements only where no child has the whole name and the name has no bracket.
 pub fn named<'a>(tree: &'a Tree<'a>, owner: u32, wanted: u32) -> Children<'a>
     requires { owner < c_count (of_tree tree.now) }
-    ensures left { children_left result ≡ found_children (of_tree tree.now) owner (name_of (of_tree tree.now) wanted) }
+    ensures left { children_left result ≡ found_children (same_in tree.now) (of_tree tree.now) owner (name_of (of_tree tree.now) wanted) }
     ensures tables { tables_of result ≡ of_tree tree.now }
 {
     let first = tree.first_child(owner);
     let name = name::name_of(tree.m, wanted);
-    let exact = Search {
+    let whole = Search {
         tree,
-        rule: Rule::Exact,
+        rule: Rule::Whole,
         wanted,
         key: child_links::key_of(name::base_name_of(name)),
     };
-    let found = exact.find(first);
+    let found = whole.find(first);
     if found.is_some() || name::has_bracket(name) {
         return Children {
-            search: exact,
+            search: whole,
             found,
         };
     }
@@ -34,7 +34,7 @@ pub fn named<'a>(tree: &'a Tree<'a>, owner: u32, wanted: u32) -> Children<'a>
         tree,
         rule: Rule::Base,
         wanted,
-        key: exact.key,
+        key: whole.key,
     };
     Children {
         search: elements,

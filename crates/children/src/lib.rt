@@ -2,7 +2,7 @@
 // component's children, since nothing is lent to hold them.
 #![tactic(auto)]
 
-ghost use Rattle.child_links.specs.Trees.{of_tree};
+ghost use Rattle.child_links.specs.Trees.{of_tree, same_in};
 ghost use Rattle.as5506.specs.Tables.{name_of};
 ghost use Rattle.child_links.specs.Linked.{Inside};
 ghost use Rattle.children.specs.Rules.{HaveKey};
@@ -16,9 +16,9 @@ pub use found::named;
 // How a name finds children. An enum and no closure: there are these two, and the contract says by which.
 #[derive(Clone, Copy)]
 enum Rule {
-    // Byte for byte.
-    Exact,
-    // As what stands before the bracket in the names of array elements, case ignored.
+    // By the whole name, compared as the tree reads names.
+    Whole,
+    // By what stands before the bracket in the names of array elements, case ignored.
     Base,
 }
 
@@ -29,7 +29,7 @@ struct Search<'a> {
     rule: Rule,
     wanted: u32,
     key: u32,
-    ghost keyed: { HaveKey (of_tree tree.now) rule (name_of (of_tree tree.now) wanted) key },
+    ghost keyed: { HaveKey (same_in tree.now) (of_tree tree.now) rule (name_of (of_tree tree.now) wanted) key },
 }
 
 // The children that a name finds, in the order of the drawing: the next one has been found already, so none is sought twice.

@@ -5,8 +5,9 @@ use Prim.Native.Nat.{ℕ, ◌+◌, ◌-◌, ◌/◌, ◌≤◌, min}
 use native.Mathlib.Omega.{arith}
 use lib.ListN.{length, take, drop, length-append, length-replicate, replicate-append-replicate}
 use lib.Seq.{length-take-le}
-use Rattle.as5506.specs.Lists.{each, zeros, padded}
+use Rattle.as5506.specs.Lists.{each, same_bytes, zeros, padded}
 use Rattle.as5506.specs.Tables.{Tables}
+use Rattle.as5506.specs.Names.{Comparison}
 use Rattle.as5506.specs.Answers.{Answer, given, refused}
 use Rattle.as5506.specs.Rows.{Diag}
 use Rattle.as5506.specs.Listing.{Room, TracedList, GroupList, BothLists, traced_answer, group_answer, both_answer}
@@ -75,7 +76,7 @@ pub traced-laid : (m : Tables) (links rows numbers : List ℕ) (count end : ℕ)
     → TracedTold (traced_here m links rows part) m links rows part told' links' rows' part'
     → TracedTold (traced_for m links rows numbers count) m links rows numbers told' links' rows' (part' ++ drop end cleared)
 traced-laid m links rows numbers count end part part' cleared told' links' rows' f h =
-    subst (λ (room : Room). TracedTold (traced_answer (links_in (length links)) room m) m links rows numbers told' links' rows' (part' ++ drop end cleared)) (front-room (length rows) (length numbers) count end part part' cleared f)
+    subst (λ (room : Room). TracedTold (traced_answer same_bytes (links_in (length links)) room m) m links rows numbers told' links' rows' (part' ++ drop end cleared)) (front-room (length rows) (length numbers) count end part part' cleared f)
     (record {
       told = h.told;
       outputs-hold = record {
@@ -93,7 +94,7 @@ pub group-laid : (m : Tables) (links rows names numbers : List ℕ) (count end :
     → GroupTold (group_here m links rows names part) m links rows names part told' links' rows' names' part'
     → GroupTold (group_for m links rows names numbers count) m links rows names numbers told' links' rows' names' (part' ++ drop end cleared)
 group-laid m links rows names numbers count end part part' cleared told' links' rows' names' f h =
-    subst (λ (room : Room). GroupTold (group_answer (links_in (length links)) room (length names) m) m links rows names numbers told' links' rows' names' (part' ++ drop end cleared))
+    subst (λ (room : Room). GroupTold (group_answer same_bytes (links_in (length links)) room (length names) m) m links rows names numbers told' links' rows' names' (part' ++ drop end cleared))
     (front-room (length rows) (length numbers) count end part part' cleared f)
     (record {
       told = h.told;
@@ -107,16 +108,16 @@ group-laid m links rows names numbers count end part part' cleared told' links' 
       };
     })
 
-pub both-laid : (m : Tables) (links rows numbers grows names gnumbers : List ℕ) (count gcount end gend : ℕ) (part part' cleared gpart gpart' gcleared told' links' rows' grows' names' : List ℕ)
+pub both-laid : (same : Comparison) (m : Tables) (links rows numbers grows names gnumbers : List ℕ) (count gcount end gend : ℕ) (part part' cleared gpart gpart' gcleared told' links' rows' grows' names' : List ℕ)
     → Front (length numbers) (min count (length numbers / diag_numbers)) end part part' cleared
     → Front (length gnumbers) (min gcount (length gnumbers / diag_numbers)) gend gpart gpart' gcleared
-    → BothTold (both_here m (outputs links rows part grows names gpart)) m (outputs links rows part grows names gpart) told' (outputs links' rows' part' grows' names' gpart')
-    → BothTold (both_for m (outputs links rows numbers grows names gnumbers) count gcount) m (outputs links rows numbers grows names gnumbers) told'
+    → BothTold same (both_here same m (outputs links rows part grows names gpart)) m (outputs links rows part grows names gpart) told' (outputs links' rows' part' grows' names' gpart')
+    → BothTold same (both_for same m (outputs links rows numbers grows names gnumbers) count gcount) m (outputs links rows numbers grows names gnumbers) told'
     (outputs links' rows' (part' ++ drop end cleared) grows' names' (gpart' ++ drop gend gcleared))
-both-laid m links rows numbers grows names gnumbers count gcount end gend part part' cleared gpart gpart' gcleared told' links' rows' grows' names' f g h =
-    let wanted : Answer BothLists = both_here m (outputs links rows part grows names gpart) in
+both-laid same m links rows numbers grows names gnumbers count gcount end gend part part' cleared gpart gpart' gcleared told' links' rows' grows' names' f g h =
+    let wanted : Answer BothLists = both_here same m (outputs links rows part grows names gpart) in
     let here : Room → Room → Type 0
-    = λ (room room' : Room). BothTold (both_answer (links_in (length links)) room room' (length names) m) m (outputs links rows numbers grows names gnumbers) told'
+    = λ (room room' : Room). BothTold same (both_answer same (links_in (length links)) room room' (length names) m) m (outputs links rows numbers grows names gnumbers) told'
     (outputs links' rows' (part' ++ drop end cleared) grows' names' (gpart' ++ drop gend gcleared)) in
     subst (λ (room : Room). here room (room_with (length grows) (length gnumbers) gcount)) (front-room (length rows) (length numbers) count end part part' cleared f)
     (subst (λ (room : Room). here (room_in (length rows) (length part)) room) (front-room (length grows) (length gnumbers) gcount gend gpart gpart' gcleared g)
@@ -159,8 +160,8 @@ traced-records m links rows numbers out told' links' rows' numbers' out' h e =
     let room : Room = room_with (length rows) (length numbers) (length out) in
     record {
       as-numbers = h;
-      as-records = e ∙ filled-records (λ (l : TracedList). l.diags) traced_diag_numbers (traced_answer (links_in (length links)) room m) numbers' (length numbers) (length out) (λ x. refl)
-          (holds-map _ _ (traced_answer (links_in (length links)) room m) (λ x t. under (length rows) (length numbers) (length out) (length x.diags) t.diags) (traced_fit (links_in (length links)) room m)) h.outputs-hold.written-diagnostics;
+      as-records = e ∙ filled-records (λ (l : TracedList). l.diags) traced_diag_numbers (traced_answer same_bytes (links_in (length links)) room m) numbers' (length numbers) (length out) (λ x. refl)
+          (holds-map _ _ (traced_answer same_bytes (links_in (length links)) room m) (λ x t. under (length rows) (length numbers) (length out) (length x.diags) t.diags) (traced_fit same_bytes (links_in (length links)) room m)) h.outputs-hold.written-diagnostics;
     }
 
 pub group-records : (m : Tables) (links rows names numbers : List ℕ) (out : List Diagnostic) (told' links' rows' names' numbers' : List ℕ) (out' : List Diagnostic)
@@ -171,18 +172,18 @@ group-records m links rows names numbers out told' links' rows' names' numbers' 
     let room : Room = room_with (length rows) (length numbers) (length out) in
     record {
       as-numbers = h;
-      as-records = e ∙ filled-records (λ (g : GroupList). g.diags) group_diag_numbers (group_answer (links_in (length links)) room (length names) m) numbers' (length numbers) (length out) (λ x. refl)
-          (holds-map _ _ (group_answer (links_in (length links)) room (length names) m) (λ x t. under (length rows) (length numbers) (length out) (length x.diags) t.diags) (group-fit (links_in (length links)) room (length names) m))
+      as-records = e ∙ filled-records (λ (g : GroupList). g.diags) group_diag_numbers (group_answer same_bytes (links_in (length links)) room (length names) m) numbers' (length numbers) (length out) (λ x. refl)
+          (holds-map _ _ (group_answer same_bytes (links_in (length links)) room (length names) m) (λ x t. under (length rows) (length numbers) (length out) (length x.diags) t.diags) (group-fit same_bytes (links_in (length links)) room (length names) m))
           h.outputs-hold.written-diagnostics;
     }
 
-pub both-records : (m : Tables) (o : Outputs) (out group-out : List Diagnostic) (told' : List ℕ) (p : Outputs) (out' group-out' : List Diagnostic)
-    → BothTold (both_for m o (length out) (length group-out)) m o told' p → out' ≡ records_from p.diags 0 (length out) → group-out' ≡ records_from p.group-diags 0 (length group-out)
-    → BothRecords m o out group-out told' p out' group-out'
+pub both-records : (same : Comparison) (m : Tables) (o : Outputs) (out group-out : List Diagnostic) (told' : List ℕ) (p : Outputs) (out' group-out' : List Diagnostic)
+    → BothTold same (both_for same m o (length out) (length group-out)) m o told' p → out' ≡ records_from p.diags 0 (length out) → group-out' ≡ records_from p.group-diags 0 (length group-out)
+    → BothRecords same m o out group-out told' p out' group-out'
 unfolding traced_diag_numbers group_diag_numbers
-both-records m o out group-out told' p out' group-out' h e g =
-    let a : Answer BothLists = both_for m o (length out) (length group-out) in
-    let fits = both-fit (links_in (length o.links)) (room_with (length o.rows) (length o.diags) (length out)) (room_with (length o.group-rows) (length o.group-diags) (length group-out)) (length o.names) m in
+both-records same m o out group-out told' p out' group-out' h e g =
+    let a : Answer BothLists = both_for same m o (length out) (length group-out) in
+    let fits = both-fit same (links_in (length o.links)) (room_with (length o.rows) (length o.diags) (length out)) (room_with (length o.group-rows) (length o.group-diags) (length group-out)) (length o.names) m in
     record {
       as-numbers = h;
       as-records = e ∙ filled-records (λ (b : BothLists). b.traced.diags) (of_traced traced_diag_numbers) a p.diags (length o.diags) (length out) (λ x. refl)

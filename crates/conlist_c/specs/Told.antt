@@ -1,7 +1,8 @@
 -- What an exported listing leaves, for the definition's answer `wanted`: `told` holds the answer's numbers, and the outputs what the library's call leaves
--- where it answers so. Assumes nothing.
+-- where it answers so; of both listings, by how the entry compares names (`same`). Assumes nothing.
 use Rattle.std.specs.Prelude.{◌≡◌, List, ℕ}
 use Rattle.as5506.specs.Tables.{Tables}
+use Rattle.as5506.specs.Names.{Comparison}
 use Rattle.as5506.specs.Answers.{Answer, handed}
 use Rattle.as5506.specs.Listing.{TracedList, GroupList, BothLists}
 use Rattle.instance.specs.Answer.{TracedAs, listed as traced_listed}
@@ -17,6 +18,6 @@ pub record GroupTold (wanted : Answer GroupList) (m : Tables) (links rows names 
   pub told : told' ≡ answer_numbers 3 listed_numbers (handed group_listed wanted)
   pub outputs-hold : GroupListedAs wanted m links rows names numbers (handed group_listed wanted) links' rows' names' numbers'
 
-pub record BothTold (wanted : Answer BothLists) (m : Tables) (o : Outputs) (told' : List ℕ) (p : Outputs) : Type 0 where
+pub record BothTold (same : Comparison) (wanted : Answer BothLists) (m : Tables) (o : Outputs) (told' : List ℕ) (p : Outputs) : Type 0 where
   pub told : told' ≡ answer_numbers 5 both_numbers (handed both_listed wanted)
-  pub outputs-hold : BothAs wanted m o (handed both_listed wanted) p
+  pub outputs-hold : BothAs same wanted m o (handed both_listed wanted) p

@@ -1,6 +1,8 @@
 -- What the calls tell that fill the caller's records, and what their outputs hold. Assumes nothing.
 use Rattle.std.specs.Prelude.{◌≡◌, List, ℕ, ◌/◌, min, length}
+use Rattle.as5506.specs.Lists.{same_bytes}
 use Rattle.as5506.specs.Tables.{Tables}
+use Rattle.as5506.specs.Names.{Comparison}
 use Rattle.as5506.specs.Answers.{Answer}
 use Rattle.as5506.specs.Listing.{Room, TracedList, GroupList, BothLists, traced_answer, group_answer, both_answer}
 use Rattle.as5506.specs.Layout.{links_in, row_numbers, diag_numbers}
@@ -16,14 +18,14 @@ room_with rows numbers count = record { rows = rows / row_numbers; diags = min c
 -- ---- the definition's answers for the tables m, outputs of these lengths and so many records
 
 abbrev pub traced_for : Tables → List ℕ → List ℕ → List ℕ → ℕ → Answer TracedList
-traced_for m links rows numbers count = traced_answer (links_in (length links)) (room_with (length rows) (length numbers) count) m
+traced_for m links rows numbers count = traced_answer same_bytes (links_in (length links)) (room_with (length rows) (length numbers) count) m
 
 abbrev pub group_for : Tables → List ℕ → List ℕ → List ℕ → List ℕ → ℕ → Answer GroupList
-group_for m links rows names numbers count = group_answer (links_in (length links)) (room_with (length rows) (length numbers) count) (length names) m
+group_for m links rows names numbers count = group_answer same_bytes (links_in (length links)) (room_with (length rows) (length numbers) count) (length names) m
 
-abbrev pub both_for : Tables → Outputs → ℕ → ℕ → Answer BothLists
-both_for m o count group-count =
-    both_answer (links_in (length o.links)) (room_with (length o.rows) (length o.diags) count) (room_with (length o.group-rows) (length o.group-diags) group-count) (length o.names) m
+abbrev pub both_for : Comparison → Tables → Outputs → ℕ → ℕ → Answer BothLists
+both_for same m o count group-count =
+    both_answer same (links_in (length o.links)) (room_with (length o.rows) (length o.diags) count) (room_with (length o.group-rows) (length o.group-diags) group-count) (length o.names) m
 
 -- ---- THE CONTRACTS, with the caller's records `out`, which afterwards are out'
 
@@ -38,7 +40,7 @@ pub record GroupRecords (m : Tables) (links rows names numbers : List ℕ) (out 
   pub as-records : out' ≡ records (length out) (λ (g : GroupList). g.diags) (group_for m links rows names numbers (length out))
 
 -- both listings, with records for the diagnostics of each
-pub record BothRecords (m : Tables) (o : Outputs) (out group-out : List Diagnostic) (told' : List ℕ) (p : Outputs) (out' group-out' : List Diagnostic) : Type 0 where
-  pub as-numbers : BothTold (both_for m o (length out) (length group-out)) m o told' p
-  pub as-records : out' ≡ records (length out) (λ (b : BothLists). b.traced.diags) (both_for m o (length out) (length group-out))
-  pub as-group-records : group-out' ≡ records (length group-out) (λ (b : BothLists). b.group.diags) (both_for m o (length out) (length group-out))
+pub record BothRecords (same : Comparison) (m : Tables) (o : Outputs) (out group-out : List Diagnostic) (told' : List ℕ) (p : Outputs) (out' group-out' : List Diagnostic) : Type 0 where
+  pub as-numbers : BothTold same (both_for same m o (length out) (length group-out)) m o told' p
+  pub as-records : out' ≡ records (length out) (λ (b : BothLists). b.traced.diags) (both_for same m o (length out) (length group-out))
+  pub as-group-records : group-out' ≡ records (length group-out) (λ (b : BothLists). b.group.diags) (both_for same m o (length out) (length group-out))

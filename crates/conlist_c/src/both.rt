@@ -1,6 +1,8 @@
 // Both listings.
+ghost use Rattle.as5506.specs.Lists.{same_bytes};
 ghost use Rattle.lent.specs.Lent.{tables_at};
 ghost use Rattle.lent.specs.Model.{model};
+ghost use Rattle.name.specs.Reading.{comparison};
 ghost use Rattle.listing.specs.Answer.{outputs, answer_for};
 ghost use Rattle.conlist_c.specs.Told.{BothTold};
 ghost use Rattle.conlist_c.specs.WithRecords.{both_for, BothRecords};
@@ -8,11 +10,13 @@ ghost use Rattle.conlist_c.specs.WithRecords.{both_for, BothRecords};
 use crate::diagnostic::{self, Diagnostic};
 use crate::numbers;
 use lent::Tables;
+use name::Reading;
 
-// Lists as `list_connections` does, with what is told of it: 0, the traced rows and diagnostics and the group rows and diagnostics that were written, or
-// a refusal's number, place and letter and two zeros.
-fn list(
+// Lists as `list_connections` does by a reading, with what is told of it: 0, the traced rows and diagnostics and the group rows and diagnostics that were
+// written, or a refusal's number, place and letter and two zeros.
+pub fn list(
     m: &Tables,
+    reading: Reading,
     links: &mut [u32],
     rows: &mut [u32],
     diagnostics: &mut [u32],
@@ -20,14 +24,15 @@ fn list(
     names: &mut [u8],
     group_diagnostics: &mut [u32],
 ) -> [u64; 5]
-    ensures { BothTold
-        (answer_for (model m.now) (outputs links.old rows.old diagnostics.old group_rows.old names.old group_diagnostics.old))
+    ensures { BothTold (comparison reading)
+        (answer_for (comparison reading) (model m.now) (outputs links.old rows.old diagnostics.old group_rows.old names.old group_diagnostics.old))
         (model m.now)
         (outputs links.old rows.old diagnostics.old group_rows.old names.old group_diagnostics.old) result
         (outputs links.new rows.new diagnostics.new group_rows.new names.new group_diagnostics.new) }
 {
     numbers::told(listing::list_connections(
         m,
+        reading,
         links,
         rows,
         diagnostics,
@@ -38,8 +43,9 @@ fn list(
 }
 
 // The same with room for no more diagnostics than `count` and `group_count` records, which C lends beside the numbers.
-fn list_for(
+pub fn list_for(
     m: &Tables,
+    reading: Reading,
     links: &mut [u32],
     rows: &mut [u32],
     numbers: &mut [u32],
@@ -49,8 +55,8 @@ fn list_for(
     count: usize,
     group_count: usize,
 ) -> [u64; 5]
-    ensures { BothTold
-        (both_for (model m.now) (outputs links.old rows.old numbers.old group_rows.old names.old group_numbers.old) count group_count)
+    ensures { BothTold (comparison reading)
+        (both_for (comparison reading) (model m.now) (outputs links.old rows.old numbers.old group_rows.old names.old group_numbers.old) count group_count)
         (model m.now)
         (outputs links.old rows.old numbers.old group_rows.old names.old group_numbers.old) result
         (outputs links.new rows.new numbers.new group_rows.new names.new group_numbers.new) }
@@ -61,6 +67,7 @@ fn list_for(
     group_numbers.fill(0);
     list(
         m,
+        reading,
         links,
         rows,
         &mut numbers[..end],
@@ -70,8 +77,9 @@ fn list_for(
     )
 }
 
-// Lists as `list_connections` does. `told` then holds 0, the traced rows and diagnostics and the group rows and diagnostics that were written, or a
-// refusal's number, place and letter and two zeros.
+// Lists as `list_connections` does, from the ported entry. `told` then holds 0, the traced rows and diagnostics and the group rows and diagnostics that
+// were written, or a refusal's number, place and letter and two zeros.
+#[tactic(auto, unfolding(name::specs::Reading::comparison))]
 #[unsafe(no_mangle)]
 pub extern "C" fn conlist_list_connections(
     bytes: &[u8],
@@ -95,8 +103,8 @@ pub extern "C" fn conlist_list_connections(
     group_diagnostics: &mut [u32],
     told: &mut [u64; 5],
 )
-    ensures { BothTold
-        (answer_for (tables_at bytes n c f x p i t q u e r m)
+    ensures { BothTold same_bytes
+        (answer_for same_bytes (tables_at bytes n c f x p i t q u e r m)
         (outputs links.old rows.old diagnostics.old group_rows.old names.old group_diagnostics.old))
         (tables_at bytes n c f x p i t q u e r m)
         (outputs links.old rows.old diagnostics.old group_rows.old names.old group_diagnostics.old) told.new
@@ -119,6 +127,7 @@ pub extern "C" fn conlist_list_connections(
     };
     *told = list(
         &model,
+        Reading::Ported,
         links,
         rows,
         diagnostics,
@@ -128,8 +137,9 @@ pub extern "C" fn conlist_list_connections(
     );
 }
 
-// Lists as `list_connections` does, with the diagnostics in the caller's records: of each listing there is room for as many as it has records, and for no
+// The same with the diagnostics in the caller's records: of each listing there is room for as many as it has records, and for no
 // more than a quarter of its numbers. Records, like numbers, hold them from the front and zeros behind, or zeros alone on a refusal. `told` as above.
+#[tactic(auto, unfolding(name::specs::Reading::comparison))]
 #[unsafe(no_mangle)]
 pub extern "C" fn conlist_list_connections_with_records(
     bytes: &[u8],
@@ -155,7 +165,7 @@ pub extern "C" fn conlist_list_connections_with_records(
     group_out: &mut [Diagnostic],
     told: &mut [u64; 5],
 )
-    ensures { BothRecords
+    ensures { BothRecords same_bytes
         (tables_at bytes n c f x p i t q u e r m)
         (outputs links.old rows.old numbers.old group_rows.old names.old group_numbers.old)
         out.old group_out.old told.new
@@ -179,6 +189,7 @@ pub extern "C" fn conlist_list_connections_with_records(
     };
     *told = list_for(
         &model,
+        Reading::Ported,
         links,
         rows,
         numbers,

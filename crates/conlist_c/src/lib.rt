@@ -7,6 +7,7 @@ mod check;
 mod diagnostic;
 mod expand;
 mod group;
+mod ignoring_case;
 mod modes;
 mod numbers;
 mod printing;

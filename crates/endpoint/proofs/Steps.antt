@@ -7,7 +7,7 @@ use lib.Dec.{eqb}
 use Rattle.std.specs.Prelude.{Option, Some, None, is_some}
 use Rattle.as5506.specs.Lists.{up_to, put_if, keep, first_of, any_of, same_bytes}
 use Rattle.as5506.specs.Tables.{Tables, missing, letter_f, letter_e, count, Side, Ref, ref, name_of, rows_naming, x_owner, x_sub, c_package, c_type, f_name, f_owner, f_kind, features_of, e_name, e_kind, e_holder, e_holder_kind, e_classifier, present}
-use Rattle.as5506.specs.Names.{key}
+use Rattle.as5506.specs.Names.{Comparison, key}
 use Rattle.as5506.specs.Resolve.{resolve}
 use Rattle.as5506.specs.Groups.{Expansion, feature_kind_group, expand}
 use Rattle.as5506.specs.Tracing.{found_children, named}
@@ -24,16 +24,16 @@ use Rattle.endpoint.specs.Ends.{is_group, is_declared}
 module _ (m : Tables) where
   -- ---- the component of an end
 
-  module _ (s : Side) (i p sub : ℕ) (e : p ≡ x_owner m i) (f : sub ≡ x_sub m s i) where
-    pub end_owner : sub ≡ missing → Some p ≡ end_component m s i
+  module _ (same : Comparison) (s : Side) (i p sub : ℕ) (e : p ≡ x_owner m i) (f : sub ≡ x_sub m s i) where
+    pub end_owner : sub ≡ missing → Some p ≡ end_component same m s i
     unfolding end_component end_component_by
     end_owner h = rw (missing-is sub (x_sub m s i) f h) (ap Some e)
 
     -- l is what the name finds
-    pub end_child : (l : List ℕ) (q : Option ℕ) → (sub ≡ missing → ⊥) → l ≡ found_children m p (name_of m sub) → q ≡ first_of l → q ≡ end_component m s i
+    pub end_child : (l : List ℕ) (q : Option ℕ) → (sub ≡ missing → ⊥) → l ≡ found_children same m p (name_of m sub) → q ≡ first_of l → q ≡ end_component same m s i
     unfolding end_component end_component_by named
     end_child l q h a g =
-        rw (present-is sub (x_sub m s i) f h) (g ∙ ap first_of (a ∙ ap₂ (λ (p sub : ℕ). found_children m p (name_of m sub)) e f))
+        rw (present-is sub (x_sub m s i) f h) (g ∙ ap first_of (a ∙ ap₂ (λ (p sub : ℕ). found_children same m p (name_of m sub)) e f))
 
   -- ---- the group features of a component
 

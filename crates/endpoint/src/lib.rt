@@ -7,7 +7,7 @@ ghost use Rattle.as5506.specs.Tables.{x_count};
 ghost use Rattle.as5506.specs.Names.{key};
 ghost use Rattle.as5506.specs.GroupList.{is_group_connection, is_group_feature, declared_group, declared_by, end_component, endpoint as the_endpoint};
 ghost use Rattle.lent.specs.Model.{model};
-ghost use Rattle.child_links.specs.Trees.{of_tree};
+ghost use Rattle.child_links.specs.Trees.{of_tree, same_in};
 ghost use Rattle.columns.specs.Side.{side_of};
 ghost use Rattle.endpoint.specs.Ends.{expanded, is_group, is_declared};
 
@@ -41,7 +41,7 @@ pub fn is_group_connection(m: &Tables, i: usize) -> bool
 #[tactic(auto, using(crate::proofs::Steps::end_owner, crate::proofs::Steps::end_child))]
 pub fn end_component(tree: &Tree, side: Side, i: usize) -> Option<usize>
     requires { i < x_count (of_tree tree.now) }
-    ensures { result ≡ end_component (of_tree tree.now) (side_of side) i }
+    ensures { result ≡ end_component (same_in tree.now) (of_tree tree.now) (side_of side) i }
 {
     let owner = connection::owner_of(tree.m, i);
     let sub = connection::subcomponent_of(tree.m, side, i);

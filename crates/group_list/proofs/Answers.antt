@@ -10,10 +10,11 @@ use lib.ListN.{length, take, drop}
 use lib.Seq.{sets, sets-eq, take_at, length-take-le}
 use borrow.Author.Tests.{lt-ltb, le-ltb}
 use Rattle.std.specs.Prelude.{Option, Some, Result, Ok, Err, ok_or, is_err, IsErrAnd}
-use Rattle.as5506.specs.Lists.{each, total, zeros}
+use Rattle.as5506.specs.Lists.{each, total, same_bytes, zeros}
 use Rattle.as5506.specs.declared.Refusal.{Refusal as Told}
 use Rattle.as5506.specs.declared.Listed.{Listed}
 use Rattle.as5506.specs.Tables.{Tables}
+use Rattle.as5506.specs.Names.{Comparison}
 use Rattle.as5506.specs.Answers.{Refusal, Answer, given, refused, refusal, nowhere, told, handed}
 use Rattle.as5506.specs.Refusals.{accepted}
 use Rattle.as5506.specs.Rows.{Row}
@@ -68,12 +69,12 @@ module _ (room : Room) (names : ℕ) (g : GroupList) where
 
 -- ---- accepted tables: rows and diags are the outputs at entry, rows₁ and diags₁ what matching left in them
 
-module _ (m : Tables) (rows names diags : List ℕ) where
+module _ (same : Comparison) (m : Tables) (rows names diags : List ℕ) where
   abbrev the_answer : Answer GroupList
-  the_answer = answer_of m rows names diags
+  the_answer = answer_of same m rows names diags
 
   abbrev the_matches : List Match
-  the_matches = matches m (group_connections m)
+  the_matches = matches m (group_connections same m)
 
   abbrev the_pairs : List Pair
   the_pairs = pairs_of the_matches
@@ -117,16 +118,16 @@ module _ (m : Tables) (rows names diags : List ℕ) where
       go (inr h) = absurd (b h)
 
   -- matching answered q: r₁ is that as a Result, in which nothing is told as s₁
-  module _ (ok : T (accepted m)) (rows₁ diags₁ : List ℕ) (q : Option Tally) (e : MatchedInto m rows diags q rows₁ diags₁) (s₁ : Told) (r₁ : Result Tally Told) (e₁ : r₁ ≡ ok_or q s₁) where
+  module _ (ok : T (accepted m)) (rows₁ diags₁ : List ℕ) (q : Option Tally) (e : MatchedInto same m rows diags q rows₁ diags₁) (s₁ : Told) (r₁ : Result Tally Told) (e₁ : r₁ ≡ ok_or q s₁) where
     short : All Short the_pairs
-    short = pairs-short m ok
+    short = pairs-short same m ok
 
     -- 13
     pub lists-13 : (x : Told) → r₁ ≡ Err x → (z : Result Listed Told) → IsErrAnd z (λ y. y ≡ x) → s₁ ≡ told (refusal 13 nowhere) → (rows' diags' : List ℕ) → Leaves z rows' names diags'
     unfolding group_of
     lists-13 x g z i j rows' diags' =
         let h = none-told q s₁ x (sym e₁ ∙ g) in
-        let over : overrun (group_connections m) ≡ true = told_over m (group_connections m) rows diags rows₁ diags₁ q e h.0 in
+        let over : overrun (group_connections same m) ≡ true = told_over m (group_connections same m) rows diags rows₁ diags₁ q e h.0 in
         refused-for 13 z (ap (λ (b : Bool). group_within (room_in (length rows) (length diags)) (length names) b the_list) over ∙ within-13 _ _ the_list) (passed z x i ∙ ap Err (h.1 ∙ j))
         rows' names diags' (untouched z)
 
@@ -140,15 +141,15 @@ module _ (m : Tables) (rows names diags : List ℕ) where
 
       answer-is : the_answer ≡ group_within (room_in (length rows) (length diags)) (length names) false the_list
       unfolding group_of
-      answer-is = ap (λ (b : Bool). group_within (room_in (length rows) (length diags)) (length names) b the_list) (told-done m (group_connections m) rows diags rows₁ diags₁ q e t f).0
+      answer-is = ap (λ (b : Bool). group_within (room_in (length rows) (length diags)) (length names) b the_list) (told-done m (group_connections same m) rows diags rows₁ diags₁ q e t f).0
 
       rows_printed : Printed blocks rows t.used rows₁
-      rows_printed = printed-by (match_pieces the_matches) rows rows₁ t.used blocks (pair-blocks the_matches) (told-done m (group_connections m) rows diags rows₁ diags₁ q e t f).1
+      rows_printed = printed-by (match_pieces the_matches) rows rows₁ t.used blocks (pair-blocks the_matches) (told-done m (group_connections same m) rows diags rows₁ diags₁ q e t f).1
 
       notes-printed : Printed (each diag_block (diags_matched the_matches)) diags t.noted diags₁
       notes-printed =
           printed-by (note_pieces the_matches) diags diags₁ t.noted (each diag_block (diags_matched the_matches)) (note-blocks the_matches)
-          (told-done m (group_connections m) rows diags rows₁ diags₁ q e t f).2
+          (told-done m (group_connections same m) rows diags rows₁ diags₁ q e t f).2
 
       row_count : length the_list.rows ≡ length the_pairs
       unfolding group_list_of
@@ -269,7 +270,7 @@ module _ (m : Tables) (links rows names diags : List ℕ) (q : Result (Unit {0})
   pub links-refused : (r : Told) → q ≡ Err r → (z : Result Listed Told) → IsErrAnd z (λ y. y ≡ r) → (rows' names' diags' : List ℕ) → LeavesLinked z links₁ rows' names' diags'
   unfolding group_answer group_on
   links-refused r i z j rows' names' diags' =
-      let x = refused-on m links q links₁ k (group_on (room_in (length rows) (length diags)) (length names) m) (λ x fs. refl) r i in
+      let x = refused-on m links q links₁ k (group_on same_bytes (room_in (length rows) (length diags)) (length names) m) (λ x fs. refl) r i in
       record {
         answer = hands-refused listed z all_of_it x.0 x.1 r (passed z r j) x.2;
         linked = λ l f. absurd (ok-not-err l r (sym f ∙ passed z r j));
@@ -279,11 +280,11 @@ module _ (m : Tables) (links rows names diags : List ℕ) (q : Result (Unit {0})
       }
 
   -- they are not
-  pub links-filled : q ≡ Ok tt → (z : Result Listed Told) (rows' names' diags' : List ℕ) → Lists (answer_of m rows names diags) rows names diags z rows' names' diags'
+  pub links-filled : q ≡ Ok tt → (z : Result Listed Told) (rows' names' diags' : List ℕ) → Lists (answer_of same_bytes m rows names diags) rows names diags z rows' names' diags'
       → LeavesLinked z links₁ rows' names' diags'
   unfolding group_answer group_on
   links-filled i z rows' names' diags' w =
-      let a : answer_of m rows names diags ≡ all_of_it = sym (ap (group_on (room_in (length rows) (length diags)) (length names) m) (accepted-is m links q links₁ k i)) in
+      let a : answer_of same_bytes m rows names diags ≡ all_of_it = sym (ap (group_on same_bytes (room_in (length rows) (length diags)) (length names) m) (accepted-is m links q links₁ k i)) in
       record {
         answer = w.answer ∙ ap (handed listed) a;
         linked = λ l f. k.linked i;
@@ -303,8 +304,8 @@ module _ (m : Tables) (links rows names diags rows₁ names₁ diags₁ : List �
 
   same_answer : answer_for m links rows₁ names₁ diags₁ ≡ whole
   same_answer =
-      ap₂ (λ (n l : ℕ). group_answer (links_in (length links)) (room_in n l) (length names₁) m) (zeros-length rows₁ (length rows) e) (zeros-length diags₁ (length diags) g)
-      ∙ ap (λ (s : ℕ). group_answer (links_in (length links)) (room_in (length rows) (length diags)) s m) (zeros-length names₁ (length names) f)
+      ap₂ (λ (n l : ℕ). group_answer same_bytes (links_in (length links)) (room_in n l) (length names₁) m) (zeros-length rows₁ (length rows) e) (zeros-length diags₁ (length diags) g)
+      ∙ ap (λ (s : ℕ). group_answer same_bytes (links_in (length links)) (room_in (length rows) (length diags)) s m) (zeros-length names₁ (length names) f)
 
   told-whole : z ≡ handed listed whole
   told-whole = w.answer ∙ ap (handed listed) same_answer

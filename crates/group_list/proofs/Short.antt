@@ -10,7 +10,7 @@ use lib.ListN.{length, take, drop, get_or-eq_default}
 use Rattle.std.specs.Prelude.{Option, Some, None}
 use Rattle.as5506.specs.Lists.{keep, first_of, up_to, all_of, same_bytes}
 use Rattle.as5506.specs.Tables.{Tables, missing, present, Ref, ref, letter_n, letter_u, letter_e, count, n_start, n_length, name_in, x_count, source, destination, e_classifier, x_feat}
-use Rattle.as5506.specs.Names.{name_byte, good_name, key}
+use Rattle.as5506.specs.Names.{Comparison, name_byte, good_name, key}
 use Rattle.as5506.specs.Resolve.{Resolved, component_type, component_impl, group_type, unresolved}
 use Rattle.as5506.specs.Groups.{Feature, Expansion, depth_limit, expand_feature_group, expand}
 use Rattle.as5506.specs.GroupList.{is_group_feature, type_of, declared_group, asking_package, classifier_by, declared_by, typed_by, endpoint_by, endpoint, is_group_connection, end_component, GroupConnection, group_connection, group_connections, partner, Match, matches_by, matches}
@@ -89,12 +89,12 @@ module _ (m : Tables) (ok : T (accepted m)) where
   connection-short x (Some a) None = tt
   connection-short x (Some a) (Some b) = ((endpoint-short a (x_feat m source x), endpoint-short b (x_feat m destination x)), tt)
 
-  connections-short : All ShortEnds (group_connections m)
+  connections-short : (same : Comparison) → All ShortEnds (group_connections same m)
   unfolding group_connections
-  connections-short =
+  connections-short same =
       let xs : List ℕ = keep (is_group_connection m) (up_to (x_count m)) in
-      all-each-of ShortEnds (λ (x : ℕ). group_connection m x (end_component m source x) (end_component m destination x))
-      (λ x. connection-short x (end_component m source x) (end_component m destination x)) xs
+      all-each-of ShortEnds (λ (x : ℕ). group_connection m x (end_component same m source x) (end_component same m destination x))
+      (λ x. connection-short x (end_component same m source x) (end_component same m destination x)) xs
 
 -- ---- their matches
 
@@ -113,8 +113,8 @@ module _ (m : Tables) where
   partner-short : (s : Feature) (ds : List Feature) → All ShortFeature ds → ShortPartner (partner m s ds)
   unfolding partner
   partner-short s ds t =
-      let same : Feature → Bool = λ d. same_bytes (key m s.name) (key m d.name) in
-      first_short (keep same ds) (all_keep ShortFeature ShortFeature same (λ d u h. h) ds t)
+      let equal : Feature → Bool = λ d. same_bytes (key m s.name) (key m d.name) in
+      first_short (keep equal ds) (all_keep ShortFeature ShortFeature equal (λ d u h. h) ds t)
 
   matches-by-short : (b : GroupConnection) (s d : Option Expansion) → ShortGroup s → ShortGroup d → All ShortMatch (matches_by m b s d)
   unfolding matches_by
@@ -136,11 +136,11 @@ unfolding pair_by
 pair-short b s None h u = tt
 pair-short b s (Some d) h u = ((h, u), tt)
 
-pub pairs-short : (m : Tables) → T (accepted m) → All Short (pairs_of (matches m (group_connections m)))
+pub pairs-short : (same : Comparison) (m : Tables) → T (accepted m) → All Short (pairs_of (matches m (group_connections same m)))
 unfolding pairs_of
-pairs-short m ok =
-    all-each ShortMatch Short (λ (p : Match). pair_by p.connection p.feature p.partner) (λ p h. pair-short p.connection p.feature p.partner h.0 h.1) (matches m (group_connections m))
-    (matches-short m (group_connections m) (connections-short m ok))
+pairs-short same m ok =
+    all-each ShortMatch Short (λ (p : Match). pair_by p.connection p.feature p.partner) (λ p h. pair-short p.connection p.feature p.partner h.0 h.1) (matches m (group_connections same m))
+    (matches-short m (group_connections same m) (connections-short m ok same))
 
 -- ---- names
 

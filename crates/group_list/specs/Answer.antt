@@ -1,6 +1,8 @@
 -- What the call answers, and what its outputs hold. Assumes nothing.
 use Rattle.std.specs.Prelude.{◌⊎◌, ◌≡◌, List, ℕ, length, Result, Ok, Err}
+use Rattle.as5506.specs.Lists.{same_bytes}
 use Rattle.as5506.specs.Tables.{Tables}
+use Rattle.as5506.specs.Names.{Comparison}
 use Rattle.as5506.specs.Answers.{Answer, handed}
 use Rattle.as5506.specs.declared.Refusal.{Refusal as Told}
 use Rattle.as5506.specs.declared.Listed.{Listed}
@@ -17,7 +19,7 @@ listed g = record { rows = length g.rows; diagnostics = length g.diags }
 
 -- the definition's answer for the tables m and outputs of these lengths
 abbrev pub answer_for : Tables → List ℕ → List ℕ → List ℕ → List ℕ → Answer GroupList
-answer_for m links rows names diags = group_answer (links_in (length links)) (room_in (length rows) (length diags)) (length names) m
+answer_for m links rows names diags = group_answer same_bytes (links_in (length links)) (room_in (length rows) (length diags)) (length names) m
 
 -- THE CONTRACT: a call on the tables m with the outputs `links`, `rows`, `names` and `diags`, for which the definition's answer is `wanted`, answers z and
 -- leaves links', rows', names' and diags' in them. The last field is 02 (xiii), of the links handed back: the walk along them gives the children by place
@@ -36,8 +38,8 @@ GroupListedInto m links rows names diags z links' rows' names' diags' =
 
 -- ---- accepted tables, before a refusal clears the outputs
 
-abbrev pub answer_of : Tables → List ℕ → List ℕ → List ℕ → Answer GroupList
-answer_of m rows names diags = group_of (room_in (length rows) (length diags)) (length names) m (group_connections m)
+abbrev pub answer_of : Comparison → Tables → List ℕ → List ℕ → List ℕ → Answer GroupList
+answer_of same m rows names diags = group_of (room_in (length rows) (length diags)) (length names) m (group_connections same m)
 
 -- names are composed once all rows are known to find room: on 13 and 11 their output is as it was
 unfoldable pub NamesStay : Result Listed Told → List ℕ → List ℕ → Type 0

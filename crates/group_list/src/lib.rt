@@ -2,10 +2,11 @@
 #![tactic(auto)]
 
 ghost use Rattle.std.specs.Prelude.{◌≤◌, length};
+ghost use Rattle.as5506.specs.Lists.{same_bytes};
 ghost use Rattle.as5506.specs.Tables.{c_count};
 ghost use Rattle.lent.specs.Model.{model};
 ghost use Rattle.child_links.specs.Linked.{Linked};
-ghost use Rattle.child_links.specs.Trees.{of_tree};
+ghost use Rattle.child_links.specs.Trees.{of_tree, same_in};
 ghost use Rattle.group_match.specs.Matching.{MatchedInto};
 ghost use Rattle.group_list.specs.Answer.{answer_for, answer_of, Lists, ListsLinked, GroupListedInto};
 ghost use Rattle.group_list.specs.Ready.{MatchRoom};
@@ -18,6 +19,7 @@ use child_links::Tree;
 use group_match::CALM_NUMBERS;
 use lent::Tables;
 use links::Links;
+use name::Reading;
 use sink::Tally;
 
 // The names, and the group types or features, that the small room is enough for: all that the program conlist can read.
@@ -43,7 +45,7 @@ fn match_in<const NAMES: usize, const ROWS: usize, const KEPT: usize, const CALM
     notes: &mut [u32],
 ) -> Option<Tally>
     requires { MatchRoom (of_tree tree.now) NAMES ROWS KEPT CALM }
-    ensures { MatchedInto (of_tree tree.now) rows.old notes.old result rows.new notes.new }
+    ensures { MatchedInto (same_in tree.now) (of_tree tree.now) rows.old notes.old result rows.new notes.new }
 {
     let m = tree.m;
     let mut nested = [0; ROWS];
@@ -73,7 +75,7 @@ fn match_in<const NAMES: usize, const ROWS: usize, const KEPT: usize, const CALM
 
 // Matches them in the small room where it is enough, else in the large one: a room is set to zeros before it is used, so a small one costs less.
 fn match_all(tree: &Tree, rows: &mut [u32], notes: &mut [u32]) -> Option<Tally>
-    ensures { MatchedInto (of_tree tree.now) rows.old notes.old result rows.new notes.new }
+    ensures { MatchedInto (same_in tree.now) (of_tree tree.now) rows.old notes.old result rows.new notes.new }
 {
     let m = tree.m;
     if m.n.len() / N_NUMBERS <= SMALL_NAMES
@@ -94,7 +96,7 @@ pub fn list_accepted(
     diagnostics: &mut [u32],
 ) -> Result<Listed, Refusal>
     ensures { Lists
-        (answer_of (of_tree tree.now) rows.old names.old diagnostics.old)
+        (answer_of (same_in tree.now) (of_tree tree.now) rows.old names.old diagnostics.old)
         rows.old names.old diagnostics.old result rows.new names.new diagnostics.new }
 {
     let tally = match_all(tree, rows, diagnostics).ok_or(Refusal::from(Reason::Visits))?;
@@ -109,7 +111,8 @@ pub fn list_accepted(
     })
 }
 
-// The same of tables and their link table, with room for the keys of their components.
+// The same of tables and their link table, by the ported entry, with room for the keys of their components.
+#[tactic(auto, unfolding(name::specs::Reading::comparison))]
 fn list_linked(
     m: &Tables,
     links: &[u32],
@@ -121,7 +124,7 @@ fn list_linked(
     requires linked { Linked (model m.now) links.now }
     requires room { c_count (model m.now) ≤ length keys.old }
     ensures { Lists
-        (answer_of (model m.now) rows.old names.old diagnostics.old)
+        (answer_of same_bytes (model m.now) rows.old names.old diagnostics.old)
         rows.old names.old diagnostics.old result rows.new names.new diagnostics.new }
 {
     child_links::key_names(m, keys);
@@ -129,6 +132,7 @@ fn list_linked(
         m: &*m,
         links: &*links,
         keys: &*keys,
+        reading: Reading::Ported,
     };
     list_accepted(&tree, rows, names, diagnostics)
 }

@@ -10,6 +10,7 @@ use lib.ListN.{length}
 use Rattle.std.specs.Prelude.{Option, Some, None}
 use Rattle.as5506.specs.Lists.{span, keep, put_if, when, each}
 use Rattle.as5506.specs.Tables.{Tables, x_count}
+use Rattle.as5506.specs.Names.{Comparison}
 use Rattle.as5506.specs.Refusals.{accepted}
 use Rattle.as5506.specs.GroupList.{is_group_connection, GroupConnection, group_connections}
 use Rattle.as5506.proofs.Scans.{span-next, keep-done}
@@ -37,24 +38,25 @@ module _ (m : Tables) where
   all-over [] = refl
   all-over (b ∷ bs) = all-over bs
 
+module _ (same : Comparison) (m : Tables) where
   -- those of the X rows from row i on
   abbrev connections_from : ℕ → List GroupConnection
-  connections_from i = each (connection_at m) (keep (is_group_connection m) (span i (x_count m - i)))
+  connections_from i = each (connection_at same m) (keep (is_group_connection m) (span i (x_count m - i)))
 
-  put_first : (b : Bool) (x : ℕ) (xs : List ℕ) → each (connection_at m) (put_if b x xs) ≡ each (connection_at m) (when b x) ++ each (connection_at m) xs
-  put_first true x xs = sym (append_assoc (connection_at m x) [] (each (connection_at m) xs))
+  put_first : (b : Bool) (x : ℕ) (xs : List ℕ) → each (connection_at same m) (put_if b x xs) ≡ each (connection_at same m) (when b x) ++ each (connection_at same m) xs
+  put_first true x xs = sym (append_assoc (connection_at same m x) [] (each (connection_at same m) xs))
   put_first false x xs = refl
 
-  from_next : (i : ℕ) → i < x_count m → connections_from i ≡ connections_at m i ++ connections_from (i + 1)
+  from_next : (i : ℕ) → i < x_count m → connections_from i ≡ connections_at same m i ++ connections_from (i + 1)
   unfolding connections_at
   from_next i h =
-      ap (λ (is : List ℕ). each (connection_at m) (keep (is_group_connection m) is)) (span-next i (x_count m) h)
+      ap (λ (is : List ℕ). each (connection_at same m) (keep (is_group_connection m) is)) (span-next i (x_count m) h)
       ∙ put_first (is_group_connection m i) i (keep (is_group_connection m) (span (i + 1) (x_count m - (i + 1))))
 
   -- ---- the loop: h₀ is carried at first, and h before row i
 
   abbrev all : Held → Lists
-  all h₀ = after_all m (group_connections m) (lists_in h₀)
+  all h₀ = after_all m (group_connections same m) (lists_in h₀)
 
   pub record Goes (h₀ h : Held) (i : ℕ) : Type 0 where
     pub names : length h.memo ≡ length h₀.memo
@@ -67,26 +69,26 @@ module _ (m : Tables) where
   module _ (h₀ h : Held) (i : ℕ) (k : Goes h₀ h i) where
     pub goes_end : x_count m ≤ i → lists_in h ≡ all h₀
     unfolding after_all
-    goes_end e = sym (ap (λ (is : List ℕ). after_all m (each (connection_at m) is) (lists_in h)) (keep-done (is_group_connection m) i (x_count m) e)) ∙ k.left
+    goes_end e = sym (ap (λ (is : List ℕ). after_all m (each (connection_at same m) is) (lists_in h)) (keep-done (is_group_connection m) i (x_count m) e)) ∙ k.left
 
     module _ (e : i < x_count m) where
-      one_more : after_all m (connections_from (i + 1)) (after_all m (connections_at m i) (lists_in h)) ≡ all h₀
-      one_more = sym (ap (λ (bs : List GroupConnection). after_all m bs (lists_in h)) (from_next i e) ∙ all_after (connections_at m i) (connections_from (i + 1)) (lists_in h)) ∙ k.left
+      one_more : after_all m (connections_from (i + 1)) (after_all m (connections_at same m i) (lists_in h)) ≡ all h₀
+      one_more = sym (ap (λ (bs : List GroupConnection). after_all m bs (lists_in h)) (from_next i e) ∙ all_after m (connections_at same m i) (connections_from (i + 1)) (lists_in h)) ∙ k.left
 
       -- the row gives no connection
-      pub goes_past : [] ≡ connections_at m i → Goes h₀ h (i + 1)
+      pub goes_past : [] ≡ connections_at same m i → Goes h₀ h (i + 1)
       unfolding after_all
       goes_past n = record { names = k.names; left = ap (λ (bs : List GroupConnection). after_all m (connections_from (i + 1)) (after_all m bs (lists_in h))) n ∙ one_more }
 
       -- it gives one: z is the answer for it
-      module _ (b : GroupConnection) (one : b ∷ [] ≡ connections_at m i) (t : Held) (z : Option ℕ) (f : listed z t ≡ after m b (lists_in h)) where
+      module _ (b : GroupConnection) (one : b ∷ [] ≡ connections_at same m i) (t : Held) (z : Option ℕ) (f : listed z t ≡ after m b (lists_in h)) where
         after-one : after_all m (connections_from (i + 1)) (listed z t) ≡ all h₀
         unfolding after_all
         after-one = ap (after_all m (connections_from (i + 1))) f ∙ ap (λ (bs : List GroupConnection). after_all m (connections_from (i + 1)) (after_all m bs (lists_in h))) one ∙ one_more
 
         pub goes_over : z ≡ None → over ≡ all h₀
         unfolding listed
-        goes_over q = sym (all-over (connections_from (i + 1))) ∙ (rw q at after-one)
+        goes_over q = sym (all-over m (connections_from (i + 1))) ∙ (rw q at after-one)
 
         pub goes_on : (v : ℕ) → z ≡ Some v → length t.memo ≡ length h.memo → Goes h₀ t (i + 1)
         unfolding listed

@@ -2,6 +2,7 @@
 use Rattle.std.specs.Prelude.{Bool, true, false, ◌||◌, ◌≡◌, List, [], ◌∷◌, map, ℕ, suc, Some, None, Option}
 use Rattle.as5506.specs.Lists.{each, when}
 use Rattle.as5506.specs.Tables.{Tables, source, destination}
+use Rattle.as5506.specs.Names.{Comparison}
 use Rattle.as5506.specs.Groups.{Feature, Expansion, depth_limit}
 use Rattle.as5506.specs.GroupList.{is_group_connection, end_component, GroupConnection, group_connection, group_connections, group_overrun, Match, matches_by, diags_matched}
 use Rattle.as5506.specs.Layout.{feature_block, diag_block}
@@ -50,11 +51,11 @@ after_all m [] l = l
 after_all m (b ∷ bs) l = after_all m bs (after m b l)
 
 -- the connection of X row x, if it is a group connection and its components are found
-unfoldable pub connection_at : Tables → ℕ → List GroupConnection
-connection_at m x = group_connection m x (end_component m source x) (end_component m destination x)
+unfoldable pub connection_at : Comparison → Tables → ℕ → List GroupConnection
+connection_at same m x = group_connection m x (end_component same m source x) (end_component same m destination x)
 
-unfoldable pub connections_at : Tables → ℕ → List GroupConnection
-connections_at m x = each (connection_at m) (when (is_group_connection m x) x)
+unfoldable pub connections_at : Comparison → Tables → ℕ → List GroupConnection
+connections_at same m x = each (connection_at same m) (when (is_group_connection m x) x)
 
 -- what an answer tells, with what the slices hold
 unfoldable pub lists_of : Option Tally → List ℕ → List ℕ → Lists
@@ -62,5 +63,5 @@ lists_of None rows notes = over
 lists_of (Some t) rows notes = lists (filled rows t.used) (filled notes t.noted)
 
 -- what matching the groups of all connections of the tables m answers, and leaves in the outputs
-abbrev pub MatchedInto : Tables → List ℕ → List ℕ → Option Tally → List ℕ → List ℕ → Type 0
-MatchedInto m rows notes z rows' notes' = lists_of z rows' notes' ≡ after_all m (group_connections m) (lists (filled rows (Some 0)) (filled notes (Some 0)))
+abbrev pub MatchedInto : Comparison → Tables → List ℕ → List ℕ → Option Tally → List ℕ → List ℕ → Type 0
+MatchedInto same m rows notes z rows' notes' = lists_of z rows' notes' ≡ after_all m (group_connections same m) (lists (filled rows (Some 0)) (filled notes (Some 0)))

@@ -8,7 +8,7 @@ ghost use Rattle.as5506.specs.Tables.{count, letter_u, x_count};
 ghost use Rattle.as5506.specs.Groups.{depth_limit};
 ghost use Rattle.as5506.specs.GroupList.{endpoint as the_endpoint};
 ghost use Rattle.lent.specs.Model.{model};
-ghost use Rattle.child_links.specs.Trees.{of_tree};
+ghost use Rattle.child_links.specs.Trees.{of_tree, same_in};
 ghost use Rattle.links.specs.declared.Links.{Links};
 ghost use Rattle.links.specs.Links.{LinkedBy};
 ghost use Rattle.links.specs.Walk.{groups_of, visit_link};
@@ -161,7 +161,7 @@ fn group_link(m: &Tables, component: u32, feature: u32) -> Option<u32>
 fn group_connection(tree: &Tree, row: usize) -> Option<GroupConnection>
     requires { row < x_count (of_tree tree.now) }
     ensures { (l : Links) → LinkedBy (of_tree tree.now) l
-        → connection_list (groups_of (of_tree tree.now) l) result ≡ connections_at (of_tree tree.now) row }
+        → connection_list (groups_of (of_tree tree.now) l) result ≡ connections_at (same_in tree.now) (of_tree tree.now) row }
 {
     let m = tree.m;
     if !endpoint::is_group_connection(m, row) {
@@ -196,7 +196,7 @@ pub fn match_connections(
     notes: &mut [u32],
 ) -> Option<Tally>
     requires { MatchReady (of_tree tree.now) links memo.old kept.old }
-    ensures { MatchedInto (of_tree tree.now) rows.old notes.old result rows.new notes.new }
+    ensures { MatchedInto (same_in tree.now) (of_tree tree.now) rows.old notes.old result rows.new notes.new }
 {
     let mut sink = Sink {
         memo,

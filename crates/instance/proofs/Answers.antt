@@ -11,10 +11,11 @@ use lib.Seq.{sets}
 use borrow.Author.Tests.{lt-ltb, le-ltb}
 use Rattle.std.specs.Prelude.{Option, Some, Result, Ok, Err, is_err, IsErrAnd}
 use Rattle.std.specs.Option.{ok_or}
-use Rattle.as5506.specs.Lists.{each, zeros}
+use Rattle.as5506.specs.Lists.{each, same_bytes, zeros}
 use Rattle.as5506.specs.declared.Refusal.{Refusal as Told}
 use Rattle.as5506.specs.declared.Listed.{Listed}
 use Rattle.as5506.specs.Tables.{Tables}
+use Rattle.as5506.specs.Names.{Comparison}
 use Rattle.as5506.specs.Answers.{Refusal, Answer, given, refused, refusal, nowhere, told, handed}
 use Rattle.as5506.specs.Tracing.{traced, traced_diags, unlimited, step_limit}
 use Rattle.as5506.specs.Followed.{NoneHasNext}
@@ -70,12 +71,12 @@ module _ {A : Type 0} (w : ℕ) (block : A → List ℕ) (l : List A) (out : Lis
 
 -- ---- accepted tables: rows and diags are the outputs at entry, p is what is told of the rows, and rows₁ what is left of them
 
-module _ (m : Tables) (rows diags : List ℕ) where
+module _ (same : Comparison) (m : Tables) (rows diags : List ℕ) where
   abbrev room : Room
   room = room_in (length rows) (length diags)
 
   abbrev the_answer : Answer TracedList
-  the_answer = answer_of m rows diags
+  the_answer = answer_of same m rows diags
 
   abbrev Leaves : Result Listed Told → List ℕ → List ℕ → Type 0
   Leaves z rows' diags' = Lists the_answer m rows diags z rows' diags'
@@ -88,45 +89,45 @@ module _ (m : Tables) (rows diags : List ℕ) where
         in_diagnostics = refused-in traced_diag_numbers the_answer diags diags' x f;
       }
 
-  module _ (p : Option ℕ) (rows₁ : List ℕ) (v : Written row_numbers (traced_block m) (traced step_limit m) rows 0 p rows₁)
+  module _ (p : Option ℕ) (rows₁ : List ℕ) (v : Written row_numbers (traced_block m) (traced same step_limit m) rows 0 p rows₁)
       (t : Told) (g : t ≡ told (refusal 11 nowhere)) (y : Result ℕ Told) (h : y ≡ ok_or p t) where
-    rows_written : Written row_numbers (traced_block m) (traced_list m).rows rows 0 p rows₁
+    rows_written : Written row_numbers (traced_block m) (traced_list same m).rows rows 0 p rows₁
     unfolding traced_list
     rows_written = v
 
     -- 11: the rows do not fit
     pub lists-11 : (r : Told) → y ≡ Err r → (z : Result Listed Told) → IsErrAnd z (λ y. y ≡ r) → (rows' diags' : List ℕ) → Leaves z rows' diags'
     lists-11 r i =
-        let o = over row_numbers (traced_block m) (traced_list m).rows rows p rows₁ rows_written t y h r i in
-        refuses (refusal 11 nowhere) (within-11 room (traced_list m) o.1) r (o.0 ∙ g)
+        let o = over row_numbers (traced_block m) (traced_list same m).rows rows p rows₁ rows_written t y h r i in
+        refuses (refusal 11 nowhere) (within-11 room (traced_list same m) o.1) r (o.0 ∙ g)
 
     -- the rows fit: p' is what is told of the diagnostics, and diags₁ what is left of them
-    module _ (k : ℕ) (i : y ≡ Ok k) (p' : Option ℕ) (diags₁ : List ℕ) (w : (n : ℕ) → p ≡ Some n → Written diag_numbers diag_block (traced_diags m) diags 0 p' diags₁)
+    module _ (k : ℕ) (i : y ≡ Ok k) (p' : Option ℕ) (diags₁ : List ℕ) (w : (n : ℕ) → p ≡ Some n → Written diag_numbers diag_block (traced_diags same m) diags 0 p' diags₁)
         (t' : Told) (g' : t' ≡ told (refusal 12 nowhere)) (y' : Result ℕ Told) (h' : y' ≡ ok_or p' t') where
-      rows_fit : (k ≡ length (traced_list m).rows) × (length (traced_list m).rows ≤ room.rows) × (length (traced_row_numbers m (traced_list m)) ≤ length rows) × (rows₁ ≡ sets rows 0 (traced_row_numbers m (traced_list m)))
+      rows_fit : (k ≡ length (traced_list same m).rows) × (length (traced_list same m).rows ≤ room.rows) × (length (traced_row_numbers m (traced_list same m)) ≤ length rows) × (rows₁ ≡ sets rows 0 (traced_row_numbers m (traced_list same m)))
       unfolding traced_row_numbers
-      rows_fit = fit row_numbers (traced_block m) (traced_list m).rows rows p rows₁ rows_written t y h k i
+      rows_fit = fit row_numbers (traced_block m) (traced_list same m).rows rows p rows₁ rows_written t y h k i
 
-      diags-written : Written diag_numbers diag_block (traced_list m).diags diags 0 p' diags₁
+      diags-written : Written diag_numbers diag_block (traced_list same m).diags diags 0 p' diags₁
       unfolding traced_list
       diags-written = w k (some-told p t k (sym h ∙ i))
 
       -- 12: the diagnostics do not fit
       pub lists-12 : (r : Told) → y' ≡ Err r → (z : Result Listed Told) → IsErrAnd z (λ y. y ≡ r) → (rows' diags' : List ℕ) → Leaves z rows' diags'
       lists-12 r j =
-          let o = over diag_numbers diag_block (traced_list m).diags diags p' diags₁ diags-written t' y' h' r j in
-          refuses (refusal 12 nowhere) (within-12 room (traced_list m) rows_fit.1 o.1) r (o.0 ∙ g')
+          let o = over diag_numbers diag_block (traced_list same m).diags diags p' diags₁ diags-written t' y' h' r j in
+          refuses (refusal 12 nowhere) (within-12 room (traced_list same m) rows_fit.1 o.1) r (o.0 ∙ g')
 
       -- both fit
       pub lists-both : (d : ℕ) → y' ≡ Ok d → Leaves (Ok (record { rows = k; diagnostics = d })) rows₁ diags₁
       unfolding traced_diag_numbers
       lists-both d j =
-          let s = fit diag_numbers diag_block (traced_list m).diags diags p' diags₁ diags-written t' y' h' d j in
-          let a : the_answer ≡ given (traced_list m) = within-given room (traced_list m) rows_fit.1 s.1 in
+          let s = fit diag_numbers diag_block (traced_list same m).diags diags p' diags₁ diags-written t' y' h' d j in
+          let a : the_answer ≡ given (traced_list same m) = within-given room (traced_list same m) rows_fit.1 s.1 in
           record {
             answer = ap₂ (λ (n l : ℕ). Ok (record { rows = n; diagnostics = l })) rows_fit.0 s.0 ∙ sym (ap (handed listed) a);
-            in_rows = given-in (traced_row_numbers m) the_answer rows rows₁ (traced_list m) a rows_fit.2 rows_fit.3;
-            in_diagnostics = given-in traced_diag_numbers the_answer diags diags₁ (traced_list m) a s.2 s.3;
+            in_rows = given-in (traced_row_numbers m) the_answer rows rows₁ (traced_list same m) a rows_fit.2 rows_fit.3;
+            in_diagnostics = given-in traced_diag_numbers the_answer diags diags₁ (traced_list same m) a s.2 s.3;
           }
 
 -- ---- any tables: q is what checking and linking answers, and links₁ the link table that it leaves
@@ -139,7 +140,7 @@ module _ (m : Tables) (links rows diags : List ℕ) (q : Result (Unit {0}) Told)
   pub links-refused : (r : Told) → q ≡ Err r → (z : Result Listed Told) → IsErrAnd z (λ y. y ≡ r) → (rows' diags' : List ℕ) → ListsLinked all_of_it m rows diags z links₁ rows' diags'
   unfolding traced_answer traced_on
   links-refused r f z h rows' diags' =
-      let x = refused-on m links q links₁ e (traced_on (room_in (length rows) (length diags)) m) (λ x fs. refl) r f in
+      let x = refused-on m links q links₁ e (traced_on same_bytes (room_in (length rows) (length diags)) m) (λ x fs. refl) r f in
       record {
         lists = record {
           answer = hands-refused listed z all_of_it x.0 x.1 r (passed z r h) x.2;
@@ -150,12 +151,12 @@ module _ (m : Tables) (links rows diags : List ℕ) (q : Result (Unit {0}) Told)
       }
 
   -- they are not
-  pub links-filled : q ≡ Ok tt → {z : Result Listed Told} {rows' diags' : List ℕ} → Lists (answer_of m rows diags) m rows diags z rows' diags'
+  pub links-filled : q ≡ Ok tt → {z : Result Listed Told} {rows' diags' : List ℕ} → Lists (answer_of same_bytes m rows diags) m rows diags z rows' diags'
       → ListsLinked all_of_it m rows diags z links₁ rows' diags'
   unfolding traced_answer traced_on
   links-filled f {z} {rows'} {diags'} w =
       record {
-        lists = subst (λ (a : Answer TracedList). Lists a m rows diags z rows' diags') (sym (ap (traced_on (room_in (length rows) (length diags)) m) (accepted-is m links q links₁ e f))) w;
+        lists = subst (λ (a : Answer TracedList). Lists a m rows diags z rows' diags') (sym (ap (traced_on same_bytes (room_in (length rows) (length diags)) m) (accepted-is m links q links₁ e f))) w;
         linked = λ l k. e.linked f;
       }
 
@@ -168,18 +169,18 @@ module _ (m : Tables) (links rows diags rows₁ diags₁ : List ℕ) (e : rows�
   answer = answer_for m links rows diags
 
   same_answer : answer_for m links rows₁ diags₁ ≡ answer
-  same_answer = ap₂ (λ (r d : ℕ). traced_answer (links_in (length links)) (room_in r d) m) (zeros-length rows₁ (length rows) e) (zeros-length diags₁ (length diags) f)
+  same_answer = ap₂ (λ (r d : ℕ). traced_answer same_bytes (links_in (length links)) (room_in r d) m) (zeros-length rows₁ (length rows) e) (zeros-length diags₁ (length diags) f)
 
   told-answer : z ≡ handed listed answer
   told-answer = h.lists.answer ∙ ap (handed listed) same_answer
 
   -- demand 3 of rows that are handed back
-  limited : (out : List ℕ) → out ≡ output (length rows) (traced_row_numbers m) answer → (l : Listed) → z ≡ Ok l → (rows_back m l.rows out ≡ unlimited m) ↔ NoneHasNext step_limit m
+  limited : (out : List ℕ) → out ≡ output (length rows) (traced_row_numbers m) answer → (l : Listed) → z ≡ Ok l → (rows_back m l.rows out ≡ unlimited same_bytes m) ↔ NoneHasNext same_bytes step_limit m
   limited out u l g =
       let x = handed-ok listed z answer told-answer l g in
-      subst (λ (k : Listed). (rows_back m k.rows out ≡ unlimited m) ↔ NoneHasNext step_limit m) (sym x.2)
-      (subst (λ (o : List ℕ). (rows_back m (length x.0.rows) o ≡ unlimited m) ↔ NoneHasNext step_limit m) (sym (u ∙ ap (output (length rows) (traced_row_numbers m)) x.1))
-      (demand-three-output (links_in (length links)) (room_in (length rows) (length diags)) m x.0 (length rows) x.1))
+      subst (λ (k : Listed). (rows_back m k.rows out ≡ unlimited same_bytes m) ↔ NoneHasNext same_bytes step_limit m) (sym x.2)
+      (subst (λ (o : List ℕ). (rows_back m (length x.0.rows) o ≡ unlimited same_bytes m) ↔ NoneHasNext same_bytes step_limit m) (sym (u ∙ ap (output (length rows) (traced_row_numbers m)) x.1))
+      (demand-three-output same_bytes (links_in (length links)) (room_in (length rows) (length diags)) m x.0 (length rows) x.1))
 
   -- a list is given
   pub given-call : is_err z ≡ false → TracedInto m links rows diags z links₂ rows₂ diags₂

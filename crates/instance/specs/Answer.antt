@@ -1,5 +1,6 @@
 -- What the call answers, and what its outputs hold. Assumes nothing.
 use Rattle.std.specs.Prelude.{◌↔◌, ◌≡◌, List, ℕ, length, Result, Ok}
+use Rattle.as5506.specs.Lists.{same_bytes}
 use Rattle.as5506.specs.Tables.{Tables}
 use Rattle.as5506.specs.Answers.{Answer, handed}
 use Rattle.as5506.specs.declared.Refusal.{Refusal as Told}
@@ -16,7 +17,7 @@ listed l = record { rows = length l.rows; diagnostics = length l.diags }
 
 -- the definition's answer for the tables m and outputs of these lengths
 abbrev pub answer_for : Tables → List ℕ → List ℕ → List ℕ → Answer TracedList
-answer_for m links rows diags = traced_answer (links_in (length links)) (room_in (length rows) (length diags)) m
+answer_for m links rows diags = traced_answer same_bytes (links_in (length links)) (room_in (length rows) (length diags)) m
 
 -- THE CONTRACT: a call on the tables m with the outputs `links`, `rows` and `diags`, for which the definition's answer is `wanted`, answers z and leaves
 -- links', rows' and diags' in them. Then 02 (xiii), of the links handed back: the walk along them gives the children by place. The last field is demand 3:
@@ -27,7 +28,7 @@ pub record TracedAs (wanted : Answer TracedList) (m : Tables) (links rows diags 
   pub written-rows : rows' ≡ output (length rows) (traced_row_numbers m) wanted
   pub written-diagnostics : diags' ≡ output (length diags) traced_diag_numbers wanted
   pub children-by-links : (l : Listed) → z ≡ Ok l → WalkGivesChildren m links'
-  pub step-limit : (l : Listed) → z ≡ Ok l → (rows_back m l.rows rows' ≡ unlimited m) ↔ NoneHasNext step_limit m
+  pub step-limit : (l : Listed) → z ≡ Ok l → (rows_back m l.rows rows' ≡ unlimited same_bytes m) ↔ NoneHasNext same_bytes step_limit m
 
 -- of the call over numbers: the room is what the outputs hold
 abbrev pub TracedInto : Tables → List ℕ → List ℕ → List ℕ → Result Listed Told → List ℕ → List ℕ → List ℕ → Type 0

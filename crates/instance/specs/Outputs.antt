@@ -1,6 +1,7 @@
 -- What the outputs hold before a refusal clears them. Assumes nothing.
 use Rattle.std.specs.Prelude.{◌≡◌, List, ℕ, length, Result, Ok}
 use Rattle.as5506.specs.Tables.{Tables}
+use Rattle.as5506.specs.Names.{Comparison}
 use Rattle.as5506.specs.Answers.{Answer, handed}
 use Rattle.as5506.specs.declared.Refusal.{Refusal as Told}
 use Rattle.as5506.specs.declared.Listed.{Listed}
@@ -11,8 +12,8 @@ use Rattle.child_links.specs.Linked.{Linked}
 use Rattle.instance.specs.Answer.{listed}
 
 -- the definition's answer for accepted tables
-abbrev pub answer_of : Tables → List ℕ → List ℕ → Answer TracedList
-answer_of m rows diags = traced_within (room_in (length rows) (length diags)) (traced_list m)
+abbrev pub answer_of : Comparison → Tables → List ℕ → List ℕ → Answer TracedList
+answer_of same m rows diags = traced_within (room_in (length rows) (length diags)) (traced_list same m)
 
 -- a call for which the definition's answer is `wanted`, before a refusal clears the outputs: it answers z and leaves rows' and diags' in them
 pub record Lists (wanted : Answer TracedList) (m : Tables) (rows diags : List ℕ) (z : Result Listed Told) (rows' diags' : List ℕ) : Type 0 where

@@ -2,16 +2,18 @@
 #![tactic(auto)]
 
 ghost use Rattle.std.specs.Prelude.{◌≤◌, length};
+ghost use Rattle.as5506.specs.Lists.{same_bytes};
 ghost use Rattle.as5506.specs.Tables.{c_count};
 ghost use Rattle.lent.specs.Model.{model};
 ghost use Rattle.child_links.specs.Linked.{Linked};
-ghost use Rattle.child_links.specs.Trees.{of_tree};
+ghost use Rattle.child_links.specs.Trees.{of_tree, same_in};
 ghost use Rattle.instance.specs.Answer.{answer_for, TracedInto};
 ghost use Rattle.instance.specs.Outputs.{answer_of, Lists, ListsLinked};
 
 use as5506::{C_NUMBERS, Listed, ROWS_LENT, Reason, Refusal, TABLE_ROWS};
 use child_links::Tree;
 use lent::Tables;
+use name::Reading;
 
 // Lists the connections of accepted tables that are linked: the rows, and then the diagnostics. On a refusal the outputs may hold anything.
 pub fn list_accepted<'a>(
@@ -19,7 +21,7 @@ pub fn list_accepted<'a>(
     rows: &mut [u32],
     diagnostics: &mut [u32],
 ) -> Result<Listed, Refusal>
-    ensures { Lists (answer_of (of_tree tree.now) rows.old diagnostics.old) (of_tree tree.now) rows.old diagnostics.old result rows.new diagnostics.new }
+    ensures { Lists (answer_of (same_in tree.now) (of_tree tree.now) rows.old diagnostics.old) (of_tree tree.now) rows.old diagnostics.old result rows.new diagnostics.new }
 {
     let counts = semantic::list_connections(tree, rows, diagnostics);
     let rows = counts.rows.ok_or(Refusal::from(Reason::Rows))?;
@@ -29,7 +31,8 @@ pub fn list_accepted<'a>(
     Ok(Listed { rows, diagnostics })
 }
 
-// The same of tables and their link table, with room for the keys of their components.
+// The same of tables and their link table, by the ported entry, with room for the keys of their components.
+#[tactic(auto, unfolding(name::specs::Reading::comparison))]
 fn list_linked(
     m: &Tables,
     links: &[u32],
@@ -39,13 +42,14 @@ fn list_linked(
 ) -> Result<Listed, Refusal>
     requires linked { Linked (model m.now) links.now }
     requires room { c_count (model m.now) ≤ length keys.old }
-    ensures { Lists (answer_of (model m.now) rows.old diagnostics.old) (model m.now) rows.old diagnostics.old result rows.new diagnostics.new }
+    ensures { Lists (answer_of same_bytes (model m.now) rows.old diagnostics.old) (model m.now) rows.old diagnostics.old result rows.new diagnostics.new }
 {
     child_links::key_names(m, keys);
     let tree = Tree {
         m: &*m,
         links: &*links,
         keys: &*keys,
+        reading: Reading::Ported,
     };
     list_accepted(&tree, rows, diagnostics)
 }

@@ -5,6 +5,7 @@ ghost use Rattle.std.specs.Prelude.{length};
 ghost use Rattle.as5506.specs.Text.{text_within};
 ghost use Rattle.as5506.specs.Program.{text_or_refusal, conlist_text};
 ghost use Rattle.lent.specs.Model.{model};
+ghost use Rattle.name.specs.Reading.{comparison};
 ghost use Rattle.text.specs.Listed.{listings_text};
 ghost use Rattle.shown.specs.Shown.{Shown};
 
@@ -13,6 +14,7 @@ use as5506::{
     ROWS_LENT,
 };
 use lent::Tables;
+use name::Reading;
 use text::Listings;
 
 // Prints the list of what both listings gave, or refusal 15 where it has no room: how many bytes of text there are. Not by `shown::print`: what a closure
@@ -25,10 +27,11 @@ fn print_listings(m: &Tables, list: &Listings, text: &mut [u8]) -> usize
     shown::finish(used, text)
 }
 
-// Lists what the tables hold and prints the list, or the refusal's line: how many bytes of text there are. Behind them the output is zero.
+// Lists what the tables hold, by a reading of names, and prints the list, or the refusal's line: how many bytes of text there are. Behind them the output is
+// zero.
 #[tactic(auto, unfolding(as5506::specs::Program::conlist_text), using(crate::proofs::Listed::listing))]
-pub fn list_tables(m: &Tables, text: &mut [u8]) -> usize
-    ensures { Shown (conlist_text (length text.old) (model m.now)) text.old result text.new }
+pub fn list_tables(m: &Tables, reading: Reading, text: &mut [u8]) -> usize
+    ensures { Shown (conlist_text (comparison reading) (length text.old) (model m.now)) text.old result text.new }
 {
     let mut links = [0u32; ROWS_LENT * LINK_NUMBERS];
     let mut rows = [0u32; LISTED_LENT * ROW_NUMBERS];
@@ -38,6 +41,7 @@ pub fn list_tables(m: &Tables, text: &mut [u8]) -> usize
     let mut group_diagnostics = [0u32; DIAGNOSTICS_LENT * DIAGNOSTIC_NUMBERS];
     match listing::list_connections(
         m,
+        reading,
         &mut links,
         &mut rows,
         &mut diagnostics,

@@ -10,6 +10,7 @@ use lib.Dec.{T, ltb, nltb→le}
 use lib.ListN.{length, length-replicate}
 use Rattle.as5506.specs.Lists.{is_nil, zeros}
 use Rattle.as5506.specs.Tables.{Tables}
+use Rattle.as5506.specs.Names.{Comparison}
 use Rattle.as5506.specs.Answers.{Refusal, refusal, nowhere, Answer, given, refused, fault, unless_faults}
 use Rattle.as5506.specs.Groups.{Feature}
 use Rattle.as5506.specs.GroupList.{GroupConnection, group_connections, overrun, Match, matches, match_row, rows_matched}
@@ -58,25 +59,25 @@ pub record BothFit (traced_room group_room : Room) (b : BothLists) : Type 0 wher
 
 -- ---- the traced listing
 
-list-short : (m : Tables) → All ShortPath (traced_list m).rows
+list-short : (same : Comparison) (m : Tables) → All ShortPath (traced_list same m).rows
 unfolding traced_list
-list-short m = traced-short m step_limit
+list-short same m = traced-short same m step_limit
 
-traced-fits : (room : Room) (m : Tables) (fs : List Refusal) → Holds (TracedFits room) (traced_on room m fs)
+traced-fits : (same : Comparison) (room : Room) (m : Tables) (fs : List Refusal) → Holds (TracedFits room) (traced_on same room m fs)
 unfolding traced_on traced_within
-traced-fits room m [] =
-    let l = traced_list m in
+traced-fits same room m [] =
+    let l = traced_list same m in
     unless_holds (TracedFits room) (rows_over room l.rows ++ diags_over room l.diags) l
     (λ t. record {
       rows = roomy 11 room.rows (length l.rows) (nil-left (rows_over room l.rows) (diags_over room l.diags) t);
       diags = roomy 12 room.diags (length l.diags) (nil-right (rows_over room l.rows) (diags_over room l.diags) t);
-      short = list-short m;
+      short = list-short same m;
     })
-traced-fits room m (r ∷ fs) = tt
+traced-fits same room m (r ∷ fs) = tt
 
-pub traced_fit : (links : ℕ) (room : Room) (m : Tables) → Holds (TracedFits room) (traced_answer links room m)
+pub traced_fit : (same : Comparison) (links : ℕ) (room : Room) (m : Tables) → Holds (TracedFits room) (traced_answer same links room m)
 unfolding traced_answer
-traced_fit links room m = traced-fits room m (faults_linked links m)
+traced_fit same links room m = traced-fits same room m (faults_linked links m)
 
 -- ---- the group listing: a row's path is its connection
 
@@ -108,14 +109,14 @@ group-fits : (room : Room) (names : ℕ) (m : Tables) (bs : List GroupConnection
 unfolding group_of
 group-fits room names m bs = within-fits room names (overrun bs) (group_list_of m (matches m bs)) (rows_short m (matches m bs))
 
-group-on-fits : (room : Room) (names : ℕ) (m : Tables) (fs : List Refusal) → Holds (GroupFits room) (group_on room names m fs)
+group-on-fits : (same : Comparison) (room : Room) (names : ℕ) (m : Tables) (fs : List Refusal) → Holds (GroupFits room) (group_on same room names m fs)
 unfolding group_on
-group-on-fits room names m [] = group-fits room names m (group_connections m)
-group-on-fits room names m (r ∷ fs) = tt
+group-on-fits same room names m [] = group-fits room names m (group_connections same m)
+group-on-fits same room names m (r ∷ fs) = tt
 
-pub group-fit : (links : ℕ) (room : Room) (names : ℕ) (m : Tables) → Holds (GroupFits room) (group_answer links room names m)
+pub group-fit : (same : Comparison) (links : ℕ) (room : Room) (names : ℕ) (m : Tables) → Holds (GroupFits room) (group_answer same links room names m)
 unfolding group_answer
-group-fit links room names m = group-on-fits room names m (faults_linked links m)
+group-fit same links room names m = group-on-fits same room names m (faults_linked links m)
 
 -- ---- both
 
@@ -124,14 +125,14 @@ unfolding with_group
 with-fits room room' l (refused r) h k = tt
 with-fits room room' l (given g) h k = record { traced = h; group = k }
 
-after-fits : (room room' : Room) (names : ℕ) (m : Tables) (a : Answer TracedList) → Holds (TracedFits room) a → Holds (BothFit room room') (after_traced room' names m a)
+after-fits : (same : Comparison) (room room' : Room) (names : ℕ) (m : Tables) (a : Answer TracedList) → Holds (TracedFits room) a → Holds (BothFit room room') (after_traced same room' names m a)
 unfolding after_traced
-after-fits room room' names m (refused r) h = tt
-after-fits room room' names m (given l) h = with-fits room room' l (group_of room' names m (group_connections m)) h (group-fits room' names m (group_connections m))
+after-fits same room room' names m (refused r) h = tt
+after-fits same room room' names m (given l) h = with-fits room room' l (group_of room' names m (group_connections same m)) h (group-fits room' names m (group_connections same m))
 
-pub both-fit : (links : ℕ) (room room' : Room) (names : ℕ) (m : Tables) → Holds (BothFit room room') (both_answer links room room' names m)
+pub both-fit : (same : Comparison) (links : ℕ) (room room' : Room) (names : ℕ) (m : Tables) → Holds (BothFit room room') (both_answer same links room room' names m)
 unfolding both_answer
-both-fit links room room' names m = after-fits room room' names m (traced_answer links room m) (traced_fit links room m)
+both-fit same links room room' names m = after-fits same room room' names m (traced_answer same links room m) (traced_fit same links room m)
 
 -- ---- what a call leaves
 
@@ -141,8 +142,8 @@ traced_room o = room_in (length o.rows) (length o.diags)
 abbrev pub group_room : Outputs → Room
 group_room o = room_in (length o.group-rows) (length o.group-diags)
 
-pub fit : (m : Tables) (o : Outputs) → Holds (BothFit (traced_room o) (group_room o)) (answer_for m o)
-fit m o = both-fit (links_in (length o.links)) (traced_room o) (group_room o) (length o.names) m
+pub fit : (same : Comparison) (m : Tables) (o : Outputs) → Holds (BothFit (traced_room o) (group_room o)) (answer_for same m o)
+fit same m o = both-fit same (links_in (length o.links)) (traced_room o) (group_room o) (length o.names) m
 
 -- ---- the outputs that a program lends
 
@@ -158,9 +159,9 @@ diags_lent = room_lent.diags * diag_numbers
 abbrev pub no_outputs : Outputs
 no_outputs = outputs (zeros links_lent) (zeros listed_lent) (zeros diags_lent) (zeros listed_lent) (zeros names_lent) (zeros diags_lent)
 
-pub answer-lent : (m : Tables) → answer_for m no_outputs ≡ both_answer (rows_lent false) room_lent room_lent names_lent m
-answer-lent m =
+pub answer-lent : (same : Comparison) (m : Tables) → answer_for same m no_outputs ≡ both_answer same (rows_lent false) room_lent room_lent names_lent m
+answer-lent same m =
     let links = length-replicate {A = ℕ} links_lent 0 in
     let rows = length-replicate {A = ℕ} listed_lent 0 in
     let diags = length-replicate {A = ℕ} diags_lent 0 in
-    λ i. both_answer (links_in (links i)) (room_in (rows i) (diags i)) (room_in (rows i) (diags i)) (length-replicate {A = ℕ} names_lent 0 i) m
+    λ i. both_answer same (links_in (links i)) (room_in (rows i) (diags i)) (room_in (rows i) (diags i)) (length-replicate {A = ℕ} names_lent 0 i) m

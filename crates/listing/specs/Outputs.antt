@@ -1,6 +1,7 @@
 -- What the outputs hold before a refusal clears them. Assumes nothing.
 use Rattle.std.specs.Prelude.{◌≡◌, length, Result, Ok}
 use Rattle.as5506.specs.Tables.{Tables}
+use Rattle.as5506.specs.Names.{Comparison}
 use Rattle.as5506.specs.Answers.{Answer, handed}
 use Rattle.as5506.specs.declared.Refusal.{Refusal as Told}
 use Rattle.as5506.specs.Listing.{BothLists, traced_list, traced_within, after_traced}
@@ -11,9 +12,9 @@ use Rattle.listing.specs.declared.Both.{Both}
 use Rattle.listing.specs.Answer.{listed, Outputs}
 
 -- the definition's answer for accepted tables
-abbrev pub answer_of : Tables → Outputs → Answer BothLists
-answer_of m o =
-    after_traced (room_in (length o.group-rows) (length o.group-diags)) (length o.names) m (traced_within (room_in (length o.rows) (length o.diags)) (traced_list m))
+abbrev pub answer_of : Comparison → Tables → Outputs → Answer BothLists
+answer_of same m o =
+    after_traced same (room_in (length o.group-rows) (length o.group-diags)) (length o.names) m (traced_within (room_in (length o.rows) (length o.diags)) (traced_list same m))
 
 -- a call with the outputs o, for which the definition's answer is `wanted`, before a refusal clears them: it answers z and leaves p in them
 pub record Lists (wanted : Answer BothLists) (m : Tables) (o : Outputs) (z : Result Both Told) (p : Outputs) : Type 0 where

@@ -1,5 +1,5 @@
 // Names: name.rs, and `base_name_of` and `parse_connection_pattern` of instance.rs. A name is bytes, and only A to Z fold. Every function takes any bytes and numbers.
-// Definitions: specs/Names.antt, Lists.antt and Tables.antt of as5506, and specs/Pattern.antt.
+// Definitions: specs/Names.antt, Lists.antt and Tables.antt of as5506, and specs/Pattern.antt and Reading.antt.
 #![tactic(auto)]
 
 ghost use Rattle.std.specs.Prelude.{◌≡◌, ◌&&◌, ◌-◌, length, get_or};
@@ -9,6 +9,7 @@ ghost use Rattle.as5506.specs.Tables.{name_in, name_of, present};
 ghost use Rattle.as5506.specs.Names.{name_byte, good_name, fold_byte, same_folded, bracket, base_name, pattern_byte, is_one_to_one};
 ghost use Rattle.lent.specs.Model.{model};
 ghost use Rattle.name.specs.Pattern.{says_one_to_one};
+ghost use Rattle.name.specs.Reading.{comparison};
 
 use lent::Tables;
 
@@ -19,6 +20,15 @@ pub enum ConnectionPattern {
     OneToOne,
     // Every element to every element.
     AllToAll,
+}
+
+// Whether names that differ in the case of letters alone are one name, to tracing and to the first child rule, 02 (vi).
+#[derive(Clone, Copy)]
+pub enum Reading {
+    // They are two, as the original takes them: the ported entry.
+    Ported,
+    // They are one, as AS5506 takes them: the second entry.
+    CaseIgnored,
 }
 
 // The byte, a capital letter as a small one.
@@ -167,6 +177,17 @@ pub fn same_folded_names(m: &Tables, j: u32, k: u32) -> bool
         return true;
     }
     same_folded(name_of(m, j), name_of(m, k))
+}
+
+// Whether names j and k are one by the reading.
+#[tactic(auto, unfolding(crate::specs::Reading::comparison))]
+pub fn same_by(m: &Tables, reading: Reading, j: u32, k: u32) -> bool
+    ensures { result ≡ comparison reading (name_of (model m.now) j) (name_of (model m.now) k) }
+{
+    match reading {
+        Reading::Ported => same_names(m, j, k),
+        Reading::CaseIgnored => same_folded_names(m, j, k),
+    }
 }
 
 // The pattern that name k is the text of. Missing is all to all.

@@ -12,9 +12,11 @@ use Rattle.as5506.specs.Lists.{padded}
 use Rattle.as5506.specs.Tables.{Tables}
 use Rattle.as5506.specs.Answers.{refusal, nowhere, Answer, refused}
 use Rattle.as5506.specs.Sheet.{Lent, sheet_faults, read_sheet}
-use Rattle.as5506.specs.Program.{lent, text_lent, of_reading, what_fits, conlist_within, conlist, modes, mode}
+use Rattle.as5506.specs.Program.{lent, text_lent, of_reading, what_fits, conlist_within, conlist, conlist_ignoring_case, modes, mode}
 use Rattle.shown.specs.Shown.{Shown}
 use Rattle.shown.proofs.Fits.{shown-within}
+use Rattle.name.specs.declared.Reading.TheVariants.{Ported, CaseIgnored}
+use Rattle.name.specs.Reading.{comparison}
 use Rattle.on_sheet.specs.declared.Task.{Task}
 use Rattle.on_sheet.specs.declared.Task.TheVariants.{Conlist, Modes, Mode}
 use Rattle.on_sheet.specs.Tasks.{task_text, on_sheet, program, Writes}
@@ -42,9 +44,13 @@ enough task n s = ap (λ (a : Answer Tables). what_fits n (of_reading (task_text
 
 -- ---- each program is that of its task, with 8,192 bytes of text
 
-conlist-is : (s : List ℕ) → program Conlist text_lent s ≡ conlist s
-unfolding program on_sheet conlist_within conlist
+conlist-is : (s : List ℕ) → program (Conlist Ported) text_lent s ≡ conlist s
+unfolding program on_sheet conlist_within conlist comparison
 conlist-is s = refl
+
+ignoring-is : (s : List ℕ) → program (Conlist CaseIgnored) text_lent s ≡ conlist_ignoring_case s
+unfolding program on_sheet conlist_ignoring_case comparison
+ignoring-is s = refl
 
 modes-is : (s : List ℕ) → program Modes text_lent s ≡ modes s
 unfolding program on_sheet modes
@@ -82,8 +88,12 @@ writes_as f g e read got z text' w =
 -- WHAT EACH PROGRAM WRITES, from what its task leaves in the output
 module _ (read : List ℕ) (got : ℕ) (sheet text : List ℕ) (z : ℕ) (text' : List ℕ)
     (r : length read ≡ 16385) (w : sheet ≡ take got read) (e : length text ≡ text_lent) (k : length text' ≡ length text) where
-  pub conlist_writes : Shown (on_sheet Conlist (length text) sheet) text z text' → Writes conlist read got z text'
-  conlist_writes h = writes_as (program Conlist text_lent) conlist conlist-is read got z text' (writes Conlist text_lent read got sheet text z text' r w e k h)
+  pub conlist_writes : Shown (on_sheet (Conlist Ported) (length text) sheet) text z text' → Writes conlist read got z text'
+  conlist_writes h = writes_as (program (Conlist Ported) text_lent) conlist conlist-is read got z text' (writes (Conlist Ported) text_lent read got sheet text z text' r w e k h)
+
+  pub ignoring_writes : Shown (on_sheet (Conlist CaseIgnored) (length text) sheet) text z text' → Writes conlist_ignoring_case read got z text'
+  ignoring_writes h =
+      writes_as (program (Conlist CaseIgnored) text_lent) conlist_ignoring_case ignoring-is read got z text' (writes (Conlist CaseIgnored) text_lent read got sheet text z text' r w e k h)
 
   pub modes_writes : Shown (on_sheet Modes (length text) sheet) text z text' → Writes modes read got z text'
   modes_writes h = writes_as (program Modes text_lent) modes modes-is read got z text' (writes Modes text_lent read got sheet text z text' r w e k h)

@@ -4,12 +4,13 @@ use Rattle.as5506.specs.Lists.{padded}
 use Rattle.as5506.specs.Tables.{Tables}
 use Rattle.as5506.specs.Sheet.{read_sheet}
 use Rattle.as5506.specs.Program.{lent, conlist_text, modes_text, mode_text, of_reading, what_fits}
+use Rattle.name.specs.Reading.{comparison}
 use Rattle.on_sheet.specs.declared.Task.{Task}
 use Rattle.on_sheet.specs.declared.Task.TheVariants.{Conlist, Modes, Mode}
 
 -- WHAT A TASK GIVES for the tables m, accepted or not, and an output of n bytes: its text, or a refusal's line
 abbrev pub task_text : Task → ℕ → Tables → List ℕ
-task_text Conlist n m = conlist_text n m
+task_text (Conlist reading) n m = conlist_text (comparison reading) n m
 task_text Modes n m = modes_text n m
 task_text (Mode k) n m = mode_text k n m
 

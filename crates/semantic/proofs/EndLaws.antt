@@ -8,10 +8,11 @@ use lib.ListN.{length}
 use Rattle.as5506.specs.Lists.{each}
 use Rattle.as5506.specs.Tables.{Tables, present, source, destination, c_parent, x_owner, x_sub, name_of}
 use Rattle.as5506.specs.Tables.{Side as TheSide}
+use Rattle.as5506.specs.Names.{Comparison}
 use Rattle.as5506.specs.Tracing.{pair_rows, rows_at, diags_at, diags_by, pairs, pairs_by, shape, step_limit, named, one_to_one, all_as, pair_across, pair_up, pair_down, faulty, across, neither}
 use Rattle.as5506.proofs.Laws.{all-of, each_same, each-each, each_map}
 use Rattle.as5506.proofs.Links.{length-found}
-use Rattle.child_links.specs.Trees.{of_tree}
+use Rattle.child_links.specs.Trees.{of_tree, same_in}
 use Rattle.name.specs.declared.ConnectionPattern.{ConnectionPattern}
 use Rattle.name.specs.declared.ConnectionPattern.TheVariants.{OneToOne, AllToAll}
 use Rattle.name.specs.Pattern.{says_one_to_one}
@@ -28,31 +29,31 @@ use Rattle.semantic.specs.Ends.{Names, EndsOf}
 
 -- ---- by the definition's lists of children
 
-module _ (m : Tables) (x : ℕ) where
-  all-pairs : (l r : List ℕ) → each (pair_rows m step_limit x) (all_as (pair_across m x) l r) ≡ rows_all m x l r
+module _ (same : Comparison) (m : Tables) (x : ℕ) where
+  all-pairs : (l r : List ℕ) → each (pair_rows same m step_limit x) (all_as (pair_across m x) l r) ≡ rows_all same m x l r
   unfolding pair_on
   all-pairs l r =
-      each-each (pair_rows m step_limit x) (λ a. map (pair_across m x a) r) l
-      ∙ each_same (λ a. each (pair_rows m step_limit x) (map (pair_across m x a) r)) (λ a. each (λ b. pair_rows m step_limit x (pair_across m x a b)) r) l
-      (all-of _ (λ a. each_map (pair_rows m step_limit x) (pair_across m x a) r) l)
+      each-each (pair_rows same m step_limit x) (λ a. map (pair_across m x a) r) l
+      ∙ each_same (λ a. each (pair_rows same m step_limit x) (map (pair_across m x a) r)) (λ a. each (λ b. pair_rows same m step_limit x (pair_across m x a b)) r) l
+      (all-of _ (λ a. each_map (pair_rows same m step_limit x) (pair_across m x a) r) l)
 
   across-rows : (p : ConnectionPattern) → says_one_to_one p ≡ one_to_one m (x_owner m x)
-      → each (pair_rows m step_limit x) (pairs_by m x across) ≡ rows_across m x p (named m source x) (named m destination x)
+      → each (pair_rows same m step_limit x) (pairs_by same m x across) ≡ rows_across same m x p (named same m source x) (named same m destination x)
   unfolding pairs_by
   across-rows OneToOne e = rw (← e) refl
-  across-rows AllToAll e = rw (← e) (all-pairs (named m source x) (named m destination x))
+  across-rows AllToAll e = rw (← e) (all-pairs (named same m source x) (named same m destination x))
 
-  across-diags : (p : ConnectionPattern) → says_one_to_one p ≡ one_to_one m (x_owner m x) → diags_by m x across ≡ diags_across m x p (named m source x) (named m destination x)
+  across-diags : (p : ConnectionPattern) → says_one_to_one p ≡ one_to_one m (x_owner m x) → diags_by same m x across ≡ diags_across m x p (named same m source x) (named same m destination x)
   unfolding diags_by
   across-diags p e = rw e refl
 
   edge-rows : (s : TheSide) → present (c_parent m (x_owner m x)) ≡ false
-      → each (pair_rows m step_limit x) (pairs_by m x (edge_of s)) ≡ rows_beside m x s (Owner (x_owner m x)) (named m s x)
+      → each (pair_rows same m step_limit x) (pairs_by same m x (edge_of s)) ≡ rows_beside same m x s (Owner (x_owner m x)) (named same m s x)
   unfolding pairs_by pair_on
-  edge-rows source e = rw e (each_map (pair_rows m step_limit x) (pair_up m x) (named m source x))
-  edge-rows destination e = rw e (each_map (pair_rows m step_limit x) (pair_down m x) (named m destination x))
+  edge-rows source e = rw e (each_map (pair_rows same m step_limit x) (pair_up m x) (named same m source x))
+  edge-rows destination e = rw e (each_map (pair_rows same m step_limit x) (pair_down m x) (named same m destination x))
 
-  edge-diags : (s : TheSide) → present (c_parent m (x_owner m x)) ≡ false → diags_by m x (edge_of s) ≡ none_on m x s (named m s x)
+  edge-diags : (s : TheSide) → present (c_parent m (x_owner m x)) ≡ false → diags_by same m x (edge_of s) ≡ none_on m x s (named same m s x)
   unfolding diags_by
   edge-diags source e = rw e
   edge-diags destination e = rw e
@@ -63,9 +64,12 @@ module _ (x : Connection) where
   abbrev m : Tables
   m = of_tree x.tree.now
 
+  abbrev same : Comparison
+  same = same_in x.tree.now
+
   along : (s : TheSide) (c : Children) → Names x s c → Along m c
   unfolding named
-  along s c n = record { tables = n.tables; few = omega (arith, ap length n.left, length-found m (x_owner m x.row) (name_of m (x_sub m s x.row))) }
+  along s c n = record { tables = n.tables; few = omega (arith, ap length n.left, length-found m same (x_owner m x.row) (name_of m (x_sub m s x.row))) }
 
   pub ends_faulty : shape m x.row ≡ faulty → EndsOf x Faulty
   unfolding rows_at pairs pairs_by diags_at diags_by
@@ -80,8 +84,8 @@ module _ (x : Connection) where
   unfolding rows_at pairs diags_at
   ends_across e p h s d n k =
       record {
-        rows = rw (e, n.left, k.left) (across-rows m x.row p h);
-        diagnostics = rw (e, n.left, k.left) (across-diags m x.row p h);
+        rows = rw (e, n.left, k.left) (across-rows same m x.row p h);
+        diagnostics = rw (e, n.left, k.left) (across-diags same m x.row p h);
         along = record { sources = along source s n; destinations = along destination d k };
       }
 
@@ -90,8 +94,8 @@ module _ (x : Connection) where
   unfolding rows_at pairs diags_at
   ends_edge s e h c n =
       record {
-        rows = rw (e, n.left) (edge-rows m x.row (side_of s) h);
-        diagnostics = rw (e, n.left) (edge-diags m x.row (side_of s) h);
+        rows = rw (e, n.left) (edge-rows same m x.row (side_of s) h);
+        diagnostics = rw (e, n.left) (edge-diags same m x.row (side_of s) h);
         along = along (side_of s) c n;
       }
 

@@ -3,6 +3,7 @@ use Rattle.std.specs.Prelude.{◌≡◌, ◌≤◌, List, [], ℕ, ◌<◌, leng
 use Rattle.as5506.specs.Lists.{each}
 use Rattle.as5506.specs.Tables.{Tables, source, destination, c_count, x_feat, x_owner}
 use Rattle.as5506.specs.Tables.{Side as TheSide}
+use Rattle.as5506.specs.Names.{Comparison}
 use Rattle.as5506.specs.Tracing.{Start as TheStart, child, owner, Pair, Traced, pair_rows, pair_across, zip_as, step_limit, upward, downward}
 use Rattle.as5506.specs.Tracing.{Shape as TheShape}
 use Rattle.name.specs.declared.ConnectionPattern.{ConnectionPattern}
@@ -61,25 +62,25 @@ pair_on m x source a b = record { from = start_on m source x a; to = start_on m 
 pair_on m x destination a b = record { from = start_on m source x b; to = start_on m destination x a }
 
 -- the rows of the children l on side s, each with the end b on the other
-abbrev pub rows_beside : Tables → ℕ → TheSide → Start → List ℕ → List Traced
-rows_beside m x s b l = each (λ i. pair_rows m step_limit x (pair_on m x s (Child i) b)) l
+abbrev pub rows_beside : Comparison → Tables → ℕ → TheSide → Start → List ℕ → List Traced
+rows_beside same m x s b l = each (λ i. pair_rows same m step_limit x (pair_on m x s (Child i) b)) l
 
 -- the rows of the source children l, each with all destination children r
-abbrev pub rows_all : Tables → ℕ → List ℕ → List ℕ → List Traced
-rows_all m x l r = each (λ a. rows_beside m x destination (Child a) r) l
+abbrev pub rows_all : Comparison → Tables → ℕ → List ℕ → List ℕ → List Traced
+rows_all same m x l r = each (λ a. rows_beside same m x destination (Child a) r) l
 
 -- the rows of two lists of children, pair by pair
-abbrev pub rows_zip : Tables → ℕ → List ℕ → List ℕ → List Traced
-rows_zip m x l r = each (pair_rows m step_limit x) (zip_as (pair_across m x) l r)
+abbrev pub rows_zip : Comparison → Tables → ℕ → List ℕ → List ℕ → List Traced
+rows_zip same m x l r = each (pair_rows same m step_limit x) (zip_as (pair_across m x) l r)
 
 -- the rows of two lists of children by a pattern
-abbrev pub rows_across : Tables → ℕ → ConnectionPattern → List ℕ → List ℕ → List Traced
-rows_across m x OneToOne l r = rows_zip m x l r
-rows_across m x AllToAll l r = rows_all m x l r
+abbrev pub rows_across : Comparison → Tables → ℕ → ConnectionPattern → List ℕ → List ℕ → List Traced
+rows_across same m x OneToOne l r = rows_zip same m x l r
+rows_across same m x AllToAll l r = rows_all same m x l r
 
 -- the rows of X row x by its ends
-abbrev pub rows_from : Tables → ℕ → Ends → List Traced
-rows_from m x Faulty = []
-rows_from m x (Across p s d) = rows_across m x p (children_left s) (children_left d)
-rows_from m x (Edge s c) = rows_beside m x (side_of s) (Owner (x_owner m x)) (children_left c)
-rows_from m x Nothing = []
+abbrev pub rows_from : Comparison → Tables → ℕ → Ends → List Traced
+rows_from same m x Faulty = []
+rows_from same m x (Across p s d) = rows_across same m x p (children_left s) (children_left d)
+rows_from same m x (Edge s c) = rows_beside same m x (side_of s) (Owner (x_owner m x)) (children_left c)
+rows_from same m x Nothing = []

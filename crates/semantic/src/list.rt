@@ -2,7 +2,7 @@
 ghost use Rattle.std.specs.Prelude.{◌≡◌, ℕ, Some};
 ghost use Rattle.as5506.specs.Tracing.{traced, traced_diags, step_limit};
 ghost use Rattle.as5506.specs.Layout.{traced_block, row_numbers, diag_block, diag_numbers};
-ghost use Rattle.child_links.specs.Trees.{of_tree};
+ghost use Rattle.child_links.specs.Trees.{of_tree, same_in};
 ghost use Rattle.output.specs.Blocks.{Written};
 ghost use Rattle.semantic.specs.Told.{ListedAll};
 
@@ -25,7 +25,7 @@ fn list_all<'a>(
     rows: &mut Blocks<ROW_NUMBERS>,
     diagnostics: &mut Blocks<DIAGNOSTIC_NUMBERS>,
 ) -> Option<Option<()>>
-    ensures { ListedAll (of_tree tree.now) rows.old diagnostics.old result rows.new diagnostics.new }
+    ensures { ListedAll (same_in tree.now) (of_tree tree.now) rows.old diagnostics.old result rows.new diagnostics.new }
 {
     let mut noted = Some(());
     for row in 0..tree.m.x.len() / X_NUMBERS {
@@ -41,9 +41,9 @@ fn list_all<'a>(
 
 // Writes the rows and the diagnostics of all X rows, each from the front of its output on.
 pub fn list_connections<'a>(tree: &'a Tree<'a>, rows: &mut [u32], diagnostics: &mut [u32]) -> Counts
-    ensures rows { Written row_numbers (traced_block (of_tree tree.now)) (traced step_limit (of_tree tree.now)) rows.old 0 result.rows rows.new }
+    ensures rows { Written row_numbers (traced_block (of_tree tree.now)) (traced (same_in tree.now) step_limit (of_tree tree.now)) rows.old 0 result.rows rows.new }
     ensures diagnostics { (k : ℕ) → result.rows ≡ Some k
-        → Written diag_numbers diag_block (traced_diags (of_tree tree.now)) diagnostics.old 0 result.diagnostics diagnostics.new }
+        → Written diag_numbers diag_block (traced_diags (same_in tree.now) (of_tree tree.now)) diagnostics.old 0 result.diagnostics diagnostics.new }
 {
     let mut listed = Blocks::new(rows);
     let mut noted = Blocks::new(diagnostics);

@@ -12,6 +12,7 @@ use Rattle.as5506.specs.Lists.{up_to, each}
 use Rattle.as5506.specs.Tables.{name_of, rows_naming, x_count, x_owner, x_feat}
 use Rattle.as5506.specs.Tracing.{Step as TheStep, leads, steps_over, steps, stop, grow, chains_by, chains}
 use Rattle.as5506.proofs.Scans.{keep-hit, keep-miss, keep-done, keep-both}
+use Rattle.child_links.specs.Trees.{same_in}
 use Rattle.children.specs.declared.Children.{Children}
 use Rattle.children.specs.Found.{children_left}
 use Rattle.trace.specs.declared.step.Step.{Step}
@@ -20,7 +21,7 @@ use Rattle.trace.specs.Steps.{tables_in, side_in, is_step, found_over, steps_fro
 
 module _ (q : Steps) where
   abbrev over : List ℕ → List TheStep
-  over l = each (steps_over (tables_in q) (side_in q) q.component) l
+  over l = each (steps_over (same_in q.tree.now) (tables_in q) (side_in q) q.component) l
 
   -- ---- the steps from a row on
 
@@ -55,11 +56,11 @@ module _ (q : Steps) where
 
   -- ---- THE STEPS FROM THE FIRST ROW ON ARE THE DEFINITION'S
 
-  steps-from-start : steps_from q 0 ≡ steps (tables_in q) (side_in q) q.component q.feature
+  steps-from-start : steps_from q 0 ≡ steps (same_in q.tree.now) (tables_in q) (side_in q) q.component q.feature
   unfolding steps_from is_step steps rows_naming
   steps-from-start =
       rw (sub-zero (x_count (tables_in q)))
-      (ap over (sym (keep-both (leads (tables_in q) (side_in q) (name_of (tables_in q) q.feature)) (λ i. eqb (x_owner (tables_in q) i) q.component) (up_to (x_count (tables_in q))))))
+      (ap over (sym (keep-both (leads (same_in q.tree.now) (tables_in q) (side_in q) (name_of (tables_in q) q.feature)) (λ i. eqb (x_owner (tables_in q) i) q.component) (up_to (x_count (tables_in q))))))
 
   -- ---- how chains begin
 

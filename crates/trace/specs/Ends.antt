@@ -3,6 +3,7 @@ use Rattle.std.specs.Prelude.{List, [], ◌∷◌, ◌++◌, map, ℕ, ◌+◌, 
 use Rattle.as5506.specs.Lists.{each}
 use Rattle.as5506.specs.Tables.{Tables, source, destination, x_kind}
 use Rattle.as5506.specs.Tables.{Side as TheSide}
+use Rattle.as5506.specs.Names.{Comparison}
 use Rattle.as5506.specs.Tracing.{Chain as TheEnd, Traced, append_new, chains, step_limit}
 use Rattle.columns.specs.declared.Side.{Side}
 use Rattle.columns.specs.declared.Side.TheVariants.{Source, Destination}
@@ -31,13 +32,13 @@ row_along m x s d =
 
 -- the rows of a chain that has ended at e: towards the source, with every destination chain of at most k steps behind o; towards the
 -- destination, with the source end o
-unfoldable pub rows_at_end : Tables → TheSide → ℕ → ℕ → TheEnd → TheEnd → List Traced
-rows_at_end m source x k o e = map (λ d. row_along m x e (behind o.path d)) (chains m destination k o.comp o.feat)
-rows_at_end m destination x k o e = row_along m x o e ∷ []
+unfoldable pub rows_at_end : Comparison → Tables → TheSide → ℕ → ℕ → TheEnd → TheEnd → List Traced
+rows_at_end same m source x k o e = map (λ d. row_along m x e (behind o.path d)) (chains same m destination k o.comp o.feat)
+rows_at_end same m destination x k o e = row_along m x o e ∷ []
 
 -- the rows of the chains es behind the connections p
-unfoldable pub rows_behind : Tables → TheSide → ℕ → ℕ → TheEnd → List ℕ → List TheEnd → List Traced
-rows_behind m s x k o p es = each (λ e. rows_at_end m s x k o (behind p e)) es
+unfoldable pub rows_behind : Comparison → Tables → TheSide → ℕ → ℕ → TheEnd → List ℕ → List TheEnd → List Traced
+rows_behind same m s x k o p es = each (λ e. rows_at_end same m s x k o (behind p e)) es
 
 -- that a row's path fits: of the destination's end, whichever it is, the connections so far and the steps that go on are no more than a chain's steps
 abbrev pub Fits : Side → End → End → Type 0

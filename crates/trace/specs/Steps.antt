@@ -5,7 +5,7 @@ use Rattle.as5506.specs.Lists.{span, keep, each}
 use Rattle.as5506.specs.Tables.{Tables, name_of, c_count, x_count, x_owner, x_sub}
 use Rattle.as5506.specs.Tables.{Side as TheSide}
 use Rattle.as5506.specs.Tracing.{Step as TheStep, Chain, leads, steps_over, found_children, chains, stop, push}
-use Rattle.child_links.specs.Trees.{of_tree}
+use Rattle.child_links.specs.Trees.{of_tree, same_in}
 use Rattle.columns.specs.Side.{side_of}
 use Rattle.children.specs.Found.{children_left, tables_of}
 use Rattle.trace.specs.declared.step.Step.{Step}
@@ -21,15 +21,15 @@ side_in q = side_of q.side
 
 -- connection i is one of the component and leads from its feature towards the side
 unfoldable pub is_step : Steps → ℕ → Bool
-is_step q i = eqb (x_owner (tables_in q) i) q.component && leads (tables_in q) (side_in q) (name_of (tables_in q) q.feature) i
+is_step q i = eqb (x_owner (tables_in q) i) q.component && leads (same_in q.tree.now) (tables_in q) (side_in q) (name_of (tables_in q) q.feature) i
 
 -- the children that connection i names on the side
 abbrev pub found_over : Steps → ℕ → List ℕ
-found_over q i = found_children (tables_in q) q.component (name_of (tables_in q) (x_sub (tables_in q) (side_in q) i))
+found_over q i = found_children (same_in q.tree.now) (tables_in q) q.component (name_of (tables_in q) (x_sub (tables_in q) (side_in q) i))
 
 -- the steps over the connections from i on: all of them from connection 0 on (proofs: steps-from-start)
 unfoldable pub steps_from : Steps → ℕ → List TheStep
-steps_from q i = each (steps_over (tables_in q) (side_in q) q.component) (keep (is_step q) (span i (x_count (tables_in q) - i)))
+steps_from q i = each (steps_over (same_in q.tree.now) (tables_in q) (side_in q) q.component) (keep (is_step q) (span i (x_count (tables_in q) - i)))
 
 -- over a step's connection to child i
 abbrev pub step_with : Step → ℕ → TheStep
@@ -55,11 +55,11 @@ Within q r = ForSome r (StepWithin q)
 
 -- the chains from where the steps begin
 abbrev pub chains_from : Steps → ℕ → List Chain
-chains_from q k = chains (tables_in q) (side_in q) k q.component q.feature
+chains_from q k = chains (same_in q.tree.now) (tables_in q) (side_in q) k q.component q.feature
 
 -- the chains that go on over a step, and then over at most k more
 abbrev pub chains_over : Steps → ℕ → TheStep → List Chain
-chains_over q k st = map (push st.conn) (chains (tables_in q) (side_in q) k st.child st.feat)
+chains_over q k st = map (push st.conn) (chains (same_in q.tree.now) (tables_in q) (side_in q) k st.child st.feat)
 
 -- how the chains of at most k steps begin: there is no step to make, or they go on over a first one and those behind it
 abbrev pub Begins : Steps → ℕ → Option Step → Type 0

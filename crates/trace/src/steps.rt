@@ -2,6 +2,7 @@
 ghost use Rattle.std.specs.Prelude.{◌≡◌};
 ghost use Rattle.as5506.specs.Tables.{name_of, other};
 ghost use Rattle.as5506.specs.Tracing.{leads};
+ghost use Rattle.child_links.specs.Trees.{same_in};
 ghost use Rattle.columns.specs.Side.{side_of};
 ghost use Rattle.children.specs.Found.{tables_of, children_left};
 ghost use Rattle.trace.specs.Steps.{is_step, found_over, tables_in, side_in, steps_from, steps_behind, after_step, StepWithin, Within, Begins};
@@ -22,10 +23,10 @@ fn opposite(side: Side) -> Side
 }
 
 impl<'a> Steps<'a> {
-    // Whether X row i leads from a feature of that name towards the side. Tracing takes names for the same byte for byte.
+    // Whether X row i leads from a feature of that name towards the side, by the reading of the tree.
     #[tactic(auto, unfolding(as5506::specs::Tracing::leads))]
     fn leads(&self, i: usize) -> bool
-        ensures { result ≡ leads (tables_in self.now) (side_in self.now) (name_of (tables_in self.now) self.now.feature) i }
+        ensures { result ≡ leads (same_in self.now.tree.now) (tables_in self.now) (side_in self.now) (name_of (tables_in self.now) self.now.feature) i }
     {
         let m = self.tree.m;
         let near = opposite(self.side);
@@ -33,7 +34,7 @@ impl<'a> Steps<'a> {
         connection::subcomponent_of(m, self.side, i) != MISSING
             && connection::subcomponent_of(m, near, i) == MISSING
             && own != MISSING
-            && name::same_names(m, own, self.feature)
+            && name::same_by(m, self.tree.reading, own, self.feature)
     }
 
     // Whether X row i is a connection of the component that leads from its feature towards the side.

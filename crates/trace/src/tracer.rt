@@ -4,7 +4,7 @@ ghost use Rattle.as5506.specs.Tables.{c_count};
 ghost use Rattle.as5506.specs.Tracing.{append_new, chains, step_limit};
 ghost use Rattle.as5506.specs.Layout.{traced_block};
 ghost use Rattle.lent.specs.Model.{model};
-ghost use Rattle.child_links.specs.Trees.{of_tree};
+ghost use Rattle.child_links.specs.Trees.{of_tree, same_in};
 ghost use Rattle.columns.specs.Side.{side_of};
 ghost use Rattle.trace.specs.Ends.{chain_places, end_of, row_along, rows_behind, Fits};
 ghost use Rattle.output.specs.Blocks.{Wrote};
@@ -74,8 +74,8 @@ pub fn trace<'a>(
     requires inside { (here.now.component < c_count (of_tree tree.now)) × (other.now.component < c_count (of_tree tree.now)) }
     requires fits { Fits side here.now other.now }
     ensures { Wrote (traced_block (of_tree tree.now))
-        (rows_behind (of_tree tree.now) (side_of side) conn other.now.left (end_of other.now) here.now.path
-        (chains (of_tree tree.now) (side_of side) here.now.left here.now.component here.now.feature))
+        (rows_behind (same_in tree.now) (of_tree tree.now) (side_of side) conn other.now.left (end_of other.now) here.now.path
+        (chains (same_in tree.now) (of_tree tree.now) (side_of side) here.now.left here.now.component here.now.feature))
         out.old result out.new }
 {
     let steps = Steps {

@@ -38,10 +38,14 @@ macro_rules! declare {
     };
 }
 
-/// Declares a call that takes the tables first.
+/// Declares a call that takes the tables first, or two with the same arguments.
 macro_rules! over_tables {
     ($name:ident($($argument:ident: $kind:ty),*)) => {
         with_letters! { declare! $name([*const u8, *const u32] $(, $argument: $kind)*) }
+    };
+    ($name:ident, $other:ident $arguments:tt) => {
+        over_tables!($name $arguments);
+        over_tables!($other $arguments);
     };
 }
 
@@ -108,7 +112,7 @@ over_tables!(conlist_expand_feature_group_connections_with_records(
     out_length: usize,
     told: *mut u64
 ));
-over_tables!(conlist_list_connections_with_records(
+over_tables!(conlist_list_connections_with_records, conlist_list_connections_ignoring_case_with_records(
     links: *mut u32,
     links_length: usize,
     rows: *mut u32,
@@ -127,7 +131,7 @@ over_tables!(conlist_list_connections_with_records(
     group_out_length: usize,
     told: *mut u64
 ));
-over_tables!(conlist_list_connections(
+over_tables!(conlist_list_connections, conlist_list_connections_ignoring_case(
     links: *mut u32,
     links_length: usize,
     rows: *mut u32,
@@ -239,6 +243,18 @@ pub fn expand_feature_group_connections(
     told
 }
 
+/// The entry that gives both listings.
+#[derive(Clone, Copy, Debug, PartialEq, Eq)]
+pub enum Entry {
+    /// The ported one, which keeps the original's reading.
+    Ported,
+    /// The second one, to which names that differ in the case of letters alone are one where tracing compares features, and where the first
+    /// rule for children compares names.
+    IgnoringCase,
+}
+
+pub const ENTRIES: [Entry; 2] = [Entry::Ported, Entry::IgnoringCase];
+
 /// The outputs of both listings, but for the link table, which they share.
 pub struct Outputs<'a> {
     pub rows: &'a mut [u32],
@@ -249,12 +265,21 @@ pub struct Outputs<'a> {
 }
 
 /// 0 and the rows and diagnostics of the traced and of the group listing, or a refusal's number, place and letter and zeros.
-pub fn list_connections(tables: &Tables, links: &mut [u32], outputs: Outputs) -> [u64; 5] {
+pub fn list_connections(
+    entry: Entry,
+    tables: &Tables,
+    links: &mut [u32],
+    outputs: Outputs,
+) -> [u64; 5] {
+    let listed = match entry {
+        Entry::Ported => conlist_list_connections,
+        Entry::IgnoringCase => conlist_list_connections_ignoring_case,
+    };
     let mut told = [u64::MAX; 5];
     // SAFETY: as above.
     unsafe {
         call!(
-            conlist_list_connections,
+            listed,
             tables,
             links.as_mut_ptr(),
             links.len(),
@@ -335,17 +360,22 @@ pub fn expand_feature_group_connections_with_records(
 
 /// As `list_connections`, with records for the diagnostics of each listing.
 pub fn list_connections_with_records(
+    entry: Entry,
     tables: &Tables,
     links: &mut [u32],
     outputs: Outputs,
     records: &mut [Diagnostic],
     group_records: &mut [Diagnostic],
 ) -> [u64; 5] {
+    let listed = match entry {
+        Entry::Ported => conlist_list_connections_with_records,
+        Entry::IgnoringCase => conlist_list_connections_ignoring_case_with_records,
+    };
     let mut told = [u64::MAX; 5];
     // SAFETY: as above.
     unsafe {
         call!(
-            conlist_list_connections_with_records,
+            listed,
             tables,
             links.as_mut_ptr(),
             links.len(),

@@ -9,7 +9,7 @@ use oracle::sheet::Sheet;
 use oracle::stream::Case;
 
 use crate::lent::Lent;
-use crate::library::{self, Outputs};
+use crate::library::{self, Entry, Outputs};
 use crate::tables::{MISSING, Tables};
 use crate::{DIAGNOSTIC_NUMBERS, ROW_NUMBERS, listed};
 
@@ -24,10 +24,15 @@ const COLUMNS: usize = 6;
 enum Call {
     Traced,
     Group,
-    Both,
+    Both(Entry),
 }
 
-const CALLS: [Call; 3] = [Call::Traced, Call::Group, Call::Both];
+const CALLS: [Call; 4] = [
+    Call::Traced,
+    Call::Group,
+    Call::Both(Entry::Ported),
+    Call::Both(Entry::IgnoringCase),
+];
 
 /// So many rows of each listing are lent where it is not known how many there are: as conlist lends them, and then more.
 const ROOMS: [usize; 2] = [64, 2048];
@@ -209,7 +214,8 @@ fn run(
             group.names.lend(),
             group.diagnostics.lend(),
         )),
-        Call::Both => library::list_connections(
+        Call::Both(entry) => library::list_connections(
+            entry,
             tables,
             links.lend(),
             Outputs {
@@ -298,7 +304,7 @@ fn exact(call: Call, called: &Called) -> Result<Room, String> {
     let ([rows, diagnostics], [group_rows, group_diagnostics]) = match call {
         Call::Traced => ([one, other], [0, 0]),
         Call::Group => ([0, 0], [one, other]),
-        Call::Both => ([one, other], [third, fourth]),
+        Call::Both(_) => ([one, other], [third, fourth]),
     };
     let mut names = 0;
     for row in called

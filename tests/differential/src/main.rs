@@ -1,10 +1,12 @@
 //! `differential [COUNT] [FIRST]`: compares the proved library with the original on the stored vectors and on COUNT generated
 //! models, and holds it to refusals on tables that are spoilt. A fifth of the generated models has to be one that the original lists
-//! otherwise where children come in the order of their rows; a tenth has to have modes, and of one in a hundred the selections of modes
-//! have to be cut.
+//! otherwise where children come in the order of their rows, and a tenth one that the second entry answers otherwise than the ported one; a
+//! tenth has to have modes, and of one in a hundred the selections of modes have to be cut.
 //! `differential --modes [COUNT] [FIRST]`: compares nothing but selections of modes, on COUNT models that are generated for that. All of
 //! them have to have modes, and a tenth has to be cut.
 //! `differential --stream`: holds it to the texts of a stream of cases on standard input.
+//! `differential --ignore-case`: holds the second entry, which ignores letter case, to the texts of a stream of cases on standard input, accepted
+//! sheets each with the text of its lists by that entry.
 //! `differential --links`: holds its link tables to those of a stream of cases on standard input, accepted sheets each with a line of
 //! two numbers for every component in place of a text; and to a scan by place on models that are larger than a sheet.
 //!
@@ -15,12 +17,14 @@ mod both;
 mod damaged;
 mod expansion;
 mod group;
+mod ignoring_case;
 mod lent;
 mod library;
 mod link_table;
 mod links;
 mod listed;
 mod modes;
+mod printed;
 mod records;
 mod tables;
 mod text;
@@ -88,6 +92,8 @@ struct Met {
     /// Generated models, and those of them that the original lists otherwise with children in the order of their rows.
     generated: usize,
     otherwise_by_row: usize,
+    /// Those of them that the second entry answers otherwise than the ported one.
+    otherwise_ignoring_case: usize,
     /// Generated models with modes, and those of them whose selections are cut.
     generated_modal: usize,
     generated_cut: usize,
@@ -96,6 +102,7 @@ struct Met {
     group: group::Met,
     both: both::Met,
     records: records::Met,
+    ignoring_case: ignoring_case::Met,
     modes: modes::Met,
     text: text::Met,
     unaccepted: unaccepted::Met,
@@ -114,6 +121,7 @@ impl Met {
             .and_then(|()| group::compare(&sheet, renames, &mut self.group))
             .and_then(|()| both::compare(&sheet, &mut self.both))
             .and_then(|()| records::compare(&sheet, &mut self.records))
+            .and_then(|()| ignoring_case::compare(&sheet, renames, &mut self.ignoring_case))
             .and_then(|()| modes::compare(&sheet, &mut self.modes))
             .and_then(|()| damaged::read_again(&case.sheet, &sheet))
             .and_then(|()| {
@@ -132,13 +140,14 @@ impl Met {
         }
     }
 
-    /// Compares a generated model, and counts whether it has modes and whether the places of its children decide anything.
+    /// Compares a generated model, and counts whether it has modes, and whether the places of its children or letter case decide anything.
     fn compare_generated(&mut self, case: &Case) {
-        let before = self.modes;
+        let (before, before_case) = (self.modes, self.ignoring_case.answered_otherwise);
         self.compare(case, Renames::Text);
         self.generated += 1;
         self.generated_modal += self.modes.with_modes - before.with_modes;
         self.generated_cut += self.modes.cut - before.cut;
+        self.otherwise_ignoring_case += self.ignoring_case.answered_otherwise - before_case;
         if let Some(sheet) = Sheet::accepted(&case.sheet) {
             let otherwise = places::decide(&sheet, Renames::Text);
             self.otherwise_by_row += usize::from(otherwise);
@@ -149,11 +158,12 @@ impl Met {
         let (traced, expansion) = (&self.traced, &self.expansion);
         let (group, text) = (&self.group, &self.text);
         println!(
-            "{} models, {} differ; of {} generated ones the original lists {} otherwise with children by row, {} have modes, {} are cut",
+            "{} models, {} differ; of {} generated ones the original lists {} otherwise with children by row, the second entry answers {} otherwise than the ported one, {} have modes, {} are cut",
             self.models,
             self.differing,
             self.generated,
             self.otherwise_by_row,
+            self.otherwise_ignoring_case,
             self.generated_modal,
             self.generated_cut,
         );
@@ -195,6 +205,7 @@ impl Met {
             self.records.refused_12,
             self.records.refused_22,
         );
+        self.ignoring_case.print();
         println!(
             "array indices: {} models in the traced and {} in the group listing with other bits as well; {} tables refused for their numbers",
             traced.other_indices, group.other_indices, self.unaccepted.indices,
@@ -213,12 +224,13 @@ impl Met {
         );
     }
 
-    /// Nothing differs, nothing was left out, places decide on a fifth of the generated models, a tenth has modes, and one in a hundred
-    /// is cut.
+    /// Nothing differs, nothing was left out, places decide on a fifth of the generated models and letter case on a tenth, a tenth has modes,
+    /// and one in a hundred is cut.
     fn passes(&self) -> bool {
         let (traced, expansion) = (&self.traced, &self.expansion);
         self.differing == 0
             && 5 * self.otherwise_by_row >= self.generated
+            && 10 * self.otherwise_ignoring_case >= self.generated
             && 10 * self.generated_modal >= self.generated
             && 100 * self.generated_cut >= self.generated
             && traced.rows > 0
@@ -237,6 +249,7 @@ impl Met {
             && self.records.records > 0
             && self.records.refused_12 > 0
             && self.records.refused_22 > 0
+            && self.ignoring_case.is_whole()
             && self.both.refused_22 > 0
             && self.text.refused > 0
     }
@@ -265,6 +278,24 @@ fn known_texts() -> ExitCode {
         met.refused, met.unaccepted.refused, met.read, met.text.calls, met.unaccepted.calls,
     );
     if differing == 0 && cases > 0 {
+        ExitCode::SUCCESS
+    } else {
+        ExitCode::FAILURE
+    }
+}
+
+/// The cases on standard input with the texts of the second entry.
+fn known_texts_ignoring_case() -> ExitCode {
+    let (mut met, mut differing) = (ignoring_case::Met::default(), 0);
+    for case in given() {
+        if let Err(what) = ignoring_case::compare_text(&case, &mut met) {
+            println!("DIFFERS {}: {what}", case.label);
+            differing += 1;
+        }
+    }
+    met.print();
+    println!("{} models ignoring case, {differing} differ", met.models);
+    if differing == 0 && met.is_whole() {
         ExitCode::SUCCESS
     } else {
         ExitCode::FAILURE
@@ -340,10 +371,11 @@ fn main() -> ExitCode {
         ("", Some((count, first))) => all(count, first),
         ("--modes", Some((count, first))) => modes_alone(count, first),
         ("--stream", _) if numbers.is_empty() => known_texts(),
+        ("--ignore-case", _) if numbers.is_empty() => known_texts_ignoring_case(),
         ("--links", _) if numbers.is_empty() => known_links(),
         _ => {
             eprintln!(
-                "usage: differential [--modes] [COUNT] [FIRST], or differential --stream < CASES, or differential --links < CASES"
+                "usage: differential [--modes] [COUNT] [FIRST], or differential --stream|--ignore-case|--links < CASES"
             );
             ExitCode::from(2)
         }

@@ -1,11 +1,12 @@
-//! The listings that fill the caller's records: each gives what the call over numbers gives in the room that the records and the
-//! numbers lent for them leave, with the diagnostics in both and the same link table. The calls over numbers are compared with the original
-//! elsewhere.
+//! The listings that fill the caller's records, both listings by either entry: each gives what the call over numbers gives in the room that
+//! the records and the numbers lent for them leave, with the diagnostics in both and the same link table. The calls over numbers are compared
+//! with the original elsewhere.
 
 use oracle::sheet::Sheet;
 
+use crate::both::{self, Lists};
 use crate::lent::Lent;
-use crate::library::{self, Diagnostic, Outputs};
+use crate::library::{self, Diagnostic, ENTRIES, Entry};
 use crate::link_table::{LINK_NUMBERS, LinkTable, TOO_FEW_LINKS};
 use crate::tables::Tables;
 use crate::{DIAGNOSTIC_NUMBERS, ROW_NUMBERS};
@@ -62,6 +63,11 @@ impl Diagnostics {
         }
     }
 
+    fn are_zero(&self) -> Result<(), String> {
+        self.numbers.used(0)?;
+        self.records.used(0).map(|_| ())
+    }
+
     /// They hold the diagnostics that the call over numbers left, and zeros behind them.
     fn hold(&self, expected: &[u32], met: &mut Met) -> Result<(), String> {
         if self.numbers.used(expected.len())? != expected {
@@ -114,63 +120,116 @@ struct Lengths {
     rows: usize,
 }
 
+impl Lengths {
+    /// Room for as many diagnostics as rows.
+    fn room(self) -> Room {
+        Room {
+            records: self.rows,
+            numbers: self.rows * DIAGNOSTIC_NUMBERS,
+        }
+    }
+
+    /// The lengths of both listings' outputs, with this room for diagnostics.
+    fn of_both(self, traced: Room, group: Room) -> both::Lengths {
+        both::Lengths {
+            diagnostics: traced.numbers,
+            group_diagnostics: group.numbers,
+            ..both::Lengths::of(self.links, self.rows)
+        }
+    }
+}
+
 /// The tables of a model, and the link table that is due for it.
-struct Model {
-    tables: Tables,
-    links: LinkTable,
+#[derive(Clone, Copy)]
+pub struct Model<'a> {
+    pub tables: &'a Tables,
+    pub links: &'a LinkTable,
 }
 
 /// Compares the calls with records with those over numbers: with room around as many diagnostics as there are, and with few rows; and sees
 /// that they refuse too few links before all that they refuse of a list.
 pub fn compare(sheet: &Sheet, met: &mut Met) -> Result<(), String> {
+    let (tables, links) = (Tables::of(sheet), LinkTable::of(sheet));
     let model = Model {
-        tables: Tables::of(sheet),
-        links: LinkTable::of(sheet),
+        tables: &tables,
+        links: &links,
     };
-    let exact = model.links.length();
-    let mut links = Lent::of_length(exact);
+    let exact = links.length();
+    in_rooms(exact, counts_alone(model), |lengths, traced, group| {
+        agree(model, lengths, traced, group, met)
+    })?;
+    let second = Entry::IgnoringCase;
+    in_rooms(exact, counts(model, second)?, |lengths, traced, group| {
+        each_of_both_agrees(model, second, lengths, traced, group, met)
+    })?;
+    for (links, rows) in [(exact - 1, 64), (exact - 1, 0), (0, 64), (0, 0)] {
+        met.calls += 4;
+        met.refused_22 += 4;
+        let refusal = [TOO_FEW_LINKS, 0, b'-'.into()];
+        all_refuse(&tables, Lengths { links, rows }, refusal)?;
+    }
+    Ok(())
+}
+
+/// So many diagnostics are taken where a listing that is refused tells no number.
+const DIAGNOSTICS: usize = 2;
+
+/// How many diagnostics the calls for one listing give.
+fn counts_alone(model: Model) -> [usize; 2] {
+    let mut links = Lent::of_length(model.links.length());
     let (mut own, mut numbers) = (Rows::of(64), Lent::of_length(64 * DIAGNOSTIC_NUMBERS));
     let traced = library::compute_semantic_connections(
-        &model.tables,
+        model.tables,
         links.lend(),
         own.rows.lend(),
         numbers.lend(),
     );
     let group = library::expand_feature_group_connections(
-        &model.tables,
+        model.tables,
         links.lend(),
         own.rows.lend(),
         own.names.lend(),
         numbers.lend(),
     );
-    let around = |told: [u64; 3]| Room::around(if told[0] == 0 { told[2] as usize } else { 2 });
-    let (traced, group) = (around(traced), around(group));
-    let links = [exact, exact + LINK_NUMBERS - 1, exact + 1000];
+    [traced, group].map(|told| match told[0] {
+        0 => told[2] as usize,
+        _ => DIAGNOSTICS,
+    })
+}
+
+/// How many diagnostics of each listing an entry gives.
+fn counts(model: Model, entry: Entry) -> Result<[usize; 2], String> {
+    let lengths = both::Lengths::of(model.links.length(), 64);
+    let told = both::call(model.tables, entry, lengths)?.told;
+    Ok(match told[0] {
+        0 => [told[2] as usize, told[4] as usize],
+        _ => [DIAGNOSTICS; 2],
+    })
+}
+
+/// Sees that calls agree with room around so many diagnostics of each listing, and with few rows; with these numbers of links and with more.
+fn in_rooms(
+    links: usize,
+    counts: [usize; 2],
+    mut agree: impl FnMut(Lengths, Room, Room) -> Result<(), String>,
+) -> Result<(), String> {
+    let [traced, group] = counts.map(Room::around);
+    let lent = [links, links + LINK_NUMBERS - 1, links + 1000];
     for k in 0..traced.len().max(group.len()) {
         let (of_traced, of_group) = (traced[k % traced.len()], group[k % group.len()]);
         let lengths = Lengths {
-            links: links[k % links.len()],
+            links: lent[k % lent.len()],
             rows: 64,
         };
-        agree(&model, lengths, of_traced, of_group, met)?;
+        agree(lengths, of_traced, of_group)?;
     }
-    let few = Lengths {
-        links: exact,
-        rows: 3,
-    };
-    agree(&model, few, traced[0], group[0], met)?;
-    for (links, rows) in [(exact - 1, 64), (exact - 1, 0), (0, 64), (0, 0)] {
-        met.calls += 3;
-        met.refused_22 += 3;
-        let refusal = [TOO_FEW_LINKS, 0, b'-'.into()];
-        all_refuse(&model.tables, Lengths { links, rows }, refusal)?;
-    }
-    Ok(())
+    let few = Lengths { links, rows: 3 };
+    agree(few, traced[0], group[0])
 }
 
-/// All three, with these rooms; both listings twice, each time with much room for the other's diagnostics.
+/// The calls for one listing, and for both by the ported entry, with these rooms.
 fn agree(
-    model: &Model,
+    model: Model,
     lengths: Lengths,
     traced: Room,
     group: Room,
@@ -180,17 +239,32 @@ fn agree(
         .map_err(|what| format!("records of the traced listing: {what}"))?;
     group_agrees(model, lengths, group, met)
         .map_err(|what| format!("records of the group listing: {what}"))?;
+    each_of_both_agrees(model, Entry::Ported, lengths, traced, group, met)
+}
+
+/// Both listings by an entry twice, each time with much room for the other's diagnostics.
+fn each_of_both_agrees(
+    model: Model,
+    entry: Entry,
+    lengths: Lengths,
+    traced: Room,
+    group: Room,
+    met: &mut Met,
+) -> Result<(), String> {
     let much = Room {
         records: 64,
         numbers: 64 * DIAGNOSTIC_NUMBERS,
     };
-    both_agree(model, lengths, traced, much, met)
-        .and_then(|()| both_agree(model, lengths, much, group, met))
-        .map_err(|what| format!("records of both listings: {what}"))
+    for (traced, group) in [(traced, much), (much, group)] {
+        let records = [traced.records, group.records];
+        both_agree(model, entry, lengths.of_both(traced, group), records, met)
+            .map_err(|what| format!("records of both listings, {entry:?}: {what}"))?;
+    }
+    Ok(())
 }
 
-fn traced_agrees(model: &Model, lengths: Lengths, room: Room, met: &mut Met) -> Result<(), String> {
-    let (tables, before) = (&model.tables, model.tables.clone());
+fn traced_agrees(model: Model, lengths: Lengths, room: Room, met: &mut Met) -> Result<(), String> {
+    let (tables, before) = (model.tables, model.tables.clone());
     let (mut own, mut filled) = (Rows::of(lengths.rows), Rows::of(lengths.rows));
     let mut own_links = Lent::of_length(lengths.links);
     let mut numbers = Lent::of_length(room.places() * DIAGNOSTIC_NUMBERS);
@@ -214,8 +288,8 @@ fn traced_agrees(model: &Model, lengths: Lengths, room: Room, met: &mut Met) -> 
     diagnostics.hold(written(&numbers, told[0], told[2])?, met)
 }
 
-fn group_agrees(model: &Model, lengths: Lengths, room: Room, met: &mut Met) -> Result<(), String> {
-    let (tables, before) = (&model.tables, model.tables.clone());
+fn group_agrees(model: Model, lengths: Lengths, room: Room, met: &mut Met) -> Result<(), String> {
+    let (tables, before) = (model.tables, model.tables.clone());
     let (mut own, mut filled) = (Rows::of(lengths.rows), Rows::of(lengths.rows));
     let mut own_links = Lent::of_length(lengths.links);
     let mut numbers = Lent::of_length(room.places() * DIAGNOSTIC_NUMBERS);
@@ -241,52 +315,44 @@ fn group_agrees(model: &Model, lengths: Lengths, room: Room, met: &mut Met) -> R
     diagnostics.hold(written(&numbers, told[0], told[2])?, met)
 }
 
-fn both_agree(
-    model: &Model,
-    lengths: Lengths,
-    traced: Room,
-    group: Room,
+/// Both listings by an entry, with so many records of each: what they give over numbers in the room that records and numbers leave.
+pub fn both_agree(
+    model: Model,
+    entry: Entry,
+    lengths: both::Lengths,
+    [records, group_records]: [usize; 2],
     met: &mut Met,
 ) -> Result<(), String> {
-    let (tables, before) = (&model.tables, model.tables.clone());
-    let (mut own, mut own_group) = (Rows::of(lengths.rows), Rows::of(lengths.rows));
-    let mut own_links = Lent::of_length(lengths.links);
-    let mut numbers = Lent::of_length(traced.places() * DIAGNOSTIC_NUMBERS);
-    let mut group_numbers = Lent::of_length(group.places() * DIAGNOSTIC_NUMBERS);
-    let due = library::list_connections(
-        tables,
-        own_links.lend(),
-        Outputs {
-            rows: own.rows.lend(),
-            diagnostics: numbers.lend(),
-            group_rows: own_group.rows.lend(),
-            names: own_group.names.lend(),
-            group_diagnostics: group_numbers.lend(),
-        },
-    );
-    let (mut filled, mut filled_group) = (Rows::of(lengths.rows), Rows::of(lengths.rows));
-    let mut links = Lent::of_length(lengths.links);
-    let (mut diagnostics, mut group_diagnostics) =
-        (Diagnostics::of(traced), Diagnostics::of(group));
-    let told = library::list_connections_with_records(
-        tables,
-        links.lend(),
-        Outputs {
-            rows: filled.rows.lend(),
-            diagnostics: diagnostics.numbers.lend(),
-            group_rows: filled_group.rows.lend(),
-            names: filled_group.names.lend(),
-            group_diagnostics: group_diagnostics.numbers.lend(),
-        },
-        diagnostics.records.lend(),
-        group_diagnostics.records.lend(),
-    );
-    expect(&told, &due, *tables == before, met)?;
-    model.links.is_left(&links, &told)?;
-    filled.same(&own)?;
-    filled_group.same(&own_group)?;
-    diagnostics.hold(written(&numbers, told[0], told[2])?, met)?;
-    group_diagnostics.hold(written(&group_numbers, told[0], told[4])?, met)
+    let (tables, before) = (model.tables, model.tables.clone());
+    let numbers = |records, numbers| Room { records, numbers }.places() * DIAGNOSTIC_NUMBERS;
+    let room = both::Lengths {
+        diagnostics: numbers(records, lengths.diagnostics),
+        group_diagnostics: numbers(group_records, lengths.group_diagnostics),
+        ..lengths
+    };
+    let due = both::call(tables, entry, room)?;
+    let mut filled = Lists::of(lengths);
+    let (mut records, mut group_records) =
+        (Lent::of_length(records), Lent::of_length(group_records));
+    let told = filled.list_with_records(entry, tables, records.lend(), group_records.lend());
+    expect(&told, &due.told, *tables == before, met)?;
+    model.links.is_left(&filled.links, &told)?;
+    if !filled.have_the_same_rows(&due.lists)? {
+        return Err("the rows differ".to_string());
+    }
+    let diagnostics = Diagnostics {
+        numbers: filled.diagnostics,
+        records,
+    };
+    let group_diagnostics = Diagnostics {
+        numbers: filled.group_diagnostics,
+        records: group_records,
+    };
+    diagnostics.hold(written(&due.lists.diagnostics, told[0], told[2])?, met)?;
+    group_diagnostics.hold(
+        written(&due.lists.group_diagnostics, told[0], told[4])?,
+        met,
+    )
 }
 
 /// Both calls tell the same, and the tables are as they were.
@@ -309,18 +375,28 @@ fn written(numbers: &Lent<u32>, refused: u64, count: u64) -> Result<&[u32], Stri
     numbers.used(count * DIAGNOSTIC_NUMBERS)
 }
 
-/// Tables that are not accepted: each of the three calls gives their refusal and leaves zeros, with so many numbers of links.
+/// Tables that are not accepted: each of the calls gives their refusal and leaves zeros, with so many numbers of links.
 pub fn refused(tables: &Tables, links: usize, refusal: [u64; 3]) -> Result<(), String> {
     all_refuse(tables, Lengths { links, rows: 64 }, refusal)
 }
 
-/// Each of the three calls gives this refusal and leaves zeros; there is room for as many diagnostics as rows.
+/// Each of the calls gives this refusal and leaves zeros; there is room for as many diagnostics as rows.
 fn all_refuse(tables: &Tables, lengths: Lengths, refusal: [u64; 3]) -> Result<(), String> {
-    let room = Room {
-        records: lengths.rows,
-        numbers: lengths.rows * DIAGNOSTIC_NUMBERS,
-    };
     let before = tables.clone();
+    one_refuses(tables, lengths, refusal)?;
+    for entry in ENTRIES {
+        both_refuse(tables, entry, lengths, refusal)?;
+    }
+    if *tables == before {
+        Ok(())
+    } else {
+        Err("it changed an input".to_string())
+    }
+}
+
+/// The calls for one listing refuse.
+fn one_refuses(tables: &Tables, lengths: Lengths, refusal: [u64; 3]) -> Result<(), String> {
+    let room = lengths.room();
     let links = || Lent::of_length(lengths.links);
     let outputs = || (Rows::of(lengths.rows), Diagnostics::of(room));
     let (mut traced_links, mut group_links) = (links(), links());
@@ -345,49 +421,41 @@ fn all_refuse(tables: &Tables, lengths: Lengths, refusal: [u64; 3]) -> Result<()
     ];
     traced_links.used(0)?;
     group_links.used(0)?;
-    zeros(&traced.rows, &diagnostics, &group, &group_diagnostics)?;
-    let mut both_links = links();
-    let (mut traced, mut diagnostics) = outputs();
-    let (mut group, mut group_diagnostics) = outputs();
-    let both = library::list_connections_with_records(
-        tables,
-        both_links.lend(),
-        Outputs {
-            rows: traced.rows.lend(),
-            diagnostics: diagnostics.numbers.lend(),
-            group_rows: group.rows.lend(),
-            names: group.names.lend(),
-            group_diagnostics: group_diagnostics.numbers.lend(),
-        },
-        diagnostics.records.lend(),
-        group_diagnostics.records.lend(),
-    );
-    both_links.used(0)?;
-    zeros(&traced.rows, &diagnostics, &group, &group_diagnostics)?;
-    if *tables != before {
-        return Err("it changed an input".to_string());
-    }
-    let [number, place, letter] = refusal;
-    if alone == [refusal; 2] && both == [number, place, letter, 0, 0] {
+    traced.rows.used(0)?;
+    diagnostics.are_zero()?;
+    group.rows.used(0)?;
+    group.names.used(0)?;
+    group_diagnostics.are_zero()?;
+    if alone == [refusal; 2] {
         Ok(())
     } else {
         Err(format!(
-            "calls with records told {alone:?} and {both:?} where {refusal:?} is due"
+            "calls with records told {alone:?} where {refusal:?} is due"
         ))
     }
 }
 
-fn zeros(
-    rows: &Lent<u32>,
-    diagnostics: &Diagnostics,
-    group: &Rows,
-    group_diagnostics: &Diagnostics,
+/// The call for both listings by an entry refuses.
+fn both_refuse(
+    tables: &Tables,
+    entry: Entry,
+    lengths: Lengths,
+    [number, place, letter]: [u64; 3],
 ) -> Result<(), String> {
-    rows.used(0)?;
-    diagnostics.numbers.used(0)?;
-    diagnostics.records.used(0)?;
-    group.rows.used(0)?;
-    group.names.used(0)?;
-    group_diagnostics.numbers.used(0)?;
-    group_diagnostics.records.used(0).map(|_| ())
+    let room = lengths.room();
+    let mut lists = Lists::of(lengths.of_both(room, room));
+    let (mut records, mut group_records) =
+        (Lent::of_length(room.records), Lent::of_length(room.records));
+    let told = lists.list_with_records(entry, tables, records.lend(), group_records.lend());
+    lists.are_zero()?;
+    records.used(0)?;
+    group_records.used(0)?;
+    let due = [number, place, letter, 0, 0];
+    if told == due {
+        Ok(())
+    } else {
+        Err(format!(
+            "both listings with records, {entry:?}, told {told:?} where {due:?} is due"
+        ))
+    }
 }

@@ -34,11 +34,17 @@ struct Lengths {
     diagnostics: usize,
 }
 
+/// The original's listing; nothing where it has more rows than are collected.
+pub fn expected(sheet: &Sheet) -> Option<Listing> {
+    let ends = traced::row_count(sheet) <= MOST_ROWS;
+    ends.then(|| traced::run(sheet, &mut model::instance(sheet)))
+}
+
 /// Compares the two on a sheet, with outputs of every telling size.
 pub fn compare(sheet: &Sheet, met: &mut Met) -> Result<(), String> {
     let tables = Tables::of(sheet);
     let links = LinkTable::of(sheet);
-    if traced::row_count(sheet) > MOST_ROWS {
+    let Some(listing) = expected(sheet) else {
         met.endless += 1;
         let conlist = Lengths {
             links: links.length(),
@@ -47,8 +53,7 @@ pub fn compare(sheet: &Sheet, met: &mut Met) -> Result<(), String> {
         };
         refused(&tables, conlist, 11, met)?;
         return too_few_links(&tables, conlist, met);
-    }
-    let listing = traced::run(sheet, &mut model::instance(sheet));
+    };
     met.rows += listing.rows.len();
     met.diagnostics += listing.diagnostics.len();
     let due = Due {
@@ -178,14 +183,16 @@ fn listed(tables: &Tables, lengths: Lengths, due: &Due, met: &mut Met) -> Result
     listed::counts(called.told, due.listing)?;
     due.links.fills(&called.links)?;
     let written = called.rows.used(due.listing.rows.len() * ROW_NUMBERS)?;
-    let given: Result<Vec<Row>, String> = written
-        .chunks(ROW_NUMBERS)
-        .map(|row| row_of(due.sheet, row))
-        .collect();
-    if given? != due.listing.rows {
+    if rows_of(due.sheet, written)? != due.listing.rows {
         return Err("the rows differ".to_string());
     }
     listed::diagnostics(&called.diagnostics, due.listing)
+}
+
+/// The rows of an output, their name numbers as names.
+pub fn rows_of(sheet: &Sheet, numbers: &[u32]) -> Result<Vec<Row>, String> {
+    let rows = numbers.chunks(ROW_NUMBERS);
+    rows.map(|row| row_of(sheet, row)).collect()
 }
 
 /// A row of the output, its name numbers as names.

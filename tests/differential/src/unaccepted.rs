@@ -5,8 +5,9 @@ use oracle::letters::{LETTERS, component, mode, name, row_numbers};
 use oracle::listing::REFUSALS_OF_TABLES;
 use oracle::sheet::{NAME_BYTES, Sheet};
 
+use crate::both;
 use crate::lent::Lent;
-use crate::library::{self, Outputs};
+use crate::library::{self, ENTRIES};
 use crate::link_table::LINK_NUMBERS;
 use crate::modes;
 use crate::records;
@@ -184,7 +185,7 @@ pub fn refused(tables: &Tables, refusal: Refusal, met: &mut Met) -> Result<(), S
     met.tables += 1;
     let place = REFUSALS_OF_TABLES.iter().position(|&own| own == refusal[0]);
     met.refused[place.expect("a refusal of tables")] += 1;
-    met.calls += 5 + 6 * LINKS.len();
+    met.calls += 5 + 8 * LINKS.len();
     let before = tables.clone();
     expect("check_tables", library::check_tables(tables), refusal)?;
 
@@ -196,7 +197,10 @@ pub fn refused(tables: &Tables, refusal: Refusal, met: &mut Met) -> Result<(), S
     for links in LINKS {
         traced(tables, links, refusal)?;
         group(tables, links, refusal)?;
-        both(tables, links, refusal)?;
+        for entry in ENTRIES {
+            both::refused(tables, entry, both::Lengths::of(links, 64), refusal)
+                .map_err(|what| format!("both listings, {entry:?}: {what}"))?;
+        }
         records::refused(tables, links, refusal)?;
     }
     modes::not_accepted(tables, refusal)?;
@@ -245,32 +249,6 @@ fn group(tables: &Tables, links: usize, refusal: Refusal) -> Result<(), String> 
     rows.used(0)?;
     names.used(0)?;
     diagnostics.used(0).map(|_| ())
-}
-
-fn both(tables: &Tables, links: usize, refusal: Refusal) -> Result<(), String> {
-    let mut links = Lent::of_length(links);
-    let (mut rows, mut diagnostics) = outputs();
-    let (mut group_rows, mut group_diagnostics) = outputs();
-    let mut names = Lent::<u8>::of_length(4096);
-    let [number, place, letter, left, over] = library::list_connections(
-        tables,
-        links.lend(),
-        Outputs {
-            rows: rows.lend(),
-            diagnostics: diagnostics.lend(),
-            group_rows: group_rows.lend(),
-            names: names.lend(),
-            group_diagnostics: group_diagnostics.lend(),
-        },
-    );
-    expect("list_connections", [number, place, letter], refusal)?;
-    if [left, over] != [0, 0] {
-        return Err("list_connections told more than a refusal".to_string());
-    }
-    for output in [links, rows, diagnostics, group_rows, group_diagnostics] {
-        output.used(0)?;
-    }
-    names.used(0).map(|_| ())
 }
 
 fn expect(call: &str, told: Refusal, refusal: Refusal) -> Result<(), String> {

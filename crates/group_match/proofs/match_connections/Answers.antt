@@ -7,7 +7,7 @@ use Rattle.group_match.proofs.Loop.{goes_start, goes_end, goes_past, goes_over, 
 use Rattle.group_match.proofs.match_connections.Goals as goal
 
 pub loop-row-init : goal.loop-row-init
-loop-row-init c = record { kept = refl; same = record { memo = refl; out = refl; notes = refl }; goes = goes_start _ _ }
+loop-row-init c = record { kept = refl; same = record { memo = refl; out = refl; notes = refl }; goes = goes_start _ _ _ }
 
 pub match_groups-requires : goal.match_groups-requires
 match_groups-requires c =
@@ -16,13 +16,13 @@ match_groups-requires c =
 pub returns-in_err-match_groups : goal.returns-in_err-match_groups
 returns-in_err-match_groups c =
     into_over _ _ _ _ c.from_residual.ensures
-    (goes_over _ _ _ c.loop-row.row c.loop-row.invariant.goes c.loop-row-test.true _ (c.in-Some.ensures c.args.links c.requires.linked) _ _ c.in_err-match_groups.ensures.matched refl)
+    (goes_over _ _ _ _ c.loop-row.row c.loop-row.invariant.goes c.loop-row-test.true _ (c.in-Some.ensures c.args.links c.requires.linked) _ _ c.in_err-match_groups.ensures.matched refl)
     ∙ all_new _ _ _ _ _ c.new.ensures
 
 pub loop-row-preserved-in_default : goal.loop-row-preserved-in_default
 loop-row-preserved-in_default c =
     let i = c.loop-row.invariant in
-    record { kept = i.kept; same = i.same; goes = goes_past _ _ _ c.loop-row.row i.goes c.loop-row-test.true (c.in_default.ensures c.args.links c.requires.linked) }
+    record { kept = i.kept; same = i.same; goes = goes_past _ _ _ _ c.loop-row.row i.goes c.loop-row-test.true (c.in_default.ensures c.args.links c.requires.linked) }
 
 pub loop-row-preserved : goal.loop-row-preserved
 loop-row-preserved c =
@@ -31,8 +31,8 @@ loop-row-preserved c =
     record {
       kept = ◌∙◌ {b = length c.loop-row.kept} c.match_groups.auto.kept i.kept;
       same = buffers-then _ _ _ i.same e.same;
-      goes = goes_on _ _ _ c.loop-row.row i.goes c.loop-row-test.true _ (c.in-Some.ensures c.args.links c.requires.linked) _ _ e.matched _ refl e.names;
+      goes = goes_on _ _ _ _ c.loop-row.row i.goes c.loop-row-test.true _ (c.in-Some.ensures c.args.links c.requires.linked) _ _ e.matched _ refl e.names;
     }
 
 pub returns : goal.returns
-returns c = into_end c.loop-row.sink _ _ _ (goes_end _ _ _ c.loop-row.row c.loop-row.invariant.goes c.loop-row-test.false) (search rules) (search rules) ∙ all_new _ _ _ _ _ c.new.ensures
+returns c = into_end c.loop-row.sink _ _ _ (goes_end _ _ _ _ c.loop-row.row c.loop-row.invariant.goes c.loop-row-test.false) (search rules) (search rules) ∙ all_new _ _ _ _ _ c.new.ensures

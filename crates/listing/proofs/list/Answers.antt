@@ -15,11 +15,11 @@ lent s = outputs s.args.links.now s.args.rows.now s.args.diagnostics.now s.args.
 
 pub returns-in_err-check_and_link : goal.returns-in_err-check_and_link
 returns-in_err-check_and_link c =
-    links-refused _ (lent (goal.at.returns-in_err-check_and_link c).Start) _ _ c.check_and_link.ensures _ c.in_err-check_and_link.was _ c.from_residual.ensures.1 _
+    links-refused _ _ (lent (goal.at.returns-in_err-check_and_link c).Start) _ _ c.check_and_link.ensures _ c.in_err-check_and_link.was _ c.from_residual.ensures.1 _
 
 pub returns-then-m-le-ROWS_LENT : goal.returns-then-m-le-ROWS_LENT
 returns-then-m-le-ROWS_LENT c =
-    links-filled _ (lent (goal.at.returns-then-m-le-ROWS_LENT c).Start) _ _ c.check_and_link.ensures c.in_ok-check_and_link.was c.list_linked.ensures
+    links-filled _ _ (lent (goal.at.returns-then-m-le-ROWS_LENT c).Start) _ _ c.check_and_link.ensures c.in_ok-check_and_link.was c.list_linked.ensures
 
 pub returns : goal.returns
-returns c = links-filled _ (lent (goal.at.returns c).Start) _ _ c.check_and_link.ensures c.in_ok-check_and_link.was c.list_linked-2.ensures
+returns c = links-filled _ _ (lent (goal.at.returns c).Start) _ _ c.check_and_link.ensures c.in_ok-check_and_link.was c.list_linked-2.ensures

@@ -6,15 +6,15 @@ use Rattle.as5506.specs.Names.{base_name}
 use Rattle.child_links.specs.Keys.{key_of}
 use Rattle.child_links.specs.Trees.{of_tree}
 use Rattle.children.specs.Found.{children_left}
-use Rattle.children.proofs.Finding.{exact_key, base_key, by_name, none_named, by_element}
+use Rattle.children.proofs.Finding.{whole_key, base_key, by_name, none_named, by_element}
 use Rattle.children.proofs.found.named.Goals as goal
 
-pub invariant_of-exact : goal.invariant_of-exact
-invariant_of-exact c = record { keyed = λ i h. exact_key _ _ i h ∙ sym (c.key_of.ensures ∙ ap key_of (c.base_name_of.ensures ∙ ap base_name c.name_of-name.ensures)) }
+pub invariant_of-whole : goal.invariant_of-whole
+invariant_of-whole c = record { keyed = λ i h. whole_key _ _ _ i h ∙ sym (c.key_of.ensures ∙ ap key_of (c.base_name_of.ensures ∙ ap base_name c.name_of-name.ensures)) }
 
 pub invariant_of-elements : goal.invariant_of-elements
 invariant_of-elements c =
-    record { keyed = λ i h. base_key _ (name_of (of_tree c.args.tree.now) c.args.wanted) (search rules) i h ∙ sym (c.key_of.ensures ∙ ap key_of (c.base_name_of.ensures ∙ ap base_name c.name_of-name.ensures)) }
+    record { keyed = λ i h. base_key _ _ (name_of (of_tree c.args.tree.now) c.args.wanted) (search rules) i h ∙ sym (c.key_of.ensures ∙ ap key_of (c.base_name_of.ensures ∙ ap base_name c.name_of-name.ensures)) }
 
 pub returns-then-is_some-clause-left : goal.returns-then-is_some-clause-left
 unfolding children_left

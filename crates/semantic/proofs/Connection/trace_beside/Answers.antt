@@ -8,7 +8,7 @@ returns-in_err-trace_on c = each_full _ c.loop-i.invariant.rows c.in-Some.ensure
 
 pub loop-i-preserved : goal.loop-i-preserved
 loop-i-preserved c = record {
-  same = c.in-Some.ensures.steps.2 ∙ c.loop-i.invariant.same;
+  tables = c.in-Some.ensures.steps.2 ∙ c.loop-i.invariant.tables;
   rows = each_turn _ c.loop-i.invariant.rows c.in-Some.ensures.steps.0 c.trace_on.ensures c.in_ok-trace_on.was;
 }
 

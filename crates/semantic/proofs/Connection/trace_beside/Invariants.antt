@@ -1,6 +1,6 @@
 -- `semantic::Connection::trace_beside` meets its contract. The invariant: the rows of the children that are left remain to be written. Assumes nothing.
 use Rattle.as5506.specs.Layout.{traced_block}
-use Rattle.child_links.specs.Trees.{of_tree}
+use Rattle.child_links.specs.Trees.{of_tree, same_in}
 use Rattle.children.specs.Found.{tables_of, children_left}
 use Rattle.columns.specs.Side.{side_of}
 use Rattle.output.proofs.Writing.{Writing}
@@ -11,8 +11,9 @@ use Rattle.semantic.proofs.Connection.trace_beside.Given as goal
 abbrev pub invariant-loop-i : goal.invariant-loop-i
 invariant-loop-i l =
     let m = of_tree l.self.tree.now in
+    let same = same_in l.self.tree.now in
     record {
-      same : tables_of l.i-iterator ≡ m;
-      rows : Writing (traced_block m) (rows_beside m l.self.row (side_of l.side) l.far (children_left l.initial.children)) l.initial.out l.out
-          (rows_beside m l.self.row (side_of l.side) l.far (children_left l.i-iterator));
+      tables : tables_of l.i-iterator ≡ m;
+      rows : Writing (traced_block m) (rows_beside same m l.self.row (side_of l.side) l.far (children_left l.initial.children)) l.initial.out l.out
+          (rows_beside same m l.self.row (side_of l.side) l.far (children_left l.i-iterator));
     }

@@ -4,7 +4,7 @@ use Rattle.as5506.specs.Lists.{span, each}
 use Rattle.as5506.specs.Tables.{x_count}
 use Rattle.as5506.specs.Tracing.{rows_at, traced, diags_at, traced_diags, step_limit}
 use Rattle.as5506.specs.Layout.{traced_block, diag_block}
-use Rattle.child_links.specs.Trees.{of_tree}
+use Rattle.child_links.specs.Trees.{of_tree, same_in}
 use Rattle.output.proofs.Writing.{Writing}
 use Rattle.semantic.proofs.Noting.{Noting}
 use Prim.Native.Nat.{◌-◌}
@@ -13,7 +13,8 @@ use Rattle.semantic.proofs.list.list_all.Given as goal
 abbrev pub invariant-loop-row : goal.invariant-loop-row
 invariant-loop-row l =
     let m = of_tree l.tree in
+    let same = same_in l.tree in
     record {
-      rows : Writing (traced_block m) (traced step_limit m) l.initial.rows l.rows (each (rows_at m step_limit) (span l.row (x_count m - l.row)));
-      diagnostics : Noting diag_block (traced_diags m) l.initial.diagnostics l.diagnostics (each (diags_at m) (span l.row (x_count m - l.row))) l.noted;
+      rows : Writing (traced_block m) (traced same step_limit m) l.initial.rows l.rows (each (rows_at same m step_limit) (span l.row (x_count m - l.row)));
+      diagnostics : Noting diag_block (traced_diags same m) l.initial.diagnostics l.diagnostics (each (diags_at same m) (span l.row (x_count m - l.row))) l.noted;
     }

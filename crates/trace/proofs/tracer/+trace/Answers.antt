@@ -3,10 +3,10 @@ use Rattle.trace.proofs.Rows.{ends_source, ends_destination, going_start, going_
 use Rattle.trace.proofs.tracer.+trace.Goals as goal
 
 pub returns-in-Source : goal.returns-in-Source
-returns-in-Source t c = ends_source _ _ _ _ _ _ _ _ _ c.in_default.ensures.begins c.in-Source.is c.trace.ensures
+returns-in-Source t c = ends_source _ _ _ _ _ _ _ _ _ _ c.in_default.ensures.begins c.in-Source.is c.trace.ensures
 
 pub returns-in-Destination : goal.returns-in-Destination
-returns-in-Destination t c = ends_destination _ _ _ _ _ _ _ _ _ c.in_default.ensures.begins c.in-Destination.is c.put_row.ensures
+returns-in-Destination t c = ends_destination _ _ _ _ _ _ _ _ _ _ c.in_default.ensures.begins c.in-Destination.is c.put_row.ensures
 
 pub loop-next-init : goal.loop-next-init
 loop-next-init t c = going_start _ _ _ _ _ _ c.in-Some.ensures.within c.in-Some.ensures.begins
