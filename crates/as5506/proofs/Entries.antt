@@ -2,13 +2,13 @@
 use mathlib.Core.Bool.{Bool, true, false, not, ◌&&◌, cond}
 use mathlib.Core.Path.{◌≡◌, refl, ap, ap₂, ◌∙◌, subst}
 use mathlib.Core.List.{List, [], ◌∷◌, ◌++◌, map}
-use Prim.Native.Nat.{ℕ, ◌+◌, ◌*◌, ◌≤◌}
+use Prim.Native.Nat.{ℕ, ◌≤◌}
 use native.Mathlib.Decide.{dec_le}
 use native.Mathlib.Omega.{arith}
 use lib.Dec.{T}
-use lib.ListN.{length, take, drop, get_or-eq_default}
+use lib.ListN.{length}
 use Rattle.as5506.specs.Lists.{keep, first_of, each, up_to, same_bytes, has}
-use Rattle.as5506.specs.Tables.{Tables, present, letter_n, count, n_start, n_length, name_in, name_of, Side, source, destination, other, c_name, c_parent, children_of, x_count, x_owner, x_sub, x_feat, connections_of}
+use Rattle.as5506.specs.Tables.{Tables, present, letter_n, count, name_of, Side, source, destination, other, c_name, c_parent, children_of, x_count, x_owner, x_sub, x_feat, connections_of}
 use Rattle.as5506.specs.Names.{Comparison, folded, same_folded, bracket}
 use Rattle.as5506.specs.Answers.{Refusal, Answer, given, refused}
 use Rattle.as5506.specs.Tracing.{is_named, or_elements, found_children, step_to, leads, steps_over, steps, chains_by, chains, Shape, faulty, across, upward, downward, neither, shape, named, one_to_one, Start, child, owner, pair_across, pair_up, pair_down, pairs_across, pairs_edge, pairs_by, pairs, row_of, reach, pair_rows, rows_at, traced, no_child, unequal, diags_by, diags_at, traced_diags, step_limit}
@@ -18,7 +18,7 @@ use Rattle.as5506.specs.Sheet.{read_sheet}
 use Rattle.as5506.specs.Text.{list_text}
 use Rattle.as5506.specs.Program.{rows_lent, lent, room, names_lent, text_lent, printed_or_refusal, conlist_text, of_reading, what_fits, conlist_within, conlist, conlist_ignoring_case}
 use Rattle.as5506.specs.Entries.{NamesApart, OneList, OneText}
-use Rattle.as5506.proofs.Laws.{same-bytes, bytes-same}
+use Rattle.as5506.proofs.Laws.{same-bytes, bytes-same, past-name}
 use Rattle.as5506.proofs.Scans.{keep_same}
 
 -- p takes two names of the tables for one exactly where q does
@@ -130,14 +130,6 @@ module _ (p q : Comparison) (m : Tables) (agree : Agree p q m) where
 
 -- ---- the two comparisons
 
--- past the N rows a name has no bytes
-past-names : (m : Tables) (k : ℕ) → count m letter_n ≤ k → name_of m k ≡ []
-unfolding name_in
-past-names m k h = ap (λ (n : ℕ). take n (drop (n_start m.n k) m.bytes)) none
-  where
-    none : n_length m.n k ≡ 0
-    none = get_or-eq_default m.n 0 {n = k * 2 + 1} (omega arith)
-
 none-left : (b : List ℕ) → same_folded [] b ≡ same_bytes [] b
 unfolding same_folded folded
 none-left [] = refl
@@ -167,8 +159,8 @@ names-agree : (m : Tables) → NamesApart m → Agree same_folded same_bytes m
 names-agree m h i j = go (dec_le (count m letter_n) i) (dec_le (count m letter_n) j)
   where
     go : Dec (count m letter_n ≤ i) → Dec (count m letter_n ≤ j) → same_folded (name_of m i) (name_of m j) ≡ same_bytes (name_of m i) (name_of m j)
-    go (yes u) d = rw (past-names m i u) (none-left (name_of m j))
-    go (no u) (yes v) = rw (past-names m j v) (none-right (name_of m i))
+    go (yes u) d = rw (past-name m i u) (none-left (name_of m j))
+    go (no u) (yes v) = rw (past-name m j v) (none-right (name_of m i))
     go (no u) (no v) = apart (name_of m i) (name_of m j) (h i j (omega arith) (omega arith))
 
 -- 02 (vi): "Where all names that differ also differ folded, both entries give one list"

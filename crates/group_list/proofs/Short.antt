@@ -6,16 +6,16 @@ use Prim.Native.Nat.{ℕ, suc, ◌+◌, ◌*◌, ◌/◌, ◌≤◌, ◌<◌}
 use native.Mathlib.Omega.{arith}
 use native.Mathlib.Decide.{dec_lt}
 use lib.Dec.{T, leb, leb→le}
-use lib.ListN.{length, take, drop, get_or-eq_default}
+use lib.ListN.{length}
 use Rattle.std.specs.Prelude.{Option, Some, None}
 use Rattle.as5506.specs.Lists.{keep, first_of, up_to, all_of, same_bytes}
-use Rattle.as5506.specs.Tables.{Tables, missing, present, Ref, ref, letter_n, letter_u, letter_e, count, n_start, n_length, name_in, x_count, source, destination, e_classifier, x_feat}
+use Rattle.as5506.specs.Tables.{Tables, missing, present, Ref, ref, letter_n, letter_u, letter_e, count, name_in, x_count, source, destination, e_classifier, x_feat}
 use Rattle.as5506.specs.Names.{Comparison, name_byte, good_name, key}
 use Rattle.as5506.specs.Resolve.{Resolved, component_type, component_impl, group_type, unresolved}
 use Rattle.as5506.specs.Groups.{Feature, Expansion, depth_limit, expand_feature_group, expand}
 use Rattle.as5506.specs.GroupList.{is_group_feature, type_of, declared_group, asking_package, classifier_by, declared_by, typed_by, endpoint_by, endpoint, is_group_connection, end_component, GroupConnection, group_connection, group_connections, partner, Match, matches_by, matches}
 use Rattle.as5506.specs.Refusals.{accepted}
-use Rattle.as5506.proofs.Laws.{All, all-each, all-each-of, all_keep, all-mapped, and_left, and_right}
+use Rattle.as5506.proofs.Laws.{All, all-each, all-each-of, all_keep, all-mapped, and_left, and_right, past-name}
 use Rattle.links.specs.Links.{link_of, nested_link, extends_link, inverse_link, links_to}
 use Rattle.links.specs.Walk.{groups_in}
 use Rattle.links.proofs.Tables.{links-linked}
@@ -148,16 +148,9 @@ good_length : (s : List ℕ) → T (good_name s) → length s ≤ 63
 unfolding good_name
 good_length s t = leb→le (length s) 63 (and_left (leb (length s) 63) (all_of name_byte s) (and_right (leb 1 (length s)) (leb (length s) 63 && all_of name_byte s) t))
 
--- past the table a name has no bytes
-past-short : (bytes n : List ℕ) (k : ℕ) → length n / 2 ≤ k → length (name_in bytes n k) ≤ 63
-unfolding name_in
-past-short bytes n k h =
-    let none : n_length n k ≡ 0 = get_or-eq_default n 0 {n = k * 2 + 1} (omega (arith, h)) in
-    subst (λ (l : ℕ). length (take l (drop (n_start n k) bytes)) ≤ 63) (sym none) (omega arith)
-
 pub names-short : (m : Tables) → T (accepted m) → ShortNames m
 names-short m ok k = go (dec_lt k (count m letter_n))
   where
     go : Dec (k < count m letter_n) → length (name_in m.bytes m.n k) ≤ 63
     go (yes h) = good_length (name_in m.bytes m.n k) ((facts m ok).name-good k h)
-    go (no h) = past-short m.bytes m.n k (omega (arith, h))
+    go (no h) = subst (λ (s : List ℕ). length s ≤ 63) (sym (past-name m k (omega (arith, h)))) (omega arith)

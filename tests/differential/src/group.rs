@@ -5,12 +5,12 @@ use oracle::model::{self, Renames};
 use oracle::sheet::Sheet;
 use oracle::{MOST_VISITS, endpoint, group, traced};
 
+use crate::ROW_NUMBERS;
 use crate::lent::Lent;
 use crate::library;
-use crate::link_table::{LINK_NUMBERS, LinkTable, TOO_FEW_LINKS};
-use crate::listed;
+use crate::link_table::{LinkTable, TOO_FEW_LINKS};
+use crate::listed::{self, Lengths};
 use crate::tables::Tables;
-use crate::{DIAGNOSTIC_NUMBERS, ROW_NUMBERS};
 
 /// More comparisons of features than this are not waited for.
 const MOST_COMPARISONS: u64 = 2_000_000;
@@ -30,15 +30,6 @@ pub struct Met {
     pub slow: usize,
     /// Models that were listed with other array indices as well.
     pub other_indices: usize,
-}
-
-/// The lengths of the four outputs.
-#[derive(Clone, Copy)]
-pub struct Lengths {
-    pub links: usize,
-    pub rows: usize,
-    pub names: usize,
-    pub diagnostics: usize,
 }
 
 /// The original's listing, or the refusal 13 that is owed in its place, or nothing where it cannot be waited for.
@@ -62,29 +53,18 @@ pub fn expected(sheet: &Sheet, renames: Renames) -> Option<Result<Listing, u64>>
 pub fn compare(sheet: &Sheet, renames: Renames, met: &mut Met) -> Result<(), String> {
     let tables = Tables::of(sheet);
     let links = LinkTable::of(sheet);
-    let conlist = Lengths {
-        links: links.length(),
-        rows: 64 * ROW_NUMBERS,
-        names: 4096,
-        diagnostics: 64 * DIAGNOSTIC_NUMBERS,
-    };
+    let conlist = Lengths::of_conlist(links.length());
     let listing = match expected(sheet, renames) {
         None => {
             met.slow += 1;
             return too_few_links(&tables, conlist, met);
         }
         Some(Err(number)) => {
-            refused(
-                &tables,
-                Lengths {
-                    links: links.length(),
-                    rows: 0,
-                    names: 0,
-                    diagnostics: 0,
-                },
-                number,
-                met,
-            )?;
+            let links_alone = Lengths {
+                links: links.length(),
+                ..Lengths::default()
+            };
+            refused(&tables, links_alone, number, met)?;
             refused(&tables, conlist, number, met)?;
             return too_few_links(&tables, conlist, met);
         }
@@ -92,27 +72,10 @@ pub fn compare(sheet: &Sheet, renames: Renames, met: &mut Met) -> Result<(), Str
     };
     met.rows += listing.rows.len();
     met.diagnostics += listing.diagnostics.len();
-    let exact = Lengths {
-        links: links.length(),
-        rows: listing.rows.len() * ROW_NUMBERS,
-        names: composed_bytes(&listing),
-        diagnostics: listing.diagnostics.len() * DIAGNOSTIC_NUMBERS,
-    };
+    let exact = Lengths::of(links.length(), &listing, composed_bytes(&listing));
     listed(&tables, exact, &links, &listing, met)?;
-    let more = Lengths {
-        links: exact.links + LINK_NUMBERS - 1,
-        rows: exact.rows + ROW_NUMBERS - 1,
-        names: exact.names + 1,
-        diagnostics: exact.diagnostics + DIAGNOSTIC_NUMBERS - 1,
-    };
-    listed(&tables, more, &links, &listing, met)?;
-    let huge = Lengths {
-        links: exact.links + 1000,
-        rows: exact.rows + 100 * ROW_NUMBERS,
-        names: exact.names + 10_000,
-        diagnostics: exact.diagnostics + 1000,
-    };
-    listed(&tables, huge, &links, &listing, met)?;
+    listed(&tables, exact.a_little_more(), &links, &listing, met)?;
+    listed(&tables, exact.far_more(), &links, &listing, met)?;
     listed(&tables.with_more_names(), exact, &links, &listing, met)?;
     listed(&tables.with_large_places(), exact, &links, &listing, met)?;
     if let Some(other) = tables.with_other_indices() {
@@ -146,19 +109,10 @@ fn too_short(tables: &Tables, exact: Lengths, met: &mut Met) -> Result<(), Strin
     Ok(())
 }
 
-/// Links one number too short, and none, the other outputs long enough and without a place: 22 stands before 11 to 14.
+/// Outputs with too few links are refused 22.
 fn too_few_links(tables: &Tables, enough: Lengths, met: &mut Met) -> Result<(), String> {
-    for links in [enough.links - 1, 0] {
-        refused(tables, Lengths { links, ..enough }, TOO_FEW_LINKS, met)?;
-        let no_place = Lengths {
-            links,
-            rows: 0,
-            names: 0,
-            diagnostics: 0,
-        };
-        refused(tables, no_place, TOO_FEW_LINKS, met)?;
-    }
-    Ok(())
+    let mut all = enough.with_too_few_links().into_iter();
+    all.try_for_each(|lengths| refused(tables, lengths, TOO_FEW_LINKS, met))
 }
 
 struct Called {

@@ -255,73 +255,60 @@ impl Met {
     }
 }
 
-/// The cases on standard input.
-fn given() -> Vec<Case> {
+/// Compares the cases on standard input; how many there are, and how many differ.
+fn compared(mut compare: impl FnMut(&Case) -> Result<(), String>) -> (usize, usize) {
     let mut bytes = Vec::new();
     std::io::stdin().read_to_end(&mut bytes).expect("a stream");
-    stream::read(&bytes).expect("a stream")
+    let cases = stream::read(&bytes).expect("a stream");
+    let differs = |case: &&Case| told(&case.label, compare(case));
+    (cases.len(), cases.iter().filter(differs).count())
+}
+
+/// Whether what is named differs; then it is told.
+fn told(name: &str, outcome: Result<(), String>) -> bool {
+    if let Err(what) = &outcome {
+        println!("DIFFERS {name}: {what}");
+    }
+    outcome.is_err()
+}
+
+/// The exit code of a run that is good or not.
+fn code(good: bool) -> ExitCode {
+    if good {
+        ExitCode::SUCCESS
+    } else {
+        ExitCode::FAILURE
+    }
 }
 
 /// The cases on standard input with their texts.
 fn known_texts() -> ExitCode {
     let mut met = damaged::Met::default();
-    let (mut cases, mut differing) = (0, 0);
-    for case in given() {
-        cases += 1;
-        if let Err(what) = damaged::compare(&case, &mut met) {
-            println!("DIFFERS {}: {what}", case.label);
-            differing += 1;
-        }
-    }
+    let (cases, differing) = compared(|case| damaged::compare(case, &mut met));
     println!(
         "{cases} sheets with known texts, {differing} differ; refused {REFUSALS_OF_LINES:?}: {:?}, refused {REFUSALS_OF_TABLES:?}: {:?}, {} read and accepted; {} calls for text, {} on tables",
         met.refused, met.unaccepted.refused, met.read, met.text.calls, met.unaccepted.calls,
     );
-    if differing == 0 && cases > 0 {
-        ExitCode::SUCCESS
-    } else {
-        ExitCode::FAILURE
-    }
+    code(differing == 0 && cases > 0)
 }
 
 /// The cases on standard input with the texts of the second entry.
 fn known_texts_ignoring_case() -> ExitCode {
-    let (mut met, mut differing) = (ignoring_case::Met::default(), 0);
-    for case in given() {
-        if let Err(what) = ignoring_case::compare_text(&case, &mut met) {
-            println!("DIFFERS {}: {what}", case.label);
-            differing += 1;
-        }
-    }
+    let mut met = ignoring_case::Met::default();
+    let (_, differing) = compared(|case| ignoring_case::compare_text(case, &mut met));
     met.print();
     println!("{} models ignoring case, {differing} differ", met.models);
-    if differing == 0 && met.is_whole() {
-        ExitCode::SUCCESS
-    } else {
-        ExitCode::FAILURE
-    }
+    code(differing == 0 && met.is_whole())
 }
 
 /// The cases on standard input with their link tables.
 fn known_links() -> ExitCode {
-    let (mut met, mut differing) = (links::Met::default(), 0);
-    for case in given() {
-        if let Err(what) = links::compare(&case, &mut met) {
-            println!("DIFFERS {}: {what}", case.label);
-            differing += 1;
-        }
-    }
-    if let Err(what) = links::compare_large(&mut met) {
-        println!("DIFFERS {what}");
-        differing += 1;
-    }
+    let mut met = links::Met::default();
+    let (_, mut differing) = compared(|case| links::compare(case, &mut met));
+    differing += usize::from(told("large tables", links::compare_large(&mut met)));
     met.print();
     println!("{} models with links, {differing} differ", met.models);
-    if differing == 0 && met.is_whole() {
-        ExitCode::SUCCESS
-    } else {
-        ExitCode::FAILURE
-    }
+    code(differing == 0 && met.is_whole())
 }
 
 /// Selections of modes alone.
@@ -330,24 +317,14 @@ fn modes_alone(count: u64, first: u64) -> ExitCode {
     for seed in first..first + count {
         let case = case(Sort::Modal, seed);
         let sheet = Sheet::accepted(&case.sheet).expect("accepted");
-        if let Err(what) = modes::compare(&sheet, &mut met) {
-            println!("DIFFERS {}: {what}", case.label);
-            differing += 1;
-        }
+        differing += usize::from(told(&case.label, modes::compare(&sheet, &mut met)));
     }
     let generated = met;
-    if let Err(what) = modes::compare_large(&mut met) {
-        println!("DIFFERS {what}");
-        differing += 1;
-    }
+    differing += usize::from(told("large tables", modes::compare_large(&mut met)));
     met.print();
     println!("{} models, {differing} differ", met.models);
     let modal = generated.with_modes == generated.models && 10 * generated.cut >= generated.models;
-    if differing == 0 && modal && met.is_whole() {
-        ExitCode::SUCCESS
-    } else {
-        ExitCode::FAILURE
-    }
+    code(differing == 0 && modal && met.is_whole())
 }
 
 /// COUNT and FIRST, if these are all words that are left.
@@ -391,22 +368,14 @@ fn all(count: u64, first: u64) -> ExitCode {
     for seed in first..first + count {
         met.compare_generated(&case(Sort::Accepted, seed));
     }
-    if let Err(what) = modes::compare_large(&mut met.modes) {
-        println!("DIFFERS {what}");
-        met.differing += 1;
-    }
-    let mut told = damaged::Met::default();
+    let large = modes::compare_large(&mut met.modes);
+    met.differing += usize::from(told("large tables", large));
+    let mut texts = damaged::Met::default();
     for case in differences() {
-        if let Err(what) = damaged::compare(&case, &mut told) {
-            println!("DIFFERS {}: {what}", case.label);
-            met.differing += 1;
-        }
+        let outcome = damaged::compare(&case, &mut texts);
+        met.differing += usize::from(told(&case.label, outcome));
     }
     met.print();
-    println!("differences: {} sheets", told.text.sheets);
-    if met.passes() {
-        ExitCode::SUCCESS
-    } else {
-        ExitCode::FAILURE
-    }
+    println!("differences: {} sheets", texts.text.sheets);
+    code(met.passes())
 }

@@ -7,10 +7,10 @@ use oracle::{model, traced};
 
 use crate::lent::Lent;
 use crate::library;
-use crate::link_table::{LINK_NUMBERS, LinkTable, TOO_FEW_LINKS};
-use crate::listed;
+use crate::link_table::{LinkTable, TOO_FEW_LINKS};
+use crate::listed::{self, Lengths};
 use crate::tables::Tables;
-use crate::{DIAGNOSTIC_NUMBERS, MOST_ROWS, ROW_NUMBERS};
+use crate::{MOST_ROWS, ROW_NUMBERS};
 
 /// How often what was met, over all sheets.
 #[derive(Default)]
@@ -26,14 +26,6 @@ pub struct Met {
     pub other_indices: usize,
 }
 
-/// The lengths of the three outputs.
-#[derive(Clone, Copy)]
-struct Lengths {
-    links: usize,
-    rows: usize,
-    diagnostics: usize,
-}
-
 /// The original's listing; nothing where it has more rows than are collected.
 pub fn expected(sheet: &Sheet) -> Option<Listing> {
     let ends = traced::row_count(sheet) <= MOST_ROWS;
@@ -46,11 +38,7 @@ pub fn compare(sheet: &Sheet, met: &mut Met) -> Result<(), String> {
     let links = LinkTable::of(sheet);
     let Some(listing) = expected(sheet) else {
         met.endless += 1;
-        let conlist = Lengths {
-            links: links.length(),
-            rows: 64 * ROW_NUMBERS,
-            diagnostics: 64 * DIAGNOSTIC_NUMBERS,
-        };
+        let conlist = Lengths::of_conlist(links.length());
         refused(&tables, conlist, 11, met)?;
         return too_few_links(&tables, conlist, met);
     };
@@ -61,29 +49,15 @@ pub fn compare(sheet: &Sheet, met: &mut Met) -> Result<(), String> {
         links: &links,
         listing: &listing,
     };
-    let exact = Lengths {
-        links: links.length(),
-        rows: listing.rows.len() * ROW_NUMBERS,
-        diagnostics: listing.diagnostics.len() * DIAGNOSTIC_NUMBERS,
-    };
+    let exact = Lengths::of(links.length(), &listing, 0);
     listed(&tables, exact, &due, met)?;
     listed(&tables.with_large_places(), exact, &due, met)?;
     if let Some(other) = tables.with_other_indices() {
         met.other_indices += 1;
         listed(&other, exact, &due, met)?;
     }
-    let more = Lengths {
-        links: exact.links + LINK_NUMBERS - 1,
-        rows: exact.rows + ROW_NUMBERS - 1,
-        diagnostics: exact.diagnostics + DIAGNOSTIC_NUMBERS - 1,
-    };
-    listed(&tables, more, &due, met)?;
-    let huge = Lengths {
-        links: exact.links + 1000,
-        rows: exact.rows + 100 * ROW_NUMBERS,
-        diagnostics: exact.diagnostics + 1000,
-    };
-    listed(&tables, huge, &due, met)?;
+    listed(&tables, exact.a_little_more(), &due, met)?;
+    listed(&tables, exact.far_more(), &due, met)?;
     too_short(&tables, exact, met)?;
     too_few_links(&tables, exact, met)
 }
@@ -108,18 +82,10 @@ fn too_short(tables: &Tables, exact: Lengths, met: &mut Met) -> Result<(), Strin
     Ok(())
 }
 
-/// Links one number too short, and none, the other outputs long enough and without a place: 22 stands before 11 and 12.
+/// Outputs with too few links are refused 22.
 fn too_few_links(tables: &Tables, enough: Lengths, met: &mut Met) -> Result<(), String> {
-    for links in [enough.links - 1, 0] {
-        refused(tables, Lengths { links, ..enough }, TOO_FEW_LINKS, met)?;
-        let no_place = Lengths {
-            links,
-            rows: 0,
-            diagnostics: 0,
-        };
-        refused(tables, no_place, TOO_FEW_LINKS, met)?;
-    }
-    Ok(())
+    let mut all = enough.with_too_few_links().into_iter();
+    all.try_for_each(|lengths| refused(tables, lengths, TOO_FEW_LINKS, met))
 }
 
 struct Called {
