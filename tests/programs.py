@@ -33,3 +33,8 @@ def generated(first, count, *options):
 def answered(some, *options):
     """The same cases with the original's texts; with none where it does not accept the sheet."""
     return list(cases.read(output("oracle", "--stream", *options, given=cases.stream(some))))
+
+
+def lifted(some, *options):
+    """The same cases with the texts of the copy of the original whose chains have no limit on their steps."""
+    return answered(some, "--lifted", *options)

@@ -1,7 +1,7 @@
 /* The library for C. Each slice crosses as two arguments, a pointer and a count; an answer is told in numbers.
 
    No pointer is null, and no slice that is written overlaps another. A slice of `uint32_t` holds whole rows, one behind the other: of the tables
-   N C F X P I T Q U E R M a row has 2 9 3 7 1 2 3 4 9 8 5 3 numbers, of links 2, of a listing 49, of diagnostics 4, of an expansion 14, of a selection of
+   N C F X P I T Q U E R M a row has 2 9 3 7 1 2 3 4 9 8 5 3 numbers, of links 2, of a listing 137, of diagnostics 4, of an expansion 14, of a selection of
    modes 1.
    The numbers of a C row are name, parent, present, high, low, package, type, pattern and place. Present, high and low are the array index, of 64 bits:
    1, its high 32 bits and its low 32 bits, or three zeros where it is missing; with present above 1, or 0 and other bits set, a call refuses with 6. Any
@@ -12,6 +12,14 @@
    the rows of C, of its first child and its next sibling, in the order of their places; each is missing where there is none, and the root has no
    sibling. There have to be at least as many whole rows of it as there are components. With fewer, a call refuses with 22, behind the refusals of tables
    and before those of a list; the place of 22 is 0, and its letter `-`.
+
+   A row of a listing is connection, kind, two components, three name fields, the length of its path and 129 places, of which so many hold the connections of
+   the path and the others 0. The name fields of a traced row are numbers of N rows; those of a group row say how many bytes of `names` each name has.
+
+   `limit` says how many steps a chain may have, that is how many levels a traced connection is followed inwards from each of its ends: 0 to 64, and usually 20, by
+   which the programs list where none is named. The calls that give traced rows take it behind the tables, `conlist_list_sheet` behind the sheet; the call for
+   the group listing alone takes none. A limit above 64 is refused with 19, before all refusals of tables and, where a sheet is read, behind those of reading,
+   which are 1 to 5; the place of 19 is 0, and its letter `-`.
 
    Both listings have two entries, the ported one, which compares names as the original does, and the second, whose calls are the two that end in `ignoring_case` and `ignoring_case_with_records`.
    All other calls go by the ported one.
@@ -46,7 +54,7 @@ struct conlist_diagnostic {
         const uint32_t *m, size_t m_length
 
 /* Prints as `list_sheet` does: how many bytes of text there are. */
-size_t conlist_list_sheet(const uint8_t *sheet, size_t sheet_length, uint8_t *text, size_t text_length);
+size_t conlist_list_sheet(const uint8_t *sheet, size_t sheet_length, uint64_t limit, uint8_t *text, size_t text_length);
 
 /* Reads as `read_sheet` does. `told` then holds 0, the bytes of names and the rows of each letter that were read, or a refusal's number, place and
    letter and zeros. */
@@ -67,9 +75,9 @@ void conlist_expand_feature_group(CONLIST_TABLES, uint32_t *out, size_t out_leng
 
 /* Lists as `compute_semantic_connections` does. `told` then holds 0, the rows and the diagnostics that were written, or a refusal's number, place and
    letter. */
-void conlist_compute_semantic_connections(CONLIST_TABLES, uint32_t *links, size_t links_length, uint32_t *rows,
-                                          size_t rows_length, uint32_t *diagnostics, size_t diagnostics_length,
-                                          uint64_t told[3]);
+void conlist_compute_semantic_connections(CONLIST_TABLES, uint64_t limit, uint32_t *links, size_t links_length,
+                                          uint32_t *rows, size_t rows_length, uint32_t *diagnostics,
+                                          size_t diagnostics_length, uint64_t told[3]);
 
 /* Lists as `expand_feature_group_connections` does. `told` then holds 0, the rows and the diagnostics that were written, or a refusal's number, place
    and letter. */
@@ -79,26 +87,27 @@ void conlist_expand_feature_group_connections(CONLIST_TABLES, uint32_t *links, s
 
 /* Lists as `list_connections` does. `told` then holds 0, the traced rows and diagnostics and the group rows and diagnostics that were written, or a
    refusal's number, place and letter and two zeros. */
-void conlist_list_connections(CONLIST_TABLES, uint32_t *links, size_t links_length, uint32_t *rows, size_t rows_length,
-                              uint32_t *diagnostics, size_t diagnostics_length, uint32_t *group_rows,
-                              size_t group_rows_length, uint8_t *names, size_t names_length,
+void conlist_list_connections(CONLIST_TABLES, uint64_t limit, uint32_t *links, size_t links_length, uint32_t *rows,
+                              size_t rows_length, uint32_t *diagnostics, size_t diagnostics_length,
+                              uint32_t *group_rows, size_t group_rows_length, uint8_t *names, size_t names_length,
                               uint32_t *group_diagnostics, size_t group_diagnostics_length, uint64_t told[5]);
 
 /* Lists as `list_connections` does, from the second entry: names that differ in the case of letters A to Z alone are one where tracing compares
    features and where a child is found by its whole name. It refuses by the same rules, over its own lists. `told` is as above. Where all names
    that differ also differ in more than letter case, both entries give one list. */
-void conlist_list_connections_ignoring_case(CONLIST_TABLES, uint32_t *links, size_t links_length, uint32_t *rows,
-                                            size_t rows_length, uint32_t *diagnostics, size_t diagnostics_length,
-                                            uint32_t *group_rows, size_t group_rows_length, uint8_t *names,
-                                            size_t names_length, uint32_t *group_diagnostics,
+void conlist_list_connections_ignoring_case(CONLIST_TABLES, uint64_t limit, uint32_t *links, size_t links_length,
+                                            uint32_t *rows, size_t rows_length, uint32_t *diagnostics,
+                                            size_t diagnostics_length, uint32_t *group_rows, size_t group_rows_length,
+                                            uint8_t *names, size_t names_length, uint32_t *group_diagnostics,
                                             size_t group_diagnostics_length, uint64_t told[5]);
 
 /* The same four with the diagnostics in records of the caller's, `out`. There is room for as many as there are records, and for no more than a quarter of
    the `numbers`; beyond that the call refuses with 12. The numbers hold the diagnostics too. */
-void conlist_compute_semantic_connections_with_records(CONLIST_TABLES, uint32_t *links, size_t links_length,
-                                                       uint32_t *rows, size_t rows_length, uint32_t *numbers,
-                                                       size_t numbers_length, struct conlist_diagnostic *out,
-                                                       size_t out_length, uint64_t told[3]);
+void conlist_compute_semantic_connections_with_records(CONLIST_TABLES, uint64_t limit, uint32_t *links,
+                                                       size_t links_length, uint32_t *rows, size_t rows_length,
+                                                       uint32_t *numbers, size_t numbers_length,
+                                                       struct conlist_diagnostic *out, size_t out_length,
+                                                       uint64_t told[3]);
 
 void conlist_expand_feature_group_connections_with_records(CONLIST_TABLES, uint32_t *links, size_t links_length,
                                                            uint32_t *rows, size_t rows_length, uint8_t *names,
@@ -106,20 +115,21 @@ void conlist_expand_feature_group_connections_with_records(CONLIST_TABLES, uint3
                                                            size_t numbers_length, struct conlist_diagnostic *out,
                                                            size_t out_length, uint64_t told[3]);
 
-void conlist_list_connections_with_records(CONLIST_TABLES, uint32_t *links, size_t links_length, uint32_t *rows,
-                                           size_t rows_length, uint32_t *numbers, size_t numbers_length,
-                                           struct conlist_diagnostic *out, size_t out_length, uint32_t *group_rows,
-                                           size_t group_rows_length, uint8_t *names, size_t names_length,
-                                           uint32_t *group_numbers, size_t group_numbers_length,
+void conlist_list_connections_with_records(CONLIST_TABLES, uint64_t limit, uint32_t *links, size_t links_length,
+                                           uint32_t *rows, size_t rows_length, uint32_t *numbers,
+                                           size_t numbers_length, struct conlist_diagnostic *out, size_t out_length,
+                                           uint32_t *group_rows, size_t group_rows_length, uint8_t *names,
+                                           size_t names_length, uint32_t *group_numbers, size_t group_numbers_length,
                                            struct conlist_diagnostic *group_out, size_t group_out_length,
                                            uint64_t told[5]);
 
-void conlist_list_connections_ignoring_case_with_records(CONLIST_TABLES, uint32_t *links, size_t links_length,
-                                                         uint32_t *rows, size_t rows_length, uint32_t *numbers,
-                                                         size_t numbers_length, struct conlist_diagnostic *out,
-                                                         size_t out_length, uint32_t *group_rows,
-                                                         size_t group_rows_length, uint8_t *names, size_t names_length,
-                                                         uint32_t *group_numbers, size_t group_numbers_length,
+void conlist_list_connections_ignoring_case_with_records(CONLIST_TABLES, uint64_t limit, uint32_t *links,
+                                                         size_t links_length, uint32_t *rows, size_t rows_length,
+                                                         uint32_t *numbers, size_t numbers_length,
+                                                         struct conlist_diagnostic *out, size_t out_length,
+                                                         uint32_t *group_rows, size_t group_rows_length,
+                                                         uint8_t *names, size_t names_length, uint32_t *group_numbers,
+                                                         size_t group_numbers_length,
                                                          struct conlist_diagnostic *group_out, size_t group_out_length,
                                                          uint64_t told[5]);
 

@@ -1,9 +1,12 @@
-/* Prints the connection list of a sheet on standard input, as conlist does; then reads the sheet into tables, and sees that the calls over tables
-   agree with one another: the listings each by itself and both in one call, by the ported entry, and where no names differ in letter case alone by the second
-   one too; diagnostics as numbers and as records; and that each leaves the link table, or refuses where there is no room for it. Then it gives two components modes, and asks for their selections; and changes the array indices: any bits list the same, and numbers that
-   no index has are refused. Last it lists a small sheet of its own, of which the two entries give different lists. */
+/* Prints the connection list of a sheet on standard input, as conlist does with the same argument; then reads the sheet into tables, and sees that the calls over
+   tables agree with one another, under the usual limit: the listings each by itself and both in one call, by the ported entry, and where no names differ in letter
+   case alone by the second one too; diagnostics as numbers and as records; and that each leaves the link table, or refuses where there is no room for it, or where
+   the limit is too large. Then it gives two components modes, and asks for their selections; and changes the array indices: any bits list the same, and numbers
+   that no index has are refused. Last it lists two small sheets of its own: one of which the two entries give different lists, and one of boxes in one another,
+   of which each limit gives as much as it allows. */
 #include "conlist.h"
 #include <ctype.h>
+#include <stdarg.h>
 #include <stdio.h>
 #include <stdlib.h>
 #include <string.h>
@@ -51,9 +54,17 @@ enum { parent = 1, place = 8 };
 /* the numbers of a row of links: the first child and the next sibling */
 enum { first_child, next_sibling, numbers_of_links };
 
+/* the numbers of a row of a listing, which has places for 129 connections of its path */
+enum { numbers_of_row = 8 + 129 };
+
+/* the limit on steps that is the usual one, and the largest that is not refused */
+enum { usual_limit = 20, largest_limit = 64 };
+
 /* the outputs of a listing by itself, and of both in one call */
-static uint32_t rows[64 * 49], diagnostics[64 * 4], group_rows[64 * 49], group_diagnostics[64 * 4], features[64 * 14];
-static uint32_t both_rows[64 * 49], both_diagnostics[64 * 4], both_group_rows[64 * 49], both_group_diagnostics[64 * 4];
+static uint32_t rows[64 * numbers_of_row], diagnostics[64 * 4], features[64 * 14];
+static uint32_t group_rows[64 * numbers_of_row], group_diagnostics[64 * 4];
+static uint32_t both_rows[64 * numbers_of_row], both_diagnostics[64 * 4];
+static uint32_t both_group_rows[64 * numbers_of_row], both_group_diagnostics[64 * 4];
 static uint32_t links[96 * numbers_of_links];
 static uint8_t names[4096], both_names[4096];
 static struct conlist_diagnostic records[64], group_records[64];
@@ -144,48 +155,103 @@ static void expect_group(void) {
     expect(memcmp(group_records, group_diagnostics, sizeof group_diagnostics) == 0, "another group record");
 }
 
-/* A link table with one number too few is refused, before rows that are too short, and every output is left zero. */
-static void expect_too_few_links(void) {
-    enum { traced, group, both, calls = both + number_of_entries };
-    size_t length = read[rows_of_c] * numbers_of_links - 1;
-    uint64_t told[5];
-    for (int number = 0; number < 2 * calls; number++) {
-        int call = number % calls;
-        size_t lent = number < calls ? COUNT(both_rows) : 0;
+/* the calls that list: the traced listing, the group listing, which takes no limit, and both by each entry */
+enum { of_traced, of_group, of_both, number_of_calls = of_both + number_of_entries };
+
+/* Lists by a call over numbers, under a limit, with so many numbers of room for links and for the rows of each listing. */
+static void list_numbers(int call, uint64_t limit, size_t links_lent, size_t rows_lent, uint64_t told[5]) {
+    switch (call) {
+    case of_traced:
+        conlist_compute_semantic_connections(TABLES, limit, links, links_lent, both_rows, rows_lent,
+                                             WHOLE(both_diagnostics), told);
+        break;
+    case of_group:
+        conlist_expand_feature_group_connections(TABLES, links, links_lent, both_group_rows, rows_lent,
+                                                 WHOLE(both_names), WHOLE(both_group_diagnostics), told);
+        break;
+    default:
+        entries[call - of_both](TABLES, limit, links, links_lent, both_rows, rows_lent, WHOLE(both_diagnostics),
+                                both_group_rows, rows_lent, WHOLE(both_names), WHOLE(both_group_diagnostics), told);
+    }
+}
+
+/* The same with records. */
+static void list_records(int call, uint64_t limit, size_t links_lent, size_t rows_lent, uint64_t told[5]) {
+    switch (call) {
+    case of_traced:
+        conlist_compute_semantic_connections_with_records(TABLES, limit, links, links_lent, both_rows, rows_lent,
+                                                          WHOLE(both_diagnostics), WHOLE(records), told);
+        break;
+    case of_group:
+        conlist_expand_feature_group_connections_with_records(TABLES, links, links_lent, both_group_rows, rows_lent,
+                                                              WHOLE(both_names), WHOLE(both_group_diagnostics),
+                                                              WHOLE(group_records), told);
+        break;
+    default:
+        entries_with_records[call - of_both](TABLES, limit, links, links_lent, both_rows, rows_lent,
+                                             WHOLE(both_diagnostics), WHOLE(records), both_group_rows, rows_lent,
+                                             WHOLE(both_names), WHOLE(both_group_diagnostics), WHOLE(group_records),
+                                             told);
+    }
+}
+
+static __typeof__(list_numbers) *const forms[] = {list_numbers, list_records};
+
+/* A call, over numbers and with records, is refused so, and every output that it was lent is left zero. */
+static void expect_refused(int call, uint64_t limit, size_t links_lent, size_t rows_lent, uint64_t refusal) {
+    static const struct conlist_diagnostic none[COUNT(records)];
+    for (size_t form = 0; form < COUNT(forms); form++) {
+        uint64_t told[5] = {0};
         spoil();
-        switch (call) {
-        case traced:
-            conlist_compute_semantic_connections(TABLES, links, length, both_rows, lent, WHOLE(both_diagnostics), told);
-            break;
-        case group:
-            conlist_expand_feature_group_connections(TABLES, links, length, both_group_rows, lent, WHOLE(both_names),
-                                                     WHOLE(both_group_diagnostics), told);
-            break;
-        default:
-            entries[call - both](TABLES, links, length, both_rows, lent, WHOLE(both_diagnostics), both_group_rows, lent,
-                                 WHOLE(both_names), WHOLE(both_group_diagnostics), told);
-            expect(told[3] == 0 && told[4] == 0, "more than a refusal of links is told");
-        }
-        expect(told[0] == 22 && told[1] == 0 && told[2] == '-', "too few links are not refused");
-        expect_zeros(links, length, "refused output of links is not zero");
-        if (call != group) {
-            expect_zeros(both_rows, lent, "refused output of rows is not zero");
+        forms[form](call, limit, links_lent, rows_lent, told);
+        expect(told[0] == refusal && told[1] == 0 && told[2] == '-', "another refusal of a listing");
+        expect(told[3] == 0 && told[4] == 0, "more than a refusal of a listing is told");
+        expect_zeros(links, links_lent, "refused output of links is not zero");
+        if (call != of_group) {
+            expect_zeros(both_rows, rows_lent, "refused output of rows is not zero");
             expect_zeros(WHOLE(both_diagnostics), "refused output of diagnostics is not zero");
+            expect(form == 0 || memcmp(records, none, sizeof none) == 0, "refused records are not zero");
         }
-        if (call != traced) {
-            expect_zeros(both_group_rows, lent, "refused output of group rows is not zero");
+        if (call != of_traced) {
+            expect_zeros(both_group_rows, rows_lent, "refused output of group rows is not zero");
             expect_zeros(WHOLE(both_group_diagnostics), "refused output of group diagnostics is not zero");
+            expect(form == 0 || memcmp(group_records, none, sizeof none) == 0, "refused group records are not zero");
             expect_no_names();
         }
     }
+}
+
+/* A link table with one number too few is refused, before rows that are too short. */
+static void expect_too_few_links(void) {
+    size_t length = read[rows_of_c] * numbers_of_links - 1;
+    for (int call = 0; call < number_of_calls; call++) {
+        expect_refused(call, usual_limit, length, COUNT(both_rows), 22);
+        expect_refused(call, usual_limit, length, 0, 22);
+    }
+}
+
+/* A limit that is too large is refused, before a link table with one number too few; and before tables that are refused, here those of a root with a parent. */
+static void expect_too_large_limits(void) {
+    static const uint64_t limits[] = {largest_limit + 1, (uint64_t)UINT32_MAX + 1 + usual_limit, UINT64_MAX};
+    size_t length = read[rows_of_c] * numbers_of_links - 1;
+    uint64_t checked[3];
+    for (int call = 0; call < number_of_calls; call++)
+        for (size_t at = 0; at < COUNT(limits) && call != of_group; at++) {
+            expect_refused(call, limits[at], COUNT(links), COUNT(both_rows), 19);
+            expect_refused(call, limits[at], length, 0, 19);
+            c[parent] = 0;
+            conlist_check_tables(TABLES, checked);
+            expect(checked[0] == 7, "a root with a parent is not refused");
+            expect_refused(call, limits[at], length, 0, 19);
+            c[parent] = MISSING;
+        }
 }
 
 /* Both listings by an entry give what the listings give each by itself, over numbers and with records. */
 static void expect_both(int entry, const uint64_t traced[3], const uint64_t grouped[3]) {
     uint64_t both[5], recorded[5];
     spoil_links();
-    entries[entry](TABLES, WHOLE(links), WHOLE(both_rows), WHOLE(both_diagnostics), WHOLE(both_group_rows),
-                   WHOLE(both_names), WHOLE(both_group_diagnostics), both);
+    list_numbers(of_both + entry, usual_limit, COUNT(links), COUNT(both_rows), both);
     expect_links(COUNT(links));
     expect(both[0] == 0, "both listings are refused");
     expect(both[1] == traced[1] && both[2] == traced[2] && both[3] == grouped[1] && both[4] == grouped[2], "other counts");
@@ -196,9 +262,7 @@ static void expect_both(int entry, const uint64_t traced[3], const uint64_t grou
            "another group list");
 
     spoil();
-    entries_with_records[entry](TABLES, WHOLE(links), WHOLE(both_rows), WHOLE(both_diagnostics), WHOLE(records),
-                                WHOLE(both_group_rows), WHOLE(both_names), WHOLE(both_group_diagnostics),
-                                WHOLE(group_records), recorded);
+    list_records(of_both + entry, usual_limit, COUNT(links), COUNT(both_rows), recorded);
     expect(memcmp(recorded, both, sizeof both) == 0, "other counts with records");
     expect_links(COUNT(links));
     expect_traced();
@@ -294,7 +358,8 @@ static void expect_any_index(void) {
     uint64_t told[3];
     size_t enough = read[rows_of_c] * numbers_of_links;
     spoil_links();
-    conlist_compute_semantic_connections(TABLES, links, enough, WHOLE(both_rows), WHOLE(both_diagnostics), told);
+    conlist_compute_semantic_connections(TABLES, usual_limit, links, enough, WHOLE(both_rows), WHOLE(both_diagnostics),
+                                         told);
     expect(told[0] == 0, "array indices of all bits, or just enough links, are refused");
     expect(memcmp(both_rows, rows, sizeof rows) == 0 && memcmp(both_diagnostics, diagnostics, sizeof diagnostics) == 0,
            "another traced list with array indices of all bits");
@@ -335,7 +400,7 @@ static const char letter_case[] = "N root\n"
 /* The traced listing that each entry gives of it, and zeros behind. There is no group listing. */
 struct list {
     size_t row_count, diagnostic_count;
-    uint32_t rows[3][49], diagnostics[3][4];
+    uint32_t rows[3][numbers_of_row], diagnostics[3][4];
 };
 static const struct list lists[] = {
     {1, 2, {{0, 0, 1, 2, 4, 5, 5, 1, 0}}, {{3, 2, 7, 0}, {2, 3, 8, 0}}},
@@ -371,22 +436,89 @@ static void expect_letter_case(void) {
             size_t rows_lent = lent / 4, diagnostics_lent = lent % 4;
             uint64_t told[5];
             spoil();
-            entries[entry](TABLES, WHOLE(links), both_rows, rows_lent * 49, both_diagnostics, diagnostics_lent * 4,
-                           WHOLE(both_group_rows), WHOLE(both_names), WHOLE(both_group_diagnostics), told);
+            entries[entry](TABLES, usual_limit, WHOLE(links), both_rows, rows_lent * numbers_of_row, both_diagnostics,
+                           diagnostics_lent * 4, WHOLE(both_group_rows), WHOLE(both_names),
+                           WHOLE(both_group_diagnostics), told);
             expect_list(entry, rows_lent, diagnostics_lent, told);
             spoil();
-            entries_with_records[entry](TABLES, WHOLE(links), both_rows, rows_lent * 49, WHOLE(both_diagnostics), records,
-                                        diagnostics_lent, WHOLE(both_group_rows), WHOLE(both_names),
-                                        WHOLE(both_group_diagnostics), WHOLE(group_records), told);
+            entries_with_records[entry](TABLES, usual_limit, WHOLE(links), both_rows, rows_lent * numbers_of_row,
+                                        WHOLE(both_diagnostics), records, diagnostics_lent, WHOLE(both_group_rows),
+                                        WHOLE(both_names), WHOLE(both_group_diagnostics), WHOLE(group_records), told);
             expect_list(entry, rows_lent, diagnostics_lent, told);
             expect(memcmp(records, both_diagnostics, diagnostics_lent * sizeof records[0]) == 0, "other records");
         }
     expect_too_few_links();
 }
 
-int main(void) {
+/* A model with boxes a, b and c in one another: a wire from the root's port to a, and one further in each box, so that the way has two steps where no limit ends it. */
+static const char nested[] = "N root\n"
+                             "N a\n"
+                             "N b\n"
+                             "N c\n"
+                             "N wire\n"
+                             "N f\n"
+                             "C     0     -                   -     0     0     -     0\n"
+                             "C     1     0                   -     0     0     -     0\n"
+                             "C     2     1                   -     0     0     -     0\n"
+                             "C     3     2                   -     0     0     -     0\n"
+                             "X     4     0     0     -     5     1     5\n"
+                             "X     4     1     0     -     5     2     5\n"
+                             "X     4     2     0     -     5     3     5\n";
+
+/* The text of a sheet under a limit, and zeros behind. */
+static void expect_text(const char *of, size_t length, uint64_t limit, const char *form, ...) {
+    char due[COUNT(text)] = {0};
+    va_list values;
+    va_start(values, form);
+    size_t due_length = (size_t)vsnprintf(due, sizeof due, form, values);
+    va_end(values);
+    memset(text, 0xA5, sizeof text);
+    size_t used = conlist_list_sheet((const uint8_t *)of, length, limit, WHOLE(text));
+    expect(used == due_length && memcmp(text, due, sizeof text) == 0, "another text under a limit");
+}
+
+/* Under a limit the way has so many steps: the row that each call gives, and zeros behind; and the text. */
+static void expect_steps(uint64_t limit, uint32_t steps) {
+    static const char *const paths[] = {"     0", "     0     1", "     0     1     2"};
+    const uint32_t row[numbers_of_row] = {0, 0, 0, steps + 1, 4, 5, 5, steps + 1, 0, steps > 0, steps > 1 ? 2 : 0};
+    for (int call = 0; call < number_of_calls; call++)
+        for (size_t form = 0; form < COUNT(forms); form++) {
+            uint64_t told[5] = {0};
+            if (call == of_group) continue;
+            spoil();
+            forms[form](call, limit, COUNT(links), COUNT(both_rows), told);
+            expect(told[0] == 0 && told[1] == 1 && told[2] == 0 && told[3] == 0 && told[4] == 0,
+                   "other counts under a limit");
+            expect(memcmp(both_rows, row, sizeof row) == 0, "another row under a limit");
+            expect_zeros(both_rows + numbers_of_row, COUNT(both_rows) - numbers_of_row, "more rows under a limit");
+            expect_zeros(WHOLE(both_diagnostics), "a diagnostic under a limit");
+            expect_links(COUNT(links));
+        }
+    expect_text(nested, sizeof nested - 1, limit, "S     0     0     0%6u%6u%s\n= wire\n< f\n> f\nZ     1     0\n",
+                steps + 1, steps + 1, paths[steps]);
+}
+
+/* The way ends where the limit says or where there is no step, whichever is first; and a limit that is too large is refused behind the refusals of reading. */
+static void expect_limits(void) {
+    conlist_read_sheet((const uint8_t *)nested, sizeof nested - 1, WHOLE(bytes), LETTERS(WHOLE_TABLE) read);
+    expect(read[refused] == 0, "the sheet with boxes in one another is refused");
+    expect_steps(0, 0);
+    expect_steps(1, 1);
+    expect_steps(2, 2);
+    expect_steps(3, 2);
+    expect_steps(usual_limit, 2);
+    expect_steps(largest_limit, 2);
+    expect_too_large_limits();
+    expect_text(nested, sizeof nested - 1, largest_limit + 1, "R    19     0 -\n");
+    expect_text(nested, sizeof nested - 2, largest_limit + 1, "R     2    13 -\n");
+    expect_text(nested, 0, usual_limit, "R     7     0 C\n");
+    expect_text(nested, 0, largest_limit + 1, "R    19     0 -\n");
+}
+
+int main(int words, char **word) {
     size_t length = fread(sheet, 1, sizeof sheet, stdin);
-    fwrite(text, 1, conlist_list_sheet(sheet, length, WHOLE(text)), stdout);
+    uint64_t limit = words > 1 ? strtoull(word[1], NULL, 10) : usual_limit;
+    fwrite(text, 1, conlist_list_sheet(sheet, length, limit, WHOLE(text)), stdout);
 
     conlist_read_sheet(sheet, length, WHOLE(bytes), LETTERS(WHOLE_TABLE) read);
     expect(read[refused] == 0, "the sheet is refused");
@@ -394,7 +526,7 @@ int main(void) {
     conlist_check_tables(TABLES, checked);
     expect(checked[0] == 0 && checked[1] == 0 && checked[2] == 0, "the tables are refused");
     spoil_links();
-    conlist_compute_semantic_connections(TABLES, WHOLE(links), WHOLE(rows), WHOLE(diagnostics), traced);
+    conlist_compute_semantic_connections(TABLES, usual_limit, WHOLE(links), WHOLE(rows), WHOLE(diagnostics), traced);
     expect_links(COUNT(links));
     spoil_links();
     conlist_expand_feature_group_connections(TABLES, WHOLE(links), WHOLE(group_rows), WHOLE(names),
@@ -405,8 +537,8 @@ int main(void) {
     if (names_apart()) expect_both(ignoring_case, traced, grouped);
 
     spoil();
-    conlist_compute_semantic_connections_with_records(TABLES, WHOLE(links), WHOLE(both_rows), WHOLE(both_diagnostics),
-                                                      WHOLE(records), recorded);
+    conlist_compute_semantic_connections_with_records(TABLES, usual_limit, WHOLE(links), WHOLE(both_rows),
+                                                      WHOLE(both_diagnostics), WHOLE(records), recorded);
     expect(memcmp(recorded, traced, sizeof traced) == 0, "other counts with traced records");
     expect_links(COUNT(links));
     expect_traced();
@@ -418,6 +550,7 @@ int main(void) {
     expect_links(COUNT(links));
     expect_group();
     expect_too_few_links();
+    expect_too_large_limits();
 
     /* the first number of a package is its name; a group type begins with its package and its name */
     for (uint64_t row = 0; row < read[rows_of_u]; row++) {
@@ -435,5 +568,6 @@ int main(void) {
     expect_no_index(0, 1, 0);
     expect_no_index(0, 0, 1);
     expect_letter_case();
+    expect_limits();
     return 0;
 }

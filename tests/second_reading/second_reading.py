@@ -5,16 +5,19 @@ It answers, for any bytes, what the programs print: `conlist` the connections,
 `modes` the number of selections of modes, `mode` one of these; and what the
 second entry lists, which ignores letter case where the ported one does not,
 in the form of `conlist`. Where a function has a parameter `ignore_case`, this
-says for which of the two entries it answers. All is written from the papers'
-own sentences, each quoted over the function that follows it, so that another
-definition of the same papers can be compared with it. Behind a sentence of 02
-stands its request, as (02, i). Names are bytes, numbers do not wrap, rows
-count from 0.
+says for which of the two entries it answers; `limit` is the step limit of the
+traced listing. All is written from the papers' own sentences, each quoted over
+the function that follows it, so that another definition of the same papers can
+be compared with it. Behind a sentence of 02 stands its request, as (02, i).
+Names are bytes, numbers do not wrap, rows count from 0.
 
     second_reading.py < sheet                prints the answer of `conlist`
     second_reading.py --ignore-case < sheet  that of the second entry
     second_reading.py modes < sheet          that of `modes`
     second_reading.py mode NUMBER < sheet    that of `mode NUMBER`
+
+The answers of the two entries are those at a limit of 20; with `--limit NUMBER`
+behind the words, those at this one.
 
 It marks every rule that it applies. `stream` beside it compares a stream of
 cases, and counts these marks.
@@ -58,6 +61,11 @@ _WALK = ("Prove that the walk gives the same children in the same order as a sca
 _ROW_OF_LINKS = "The link table is an output, its row the first child and the next sibling, missing as in 01."
 _22 = "One of fewer whole rows than components is refused as 22, after the tables' checks and 21."
 _FOLDED = "tracing compares features folded and the first child rule compares names folded."
+_LIMIT = "The traced listing's limit becomes an argument, 0 to 64; 20 holds wherever none is named."
+_PLACES = "A row of either listing then has places for 129 connections, the path handed down for 65."
+_TWO_LIMITS = ("For two limits, the lists are equal exactly when they are the same number or no followed "
+               "chain has a step beyond the smaller.")
+_19 = "A limit above 64 is refused as 19, after 5 and before 10."
 _STEP = ("a connection of that component with a source subcomponent, no destination subcomponent, "
          "its destination feature byte-equal, and one found child.")
 _CHILD = ("byte-equal names; if none and the wanted name has no `[`, children with an array index "
@@ -379,6 +387,7 @@ RULES_BEYOND_SHEETS = {
     "mode 11": _20,
     "22": _22,
     "22: last row not whole": _22,
+    "limit: path of 129 connections": _PLACES,
 }
 
 # Where the second entry takes two names as one, and the ported one does not. Only lists of the
@@ -391,6 +400,30 @@ RULES_IGNORING_CASE = {
     "ignoring case: step towards the source": _FOLDED,
     "ignoring case: step towards the destination": _FOLDED,
     "ignoring case: first found child in another case": _FOLDED,
+}
+
+# What a limit does that is named. Only lists and refusals at other limits than 20 meet these.
+RULES_OF_LIMITS = {
+    "19": _19,
+    "19: the first above 64": _19,
+    "19: a limit of over 32 bits": _19,
+    "19: after 1 to 5": _19,
+    "19: before 6 to 16": _19,
+    "limit: chain cut": _LIMIT,
+    "limit: chain of exactly as many steps": _LIMIT,
+    "limit: chain of over 20 steps, whole": _LIMIT,
+    "limit: chain of over 20 steps, cut": _LIMIT,
+    "limit: several steps beyond the last": _LIMIT,
+    "limit: step beyond the last in another case": _LIMIT,
+    "limit: row of a path of one, with a step beyond": _LIMIT,
+    "limit: cut towards the source alone": _LIMIT,
+    "limit: cut towards the destination alone": _LIMIT,
+    "limit: cut towards both": _LIMIT,
+    "limit: whole chain beside a cut one": _LIMIT,
+    "limit: path of over 41 connections": _PLACES,
+    "limit: past every chain": _TWO_LIMITS,
+    "limit: longest chain of exactly as many steps": _TWO_LIMITS,
+    "limit: step beyond in one chain alone": _TWO_LIMITS,
 }
 
 marks = collections.Counter()
@@ -480,6 +513,16 @@ MISSING = 4294967295
 LARGEST_LONG = 18446744073709551615
 LOW_BITS = 0xFFFFFFFF
 
+# "The traced listing's limit becomes an argument, 0 to 64; 20 holds wherever none is named."
+# (02, ix)
+LIMIT = 20
+LARGEST_LIMIT = 64
+
+# "A listing's row has places for 41 connections of its path"; "A row of either listing then has
+# places for 129 connections" (02, ix)
+PLACES_AT_20 = 41
+PLACES = 129
+
 
 # "In the tables three columns hold it, present 0 or 1, high 32 bits, low 32 bits, so no
 # number stands for missing" (02, ii)
@@ -535,10 +578,11 @@ def ends_of(row):
 
 # "The table is the order of checks."; "refused as 16, checked after 7." (02, i) "refused as
 # 20, after the tables' checks" (02, xi) "refused as 22, after the tables' checks and 21." (02,
-# xiii): the numbers of each place. A selection of modes has 11 and 14 too, after 20.
-REFUSALS = {"sheet": [1], "line": [2, 3, 4, 5], "tables": [10, 6, 7, 16, 8, 9], "modes": [20],
-            "links": [22], "lists": [13, 11, 14, 12], "text": [15]}
-BEFORE_LISTINGS = REFUSALS["sheet"] + REFUSALS["line"] + REFUSALS["tables"]
+# xiii) "refused as 19, after 5 and before 10." (02, ix): the numbers of each place. A selection
+# of modes has 11 and 14 too, after 20.
+REFUSALS = {"sheet": [1], "line": [2, 3, 4, 5], "limit": [19], "tables": [10, 6, 7, 16, 8, 9],
+            "modes": [20], "links": [22], "lists": [13, 11, 14, 12], "text": [15]}
+BEFORE_LISTINGS = REFUSALS["sheet"] + REFUSALS["line"] + REFUSALS["limit"] + REFUSALS["tables"]
 
 Refusal = collections.namedtuple("Refusal", "number letter place")
 Tables = collections.namedtuple("Tables", "bytes_table tables")
@@ -676,6 +720,18 @@ def read_sheet(sheet, bytes_room, rooms):
         mark("2: last line without LF")
         return Refusal(2, "-", len(lines) + 1)
     return Tables(bytes_table, tables)
+
+
+# ---------------------------------------------------------------------------
+# The limit: refusal 19.
+
+# "A limit above 64 is refused as 19, after 5 and before 10." (02, ix)
+def is_past_64(limit):
+    """Is this limit refused?"""
+    mark("19", limit > LARGEST_LIMIT)
+    mark("19: the first above 64", limit == LARGEST_LIMIT + 1)
+    mark("19: a limit of over 32 bits", limit > LOW_BITS)
+    return limit > LARGEST_LIMIT
 
 
 # ---------------------------------------------------------------------------
@@ -963,6 +1019,7 @@ class Model:
         self.found_children = {}
         self.found_steps = {}
         self.chain_counts = {}
+        self.longest = {}
         self.visits = {}
 
     def reference(self, row, word):
@@ -1397,7 +1454,6 @@ def is_one_to_one(model, component):
 
 
 SOURCE, DESTINATION = "source", "destination"
-MAX_STEPS = 20
 
 
 # "A step from (component, feature) towards the source: a connection of that component
@@ -1440,7 +1496,8 @@ def steps(model, side, component, feature, ignore_case):
 
 
 # "A chain ends where no step exists or after 20 steps; it has a twenty-first step where
-# one exists from the end of its twentieth."
+# one exists from the end of its twentieth." "The traced listing's limit becomes an argument"
+# (02, ix): as many steps as that, where it is another number.
 def count_chains(model, side, component, feature, left, limit, ignore_case):
     """How many chains there are, so that too many are refused without being listed."""
     key = side, component, feature, left, ignore_case
@@ -1448,8 +1505,8 @@ def count_chains(model, side, component, feature, left, limit, ignore_case):
         return model.chain_counts[key]
     onward = steps(model, side, component, feature, ignore_case)
     if left == 0:
-        mark("chain ends after 20 steps")
-        mark("twenty-first step exists" if onward else "exactly 20 steps")
+        mark("chain ends after 20 steps", limit == LIMIT)
+        mark("twenty-first step exists" if onward else "exactly 20 steps", limit == LIMIT)
         count = 1
     elif not onward:
         mark("chain without a step" if left == limit else "chain ends by no step")
@@ -1480,17 +1537,15 @@ Row = collections.namedtuple("Row", "connection kind source_component destinatio
 Diagnostic = collections.namedtuple("Diagnostic", "code connection first second")
 
 
-# "`compute_semantic_connections`, per X row:" "a lent table that the listing itself fills"
-# (02, xiii) "The second refuses by the same rules, over its own lists." (02, vi)
-def traced_listing(model, rows_room, diagnostics_room, limit=MAX_STEPS, links_room=CONLIST_LINKS,
-                   ignore_case=False):
-    """(rows, diagnostics), or the number of the refusal."""
-    # 22: "One of fewer whole rows than components"
-    if lacks_links(model, links_room):
-        return 22
-    diagnostics = []
-    work = []  # per X row: what stands at either end, and how the two are paired
-    total = 0
+# What stands at either end of an X row: the children that are found, or None for the owner, which
+# "is not traced"; and whether they are paired one to one.
+Ends = collections.namedtuple("Ends", "connection sources destinations one_to_one")
+
+
+# "`compute_semantic_connections`, per X row:"
+def traced_ends(model, ignore_case):
+    """(the Ends of each X row that is not passed over, diagnostics)"""
+    diagnostics, found = [], []
     for x, values in enumerate(model.rows["X"]):
         owner = values.owner
         source_sub, source, destination_sub, destination = ends_of(values)
@@ -1538,69 +1593,187 @@ def traced_listing(model, rows_room, diagnostics_room, limit=MAX_STEPS, links_ro
             mark("both ends: diagnostic 4")
             mark("both ends: 4 beside 2 or 3", not sources or not destinations)
             diagnostics.append(Diagnostic(4, x, len(sources), len(destinations)))
+        found.append(Ends(x, sources, destinations, one_to_one))
+    return found, diagnostics
 
-        # How many rows this makes.
-        source_counts = [1] if sources is None else \
-            [count_chains(model, SOURCE, child, model.name(source), limit, limit, ignore_case)
-             for child in sources]
-        destination_counts = [1] if destinations is None else \
-            [count_chains(model, DESTINATION, child, model.name(destination), limit, limit, ignore_case)
-             for child in destinations]
-        if one_to_one:
-            total += sum(a * b for a, b in zip(source_counts, destination_counts))
-            mark("pairs one to one", min(len(sources), len(destinations)) > 1)
-            mark("pairs one to one up to the shorter",
-                 len(sources) != len(destinations) and bool(sources) and bool(destinations))
-        else:
-            total += sum(source_counts) * sum(destination_counts)
-            mark("pairs all to all", both and len(sources) * len(destinations) > 1
-                 and bool(sources) and bool(destinations))
-        mark("every source chain with every destination chain",
-             any(a > 1 for a in source_counts) and any(b > 1 for b in destination_counts))
-        work.append((x, sources, destinations, one_to_one))
+
+def count_rows(model, ends, limit, ignore_case):
+    """How many rows an X row makes with these Ends."""
+    sources, destinations = ends.sources, ends.destinations
+    _, source, _, destination = map(model.name, ends_of(model.rows["X"][ends.connection]))
+    source_counts = [1] if sources is None else \
+        [count_chains(model, SOURCE, child, source, limit, limit, ignore_case) for child in sources]
+    destination_counts = [1] if destinations is None else \
+        [count_chains(model, DESTINATION, child, destination, limit, limit, ignore_case)
+         for child in destinations]
+    mark("every source chain with every destination chain",
+         any(a > 1 for a in source_counts) and any(b > 1 for b in destination_counts))
+    if ends.one_to_one:
+        mark("pairs one to one", min(len(sources), len(destinations)) > 1)
+        mark("pairs one to one up to the shorter",
+             len(sources) != len(destinations) and bool(sources) and bool(destinations))
+        return sum(a * b for a, b in zip(source_counts, destination_counts))
+    mark("pairs all to all", sources is not None and destinations is not None
+         and len(sources) * len(destinations) > 1)
+    return sum(source_counts) * sum(destination_counts)
+
+
+# "Pairs up to the shorter list, or all, source outermost." "Pairs .. follow that place" (02, i),
+# as the found children do.
+def pairs_of(model, ends):
+    """The pairs of what stands at the source and what stands at the destination."""
+    owner = model.rows["X"][ends.connection].owner
+    # "the other end is the owner and is not traced."
+    sources = [owner] if ends.sources is None else ends.sources
+    destinations = [owner] if ends.destinations is None else ends.destinations
+    if ends.one_to_one:
+        pairs = list(zip(sources, destinations))
+        mark("pairs one to one by place",
+             set(pairs) != set(zip(sorted(sources), sorted(destinations))))
+        return pairs
+    pairs = [(a, b) for a in sources for b in destinations]
+    both = ends.sources is not None and ends.destinations is not None
+    mark("pairs all to all by place" if both else "one end at the root: by place",
+         pairs != [(a, b) for a in sorted(sources) for b in sorted(destinations)])
+    return pairs
+
+
+# "Per pair every source chain with every destination chain; path is this connection, source
+# steps, then destination steps not yet in it."
+def rows_of_connection(model, ends, pairs, limit, ignore_case):
+    """The rows that an X row makes with these Ends, paired so."""
+    x, values = ends.connection, model.rows["X"][ends.connection]
+    source, destination = model.name(values.source_feature), model.name(values.destination_feature)
+    source_limit = 0 if ends.sources is None else limit
+    destination_limit = 0 if ends.destinations is None else limit
+    rows = []
+    for start, end in pairs:
+        for a, a_feature, a_steps in chains(model, SOURCE, start, source, source_limit, ignore_case):
+            for b, b_feature, b_steps in chains(model, DESTINATION, end, destination,
+                                                destination_limit, ignore_case):
+                path = [x] + list(a_steps)
+                for step in b_steps:
+                    if step not in path:
+                        path.append(step)
+                mark("path with source and destination steps", bool(a_steps) and bool(b_steps))
+                mark("limit: path of over 41 connections", len(path) > PLACES_AT_20)
+                mark("limit: path of 129 connections", len(path) == PLACES)
+                rows.append(Row(x, values.kind, a, b, path, model.name(values.name),
+                                a_feature, b_feature))
+    return rows
+
+
+# "a lent table that the listing itself fills" (02, xiii) "The second refuses by the same rules,
+# over its own lists." (02, vi) "The traced listing's limit becomes an argument" (02, ix)
+def traced_listing(model, rows_room, diagnostics_room, links_room=CONLIST_LINKS, ignore_case=False,
+                   limit=LIMIT):
+    """(rows, diagnostics), or the number of the refusal."""
+    # 19: "A limit above 64"
+    if is_past_64(limit):
+        return 19
+    # 22: "One of fewer whole rows than components"
+    if lacks_links(model, links_room):
+        return 22
+    found, diagnostics = traced_ends(model, ignore_case)
 
     # 11, then 12.
-    if total > rows_room:
+    if sum(count_rows(model, ends, limit, ignore_case) for ends in found) > rows_room:
         mark("traced 11")
         return 11
     if len(diagnostics) > diagnostics_room:
         mark("traced 12")
         return 12
 
-    rows = []
-    for x, sources, destinations, one_to_one in work:
-        values = model.rows["X"][x]
-        source, destination = values.source_feature, values.destination_feature
-        # "the other end is the owner and is not traced."
-        starts = [values.owner] if sources is None else sources
-        ends = [values.owner] if destinations is None else destinations
-        # "Pairs up to the shorter list, or all, source outermost." "Pairs .. follow that
-        # place" (02, i), as the found children do.
-        if one_to_one:
-            pairs = list(zip(starts, ends))
-            mark("pairs one to one by place", set(pairs) != set(zip(sorted(starts), sorted(ends))))
-        else:
-            pairs = [(start, end) for start in starts for end in ends]
-            both = sources is not None and destinations is not None
-            mark("pairs all to all by place" if both else "one end at the root: by place",
-                 pairs != [(start, end) for start in sorted(starts) for end in sorted(ends)])
-        # "Per pair every source chain with every destination chain; path is this
-        # connection, source steps, then destination steps not yet in it."
-        for start, end in pairs:
-            source_limit = 0 if sources is None else limit
-            destination_limit = 0 if destinations is None else limit
-            for a, a_feature, a_steps in chains(model, SOURCE, start, model.name(source),
-                                                source_limit, ignore_case):
-                for b, b_feature, b_steps in chains(model, DESTINATION, end, model.name(destination),
-                                                    destination_limit, ignore_case):
-                    path = [x] + list(a_steps)
-                    for step in b_steps:
-                        if step not in path:
-                            path.append(step)
-                    mark("path with source and destination steps", bool(a_steps) and bool(b_steps))
-                    rows.append(Row(x, values.kind, a, b, path, model.name(values.name),
-                                    a_feature, b_feature))
+    paired = [(ends, pairs_of(model, ends)) for ends in found]
+    if limit != LIMIT:
+        mark_limit(model, paired, limit, ignore_case)
+    rows = [row for ends, pairs in paired
+            for row in rows_of_connection(model, ends, pairs, limit, ignore_case)]
     return rows, diagnostics
+
+
+# "Followed are the chains, stepless ones too, that start from a child these rules pair with a
+# child or the owner, at the feature the X row names for it, and run towards the end it stands
+# at."
+def followed_from(model, ends, pairs):
+    """Where the chains start that are followed for these Ends, paired so: by the side the children
+    and the feature. No children where that end is not traced."""
+    _, source, _, destination = map(model.name, ends_of(model.rows["X"][ends.connection]))
+    sources = [] if ends.sources is None else list(dict.fromkeys(a for a, _ in pairs))
+    destinations = [] if ends.destinations is None else list(dict.fromkeys(b for _, b in pairs))
+    return {SOURCE: (sources, source), DESTINATION: (destinations, destination)}
+
+
+# "Without a limit a chain ends only where no step exists (rows grow, so it ends)"
+def longest_from(model, side, component, feature, ignore_case):
+    """How many steps the longest chain has from there, without a limit."""
+    key = side, component, feature, ignore_case
+    if key not in model.longest:
+        onward = steps(model, side, component, feature, ignore_case)
+        model.longest[key] = max((1 + longest_from(model, side, child, inner, ignore_case)
+                                  for _, child, inner in onward), default=0)
+    return model.longest[key]
+
+
+# "the lists are equal exactly when they are the same number or no followed chain has a step beyond
+# the smaller." (02, ix) None has one exactly where the longest has no more steps than that.
+def longest_chain(model, ignore_case=False):
+    """How many steps the longest followed chain has, without a limit; 0 where none is followed."""
+    found, _ = traced_ends(model, ignore_case)
+    return max((longest_from(model, side, child, feature, ignore_case) for ends in found
+                for side, (children, feature) in
+                followed_from(model, ends, pairs_of(model, ends)).items()
+                for child in children), default=0)
+
+
+def mark_limit(model, paired, limit, ignore_case):
+    """For the marks only: which of the followed chains a limit other than 20 cuts, and what they
+    are like."""
+    lengths, cut = [], []
+    for ends, pairs in paired:
+        cut_from = {}
+        for side, (children, feature) in followed_from(model, ends, pairs).items():
+            of_side = []
+            for child in children:
+                some = list(chains(model, side, child, feature, limit, ignore_case))
+                lengths += [len(connections) for _, _, connections in some]
+                cut_from[side, child] = [mark_cut(model, side, chain, limit, ignore_case)
+                                         for chain in some]
+                of_side += cut_from[side, child]
+            mark("limit: whole chain beside a cut one", any(of_side) and not all(of_side))
+            cut += of_side
+        for start, end in pairs:
+            mark_rows(cut_from.get((SOURCE, start), [False]),
+                      cut_from.get((DESTINATION, end), [False]), limit)
+    longest = max(lengths) if lengths and not any(cut) else None
+    mark("limit: past every chain", longest is not None and longest < limit)
+    mark("limit: longest chain of exactly as many steps", longest == limit)
+    mark("limit: step beyond in one chain alone", cut.count(True) == 1)
+
+
+def mark_cut(model, side, chain, limit, ignore_case):
+    """Whether this chain has a step beyond the limit; for the marks only, what it is like."""
+    component, feature, connections = chain
+    onward = steps(model, side, component, feature, ignore_case)
+    is_cut = len(connections) == limit and bool(onward)
+    mark("limit: chain of exactly as many steps", len(connections) == limit and not is_cut)
+    mark("limit: chain of over 20 steps, whole", len(connections) > LIMIT and not is_cut)
+    mark("limit: chain of over 20 steps, cut", len(connections) > LIMIT and is_cut)
+    mark("limit: chain cut", is_cut)
+    mark("limit: several steps beyond the last", is_cut and len(onward) > 1)
+    mark("limit: step beyond the last in another case", is_cut and ignore_case
+         and not unmarked(steps, model, side, component, feature, False))
+    return is_cut
+
+
+def mark_rows(source_cut, destination_cut, limit):
+    """For the marks only: the rows of these chains, of which the limit cuts some."""
+    for source, destination in itertools.product(source_cut, destination_cut):
+        mark("limit: cut towards the source alone", source and not destination)
+        mark("limit: cut towards the destination alone", destination and not source)
+        mark("limit: cut towards both", source and destination)
+        mark("limit: row of a path of one, with a step beyond",
+             limit == 0 and (source or destination))
 
 
 # ---------------------------------------------------------------------------
@@ -1811,18 +1984,19 @@ Listings = collections.namedtuple("Listings", "traced_rows traced_diagnostics "
 
 # "The traced listing ends, refusals included, before the group listing starts."
 def listings(bytes_table, tables, traced_rows, traced_diagnostics, group_rows, group_diagnostics,
-             composed_room, links_room=CONLIST_LINKS, ignore_case=False):
+             composed_room, links_room=CONLIST_LINKS, ignore_case=False, limit=LIMIT):
     """Listings over accepted tables with outputs of these sizes (in rows, diagnostics
     and bytes), or the number of the refusal."""
     return listings_of_model(Model(bytes_table, tables), traced_rows, traced_diagnostics,
-                             group_rows, group_diagnostics, composed_room, links_room, ignore_case)
+                             group_rows, group_diagnostics, composed_room, links_room, ignore_case,
+                             limit)
 
 
-# Both lists are made over one link table. "It gives both listings" (02, vi)
+# Both lists are made over one link table. "It gives both listings" (02, vi) "The traced listing's
+# limit" (02, ix) is that of the traced one alone.
 def listings_of_model(model, traced_rows, traced_diagnostics, group_rows, group_diagnostics,
-                      composed_room, links_room=CONLIST_LINKS, ignore_case=False):
-    traced = traced_listing(model, traced_rows, traced_diagnostics, links_room=links_room,
-                            ignore_case=ignore_case)
+                      composed_room, links_room=CONLIST_LINKS, ignore_case=False, limit=LIMIT):
+    traced = traced_listing(model, traced_rows, traced_diagnostics, links_room, ignore_case, limit)
     if isinstance(traced, int):
         return traced
     group = group_listing(model, group_rows, group_diagnostics, composed_room, links_room, ignore_case)
@@ -2112,11 +2286,16 @@ def read(sheet):
     return read_sheet(sheet, CONLIST_BYTES, CONLIST_ROOMS)
 
 
-def accepted(sheet):
-    """The Model of these bytes, or their Refusal by sheet, line or tables."""
+# "A limit above 64 is refused as 19, after 5 and before 10." (02, ix)
+def accepted(sheet, limit=LIMIT):
+    """The Model of these bytes, or their Refusal by sheet, line, limit or tables."""
     tables = read(sheet)
     if isinstance(tables, Refusal):
+        mark("19: after 1 to 5", limit > LARGEST_LIMIT)
         return tables
+    if is_past_64(limit):
+        mark("19: before 6 to 16", bool(unmarked(check_tables, *tables)))
+        return Refusal(19, "-", 0)
     return check_tables(*tables) or Model(*tables)
 
 
@@ -2135,11 +2314,12 @@ def printed(model, text_of):
     return text
 
 
-def text_of_lists(model, ignore_case=False):
+def text_of_lists(model, ignore_case=False, limit=LIMIT):
     """The text of both lists, or the number of the refusal, with outputs as `conlist` lends
     them."""
     lists = listings_of_model(model, CONLIST_ROWS, CONLIST_DIAGNOSTICS, CONLIST_ROWS,
-                              CONLIST_DIAGNOSTICS, CONLIST_COMPOSED, ignore_case=ignore_case)
+                              CONLIST_DIAGNOSTICS, CONLIST_COMPOSED, ignore_case=ignore_case,
+                              limit=limit)
     return lists if isinstance(lists, int) else list_text(model, lists)
 
 
@@ -2157,9 +2337,10 @@ def text_of_selection(number):
     return text_of
 
 
-def answer(sheet, ignore_case=False):
-    """What `conlist` prints for these bytes, or the same of the second entry."""
-    return printed(accepted(sheet), lambda model: text_of_lists(model, ignore_case))
+def answer(sheet, ignore_case=False, limit=LIMIT):
+    """What `conlist` prints for these bytes, or the same of the second entry; with this limit as
+    its argument, where it is another than 20."""
+    return printed(accepted(sheet, limit), lambda model: text_of_lists(model, ignore_case, limit))
 
 
 def modes_answer(sheet):
@@ -2172,7 +2353,8 @@ def mode_answer(sheet, number):
     return printed(accepted(sheet), text_of_selection(number))
 
 
-# The argument of `mode`: a decimal number of 64 bits, written as a number is in the sheet.
+# The argument of `mode`, and that of the two entries: a decimal number of 64 bits, written as a
+# number is in the sheet.
 def number_of(text):
     """The number that this text is, or None."""
     if not re.fullmatch("0|[1-9][0-9]{0,19}", text) or int(text) > LARGEST_LONG:
@@ -2204,15 +2386,17 @@ def answers(sheet):
 
 def main(words):
     sheet = sys.stdin.buffer.read
-    if words == []:
-        return answer(sheet())
-    if words == ["--ignore-case"]:
-        return answer(sheet(), ignore_case=True)
     if words == ["modes"]:
         return modes_answer(sheet())
     if len(words) == 2 and words[0] == "mode" and number_of(words[1]) is not None:
         return mode_answer(sheet(), number_of(words[1]))
-    sys.exit("usage: second_reading.py [--ignore-case | modes | mode NUMBER] < sheet")
+    ignore_case = words[:1] == ["--ignore-case"]
+    behind = words[1:] if ignore_case else words
+    if behind == []:
+        return answer(sheet(), ignore_case)
+    if len(behind) == 2 and behind[0] == "--limit" and number_of(behind[1]) is not None:
+        return answer(sheet(), ignore_case, number_of(behind[1]))
+    sys.exit("usage: second_reading.py [[--ignore-case] [--limit NUMBER] | modes | mode NUMBER] < sheet")
 
 
 if __name__ == "__main__":

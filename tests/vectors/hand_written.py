@@ -196,6 +196,36 @@ def chain(steps, connections=1):
     return sheet
 
 
+def both_ways(sources, destinations):
+    """A wire from a to a, and inside it one component in the other, with a chain of so many steps towards the source and of so many towards the destination."""
+    sheet = Sheet()
+    sheet.component("root")
+    current = sheet.component("a", 0)
+    sheet.connection("c", 0, 0, "a", "f", "a", "f")
+    for step in range(max(sources, destinations)):
+        inner = sheet.component("m", current)
+        if step < sources:
+            sheet.connection("up", current, 0, "m", "f", None, "f")
+        if step < destinations:
+            sheet.connection("down", current, 0, None, "f", "m", "f")
+        current = inner
+    return sheet
+
+
+def chains_of_an_array(*steps):
+    """An array wired to the root, and inside each of its elements a chain of so many steps."""
+    sheet = Sheet()
+    sheet.component("root")
+    elements = [sheet.component("a[%d]" % index, 0, index) for index in range(1, len(steps) + 1)]
+    sheet.connection("c", 0, 0, "a", "f", None, "f")
+    for current, count in zip(elements, steps):
+        for _ in range(count):
+            inner = sheet.component("m", current)
+            sheet.connection("up", current, 0, "m", "f", None, "f")
+            current = inner
+    return sheet
+
+
 def unpaired_source_of_a_million_chains():
     """One to one leaves the second source unpaired, so nothing follows its 4 to the 10th chains."""
     sheet = arrays("one_to_one", 2, 1)
@@ -383,6 +413,16 @@ def printed(text):
 def wires(*rows):
     """The text of traced rows with these numbers, each from a feature f to a feature f by a connection c."""
     return printed(" | ".join(["S %s | = c | < f | > f" % row for row in rows] + ["Z %d 0" % len(rows)]))
+
+
+def row(ends, *path):
+    """The numbers of a traced row: the connection, its kind and the components at its ends, and behind them how long this path is, and the path."""
+    return " ".join(map(str, (ends, len(path), *path)))
+
+
+def chained(*rows):
+    """The text of these traced rows of a `chain`."""
+    return printed(" | ".join(["S %s | = top | < f | > f" % one for one in rows] + ["Z %d 0" % len(rows)]))
 
 
 def private_group_of_another_package():
@@ -909,6 +949,89 @@ IGNORING_CASE = {
     "65 wires from a child in another case": (wired("a b", "A", wires=65), printed("R 12 0 -"), printed("R 11 0 -")),
     "names in two cases that meet nowhere": (with_names(wired("a b", "a"), "A", "B", "F"), *2 * [wires("0 0 1 2 1 0")]),
     "names apart": (run(), *2 * [printed("S 0 0 3 2 2 0 1 | = c1 | < set | > set | Z 1 0")]),
+}
+
+# Label -> (sheet, step limit, what either entry prints at that limit).
+LIMITS = {
+    "chain of one step at 0": (chain(1).bytes(), 0, chained(row("0 0 2 1", 0))),
+    "chain of 20 steps at 0": (chain(20).bytes(), 0, chained(row("0 0 2 1", 0))),
+    "wires to and from the root at 0": (
+        one_end((1, 0)).bytes(),
+        0,
+        printed("S 0 0 2 0 1 0 | = up | < f | > f | S 0 0 1 0 1 0 | = up | < f | > f"
+                " | S 1 0 0 2 1 1 | = down | < f | > f | S 1 0 0 1 1 1 | = down | < f | > f | Z 4 0")),
+    "pairs one to one at 0": (arrays("one_to_one", 2, 2).bytes(), 0, wires("0 0 1 3 1 0", "0 0 2 4 1 0")),
+    "pairs up to the shorter at 0": (
+        arrays("one_to_one", 2, 1).bytes(),
+        0,
+        printed("S 0 0 1 3 1 0 | = c | < f | > f"
+                " | D 4 0 2 1 | ! connection 'c': One_To_One pattern requires equal array sizes (source=2, destination=1) | @ root | @ c | Z 1 0")),
+    "no source child at 0": (
+        wired("b", "a").bytes(),
+        0,
+        printed("D 2 0 5 0 | ! connection 'c': unresolved source subcomponent 'a' | @ root | @ c | Z 0 0")),
+    "group rows at 0": (
+        group_of_a_child(group_of_one_feature(), "a", "a", (1,)).bytes(),
+        0,
+        printed("S 0 2 1 0 1 0 | = c | < g | > g | S 0 0 1 0 1 0 | = c.f | < g.f | > g.f | Z 1 1")),
+    "step to elements at 0": (fan((1, 0), (0,)).bytes(), 0, printed("S 0 0 1 2 1 0 | = across | < f | > f | Z 1 0")),
+    "step to elements at 1": (
+        fan((1, 0), (0,)).bytes(),
+        1,
+        printed("S 0 0 4 5 3 0 1 2 | = across | < g | > g | S 0 0 3 5 3 0 1 2 | = across | < g | > g | Z 2 0")),
+    "two steps towards the source, one towards the destination, at 1": (both_ways(2, 1).bytes(), 1, wires(row("0 0 2 2", 0, 1, 2))),
+    "one step towards the source, two towards the destination, at 1": (both_ways(1, 2).bytes(), 1, wires(row("0 0 2 2", 0, 1, 2))),
+    "two steps towards both at 1": (both_ways(2, 2).bytes(), 1, wires(row("0 0 2 2", 0, 1, 2))),
+    "one step towards both at 1": (both_ways(1, 1).bytes(), 1, wires(row("0 0 2 2", 0, 1, 2))),
+    "one step towards the source alone at 1": (both_ways(1, 0).bytes(), 1, wires(row("0 0 2 1", 0, 1))),
+    "two steps towards the source alone at 1": (both_ways(2, 0).bytes(), 1, wires(row("0 0 2 1", 0, 1))),
+    "two steps towards the destination alone at 1": (both_ways(0, 2).bytes(), 1, wires(row("0 0 1 2", 0, 1))),
+    "second step in another case at 1": (with_feature(chain(2), 2, "destination_feature", "F").bytes(), 1, chained(row("0 0 3 1", 0, 1))),
+    "elements with no step, one step and two at 1": (
+        chains_of_an_array(0, 1, 2).bytes(),
+        1,
+        wires(row("0 0 1 0", 0), row("0 0 4 0", 0, 1), row("0 0 5 0", 0, 2))),
+    "four connections at each of 20 steps, at 0": (chain(20, 4).bytes(), 0, chained(row("0 0 2 1", 0))),
+    "four connections at each of 20 steps, at 1": (chain(20, 4).bytes(), 1, chained(*(row("0 0 3 1", 0, step) for step in (1, 2, 3, 4)))),
+    "four connections at each of 20 steps, at 19": (chain(20, 4).bytes(), 19, printed("R 11 0 -")),
+    "chain of 20 steps at 19": (chain(20).bytes(), 19, chained(row("0 0 21 1", *range(20)))),
+    "chain of 21 steps at 20": (chain(21).bytes(), 20, chained(row("0 0 22 1", *range(21)))),
+    "chain of 21 steps at 21": (chain(21).bytes(), 21, chained(row("0 0 23 1", *range(22)))),
+    "chain of 21 steps at 64": (chain(21).bytes(), 64, chained(row("0 0 23 1", *range(22)))),
+    "21 steps towards both at 21": (both_ways(21, 21).bytes(), 21, wires(row("0 0 22 22", 0, *range(1, 42, 2), *range(2, 43, 2)))),
+    "22 steps towards both at 21": (both_ways(22, 22).bytes(), 21, wires(row("0 0 22 22", 0, *range(1, 42, 2), *range(2, 43, 2)))),
+    "chain of 64 steps at 63": (chain(64).bytes(), 63, chained(row("0 0 65 1", *range(64)))),
+    "chain of 64 steps at 64": (chain(64).bytes(), 64, chained(row("0 0 66 1", *range(65)))),
+    "chain of 65 steps at 64": (chain(65).bytes(), 64, chained(row("0 0 66 1", *range(65)))),
+    "chain of 93 steps at 64": (chain(93).bytes(), 64, chained(row("0 0 66 1", *range(65)))),
+    "path of 96 connections at 64": (both_ways(64, 31).bytes(), 64, wires(row("0 0 65 32", 0, *range(1, 62, 2), *range(63, 96), *range(2, 63, 2)))),
+    "path of 129 connections, of which conlist lends 96": (both_ways(64, 64).bytes(), 64, printed("R 5 172 -")),
+    "empty sheet at 64": (b"", 64, printed("R 7 0 C")),
+    "empty sheet at 65": (b"", 65, printed("R 19 0 -")),
+    "run of document 01 at 65": (run().bytes(), 65, printed("R 19 0 -")),
+    "run of document 01 at 20 and 2 to the 32nd": (run().bytes(), 2 ** 32 + 20, printed("R 19 0 -")),
+    "run of document 01 at the largest number": (run().bytes(), LARGEST_LONG, printed("R 19 0 -")),
+    "name past its table at 65": (with_fields(tree((0, 4), (0, 5)), 2, type=9).bytes(), 65, printed("R 19 0 -")),
+    "parent missing at 65": (with_fields(tree((0, 4), (0, 5)), 2, parent=None).bytes(), 65, printed("R 19 0 -")),
+    "clash of places at 65": (tree((0, 4), (0, 4)).bytes(), 65, printed("R 19 0 -")),
+    "end without feature at 65": (with_end_without_feature(tree((0, 4))).bytes(), 65, printed("R 19 0 -")),
+    "equal packages at 65": (with_equal_packages(tree((0, 4))).bytes(), 65, printed("R 19 0 -")),
+    "over the visits at 65": (nested_in_itself(3).bytes(), 65, printed("R 19 0 -")),
+    "65 traced rows at 65": (arrays(None, 13, 5).bytes(), 65, printed("R 19 0 -")),
+    "sheet of 16,385 bytes at 65": (b"y" * 16385, 65, printed("R 1 0 -")),
+    "last line without LF at 65": (run().bytes()[:-1], 65, printed("R 2 16 -")),
+    "letter alone without LF at the largest number": (b"N", LARGEST_LONG, printed("R 2 1 -")),
+    "letter out of order at 65": (run().bytes() + b"N y\n", 65, printed("R 3 17 -")),
+    "index with a zero in front at 65": (indexed(7, "01").bytes(), 65, printed("R 4 13 -")),
+    "one more package than conlist lends at 65": (full_table("P", 1).bytes(), 65, printed("R 5 203 -")),
+}
+
+# The same of sheets for which conlist lends too few rows, over tables with so many rows of each letter.
+ROWS_FOR_LONG_PATHS = 256
+LIMITS_OF_LONG_PATHS = {
+    "64 steps towards both at 64": (both_ways(64, 64).bytes(), 64, wires(row("0 0 65 65", 0, *range(1, 128, 2), *range(2, 129, 2)))),
+    "65 steps towards both at 64": (both_ways(65, 65).bytes(), 64, wires(row("0 0 65 65", 0, *range(1, 128, 2), *range(2, 129, 2)))),
+    "64 steps towards both at 63": (both_ways(64, 64).bytes(), 63, wires(row("0 0 64 64", 0, *range(1, 126, 2), *range(2, 127, 2)))),
 }
 
 # Label -> (sheet, its refusal). A label has no number in second place: that is where the seed of a generated sheet stands.

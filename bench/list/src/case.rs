@@ -1,8 +1,9 @@
-//! A sheet with what both sides are asked to do with it.
+//! A sheet with what both sides are asked to do with it, with chains of 20 steps at most.
 
 use oracle::model::Renames;
 use oracle::sheet::{Sheet, rows_lent};
 use oracle::stream::Case;
+use oracle::traced::STEPS;
 use oracle::{MOST_VISITS, Options, endpoint, listing, traced};
 
 use crate::library::{self, Entry, Outputs};
@@ -17,7 +18,7 @@ const MOST_COMPARISONS: u64 = 20_000_000;
 
 /// The numbers of a row of links, of a row of a listing and of a diagnostic in their outputs.
 const LINK_NUMBERS: usize = 2;
-const ROW_NUMBERS: usize = 49;
+const ROW_NUMBERS: usize = 137;
 const DIAGNOSTIC_NUMBERS: usize = 4;
 
 /// The tables of an accepted sheet.
@@ -27,7 +28,7 @@ pub fn accepted(sheet: &[u8]) -> Sheet {
 
 /// Whether the original ends soon, and with rows that fit in memory.
 pub fn original_ends(sheet: &Sheet) -> bool {
-    if traced::row_count(sheet) > MOST_ROWS {
+    if traced::row_count(sheet, STEPS) > MOST_ROWS {
         return false;
     }
     let counts = endpoint::counts(sheet, Renames::Text, MOST_VISITS);
@@ -40,7 +41,7 @@ pub fn original_ends(sheet: &Sheet) -> bool {
 /// The library's text.
 pub fn text(sheet: &[u8]) -> Vec<u8> {
     let mut text = vec![0; listing::TEXT_BYTES];
-    let used = library::list_sheet(sheet, &mut text);
+    let used = library::list_sheet(sheet, STEPS, &mut text);
     text.truncate(used);
     text
 }
@@ -108,7 +109,7 @@ impl Lent {
 
     /// Sheet bytes to text bytes: how many of these.
     pub fn list_sheet(&mut self, sheet: &[u8]) -> usize {
-        library::list_sheet(sheet, &mut self.text)
+        library::list_sheet(sheet, STEPS, &mut self.text)
     }
 
     /// Both listings of the tables, which are checked first.
@@ -120,7 +121,7 @@ impl Lent {
             names: &mut self.names,
             group_diagnostics: &mut self.group_diagnostics,
         };
-        library::list_connections(Entry::Ported, &self.tables, &mut self.links, outputs)
+        library::list_connections(Entry::Ported, &self.tables, STEPS, &mut self.links, outputs)
     }
 
     /// The checks alone.

@@ -11,9 +11,9 @@ use Rattle.as5506.specs.Lists.{keep, first_of, each, up_to, same_bytes, has}
 use Rattle.as5506.specs.Tables.{Tables, present, letter_n, count, name_of, Side, source, destination, other, c_name, c_parent, children_of, x_count, x_owner, x_sub, x_feat, connections_of}
 use Rattle.as5506.specs.Names.{Comparison, folded, same_folded, bracket}
 use Rattle.as5506.specs.Answers.{Refusal, Answer, given, refused}
-use Rattle.as5506.specs.Tracing.{is_named, or_elements, found_children, step_to, leads, steps_over, steps, chains_by, chains, Shape, faulty, across, upward, downward, neither, shape, named, one_to_one, Start, child, owner, pair_across, pair_up, pair_down, pairs_across, pairs_edge, pairs_by, pairs, row_of, reach, pair_rows, rows_at, traced, no_child, unequal, diags_by, diags_at, traced_diags, step_limit}
+use Rattle.as5506.specs.Tracing.{is_named, or_elements, found_children, step_to, leads, steps_over, steps, chains_by, chains, Shape, faulty, across, upward, downward, neither, shape, named, one_to_one, Start, child, owner, pair_across, pair_up, pair_down, pairs_across, pairs_edge, pairs_by, pairs, row_of, reach, pair_rows, rows_at, traced, no_child, unequal, diags_by, diags_at, traced_diags, limit_or}
 use Rattle.as5506.specs.GroupList.{GroupConnection, group_connection, is_group_connection, end_component_by, end_component, group_connections}
-use Rattle.as5506.specs.Listing.{Room, TracedList, traced_list, traced_within, traced_on, faults_linked, traced_answer, group_of, with_group, after_traced, both_answer}
+use Rattle.as5506.specs.Listing.{Room, TracedList, traced_list, traced_within, traced_on, limit_over, faults_linked, traced_answer, group_of, with_group, after_traced, both_answer}
 use Rattle.as5506.specs.Sheet.{read_sheet}
 use Rattle.as5506.specs.Text.{list_text}
 use Rattle.as5506.specs.Program.{rows_lent, lent, room, names_lent, text_lent, printed_or_refusal, conlist_text, of_reading, what_fits, conlist_within, conlist, conlist_ignoring_case}
@@ -107,14 +107,14 @@ module _ (p q : Comparison) (m : Tables) (agree : Agree p q m) where
 
   -- ---- the calls
 
-  list-agree : traced_list p m ≡ traced_list q m
+  list-agree : (k : ℕ) → traced_list p k m ≡ traced_list q k m
   unfolding traced_list
-  list-agree = λ i. record { rows = traced-agree step_limit i; diags = diags-agree i }
+  list-agree k = λ i. record { rows = traced-agree k i; diags = diags-agree i }
 
-  traced_on-agree : (room : Room) (rs : List Refusal) → traced_on p room m rs ≡ traced_on q room m rs
+  traced_on-agree : (k : ℕ) (room : Room) (rs : List Refusal) → traced_on p k room m rs ≡ traced_on q k room m rs
   unfolding traced_on
-  traced_on-agree room [] = ap (traced_within room) list-agree
-  traced_on-agree room (r ∷ rs) = refl
+  traced_on-agree k room [] = ap (traced_within room) (list-agree k)
+  traced_on-agree k room (r ∷ rs) = refl
 
   after-agree : (room : Room) (names : ℕ) (a : Answer TracedList) → after_traced p room names m a ≡ after_traced q room names m a
   unfolding after_traced
@@ -122,11 +122,11 @@ module _ (p q : Comparison) (m : Tables) (agree : Agree p q m) where
   after-agree room names (given l) = ap (λ (bs : List GroupConnection). with_group l (group_of room names m bs)) connections-agree
 
   -- ONE LIST by both comparisons
-  answers-agree : (links names : ℕ) (traced_room group_room : Room) → both_answer p links traced_room group_room names m ≡ both_answer q links traced_room group_room names m
+  answers-agree : (k links names : ℕ) (traced_room group_room : Room) → both_answer p k links traced_room group_room names m ≡ both_answer q k links traced_room group_room names m
   unfolding both_answer traced_answer
-  answers-agree links names traced_room group_room =
-      ap (after_traced p group_room names m) (traced_on-agree traced_room (faults_linked links m))
-      ∙ after-agree group_room names (traced_on q traced_room m (faults_linked links m))
+  answers-agree k links names traced_room group_room =
+      ap (after_traced p group_room names m) (traced_on-agree k traced_room (limit_over k ++ faults_linked links m))
+      ∙ after-agree group_room names (traced_on q k traced_room m (limit_over k ++ faults_linked links m))
 
 -- ---- the two comparisons
 
@@ -165,17 +165,17 @@ names-agree m h i j = go (dec_le (count m letter_n) i) (dec_le (count m letter_n
 
 -- 02 (vi): "Where all names that differ also differ folded, both entries give one list"
 pub one_list : OneList
-one_list m h links names traced_room group_room = answers-agree same_folded same_bytes m (names-agree m h) links names traced_room group_room
+one_list m h k links names traced_room group_room = answers-agree same_folded same_bytes m (names-agree m h) k links names traced_room group_room
 
-texts-agree : (m : Tables) → NamesApart m → (n : ℕ) → conlist_text same_folded n m ≡ conlist_text same_bytes n m
+texts-agree : (m : Tables) → NamesApart m → (k n : ℕ) → conlist_text same_folded k n m ≡ conlist_text same_bytes k n m
 unfolding conlist_text
-texts-agree m h n = ap (printed_or_refusal n (list_text m)) (one_list m h (rows_lent false) names_lent room room)
+texts-agree m h k n = ap (printed_or_refusal n (list_text m)) (one_list m h k (rows_lent false) names_lent room room)
 
 -- and one text
 pub one_text : OneText
 unfolding conlist conlist_ignoring_case conlist_within of_reading
-one_text sheet h = ap (what_fits text_lent) (go (read_sheet lent sheet) h)
+one_text sheet h limit = ap (what_fits text_lent) (go (read_sheet lent sheet) h)
   where
-    go : (a : Answer Tables) → ((m : Tables) → a ≡ given m → NamesApart m) → of_reading (conlist_text same_folded text_lent) a ≡ of_reading (conlist_text same_bytes text_lent) a
-    go (given m) h = texts-agree m (h m refl) text_lent
+    go : (a : Answer Tables) → ((m : Tables) → a ≡ given m → NamesApart m) → of_reading (conlist_text same_folded (limit_or limit) text_lent) a ≡ of_reading (conlist_text same_bytes (limit_or limit) text_lent) a
+    go (given m) h = texts-agree m (h m refl) (limit_or limit) text_lent
     go (refused r) h = refl

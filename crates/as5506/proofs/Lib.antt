@@ -15,9 +15,10 @@
 --     Links         02 (xiii): children by links, what a link table holds, and that the walk along it gives the children by place
 --     Ends          where chains end, and how long their paths are
 --     Limit         tracing with and without a limit of steps
---     Demand        demand 3 over the definition
+--     Demand        demand 3 over the definition, and 02 (ix), rows under two limits
 --     Back          rows and diagnostics read back from their outputs
---     Output        demand 3 of what the traced listing hands back
+--     Allowed       whether 19 refuses a number that is taken for a limit
+--     Output        what the traced listing hands back: demand 3, and 02 (ix), the lists of two limits
 --     Entries       02 (vi): both entries give one list where all names that differ also differ folded
 --     Widened       tables with the index in three numbers in place of one: refused as before
 --     PaddedLines   lines with the index in six columns, padded: their rows, refused as before
@@ -42,6 +43,7 @@ pub mod Children
 pub mod Links
 pub mod Demand
 pub mod Back
+pub mod Allowed
 pub mod Output
 pub mod Entries
 pub mod Widened

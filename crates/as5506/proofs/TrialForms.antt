@@ -19,7 +19,7 @@ use Rattle.as5506.specs.Before.{width_before, read_before, faults_before, padded
 use Rattle.as5506.specs.Resolve.{Resolved, component_type, component_impl, group_type, unresolved, resolve}
 use Rattle.as5506.specs.Groups.{Feature, Expansion, expand}
 use Rattle.as5506.specs.Rows.{Row}
-use Rattle.as5506.specs.Tracing.{found_children, rows, unlimited, step_limit}
+use Rattle.as5506.specs.Tracing.{found_children, rows, unlimited, usual_limit}
 use Rattle.as5506.specs.Links.{link_table, first_in, walk}
 use Rattle.as5506.specs.GroupList.{GroupConnection}
 use Rattle.as5506.specs.Listing.{Room, TracedList, GroupList, BothLists, group_of, expansion_within, expand_answer, traced_answer, group_answer, both_answer}
@@ -218,9 +218,9 @@ refusal_before sheet = refusal_in (read_before (record { bytes = 16384; numbers 
 abbrev pub lengths : Lent → List ℕ
 lengths l = l.bytes ∷ map l.numbers letters
 
--- what is printed for tables, from the entry of a comparison
-abbrev pub listed : Comparison → Tables → List ℕ
-listed same m = conlist_text same text_lent m
+-- what is printed for tables, from the entry of a comparison, under a limit
+abbrev pub listed : Comparison → ℕ → Tables → List ℕ
+listed same k m = conlist_text same k text_lent m
 
 -- 02 (xi): the number of selections and whether they are cut, of which a refusal has none; what a selection puts into its outputs
 abbrev pub mode_count : Answer Modes → ℕ
@@ -237,17 +237,17 @@ selection_rows s = s.rows
 abbrev pub selection_name : Selection → List ℕ
 selection_name s = s.name
 
--- by a comparison, the listings of a model in outputs of the given lengths: the link table, rows and diagnostics, of the group listing also composed names;
+-- by a comparison and under a limit, the listings of a model in outputs of the given lengths: the link table, rows and diagnostics, of the group listing also composed names;
 -- of both, all five beside the link table, and each of the five afterwards
-abbrev pub traced_in : Comparison → Tables → (links rows diags : List ℕ) → Answer TracedList
-traced_in same m ls rs ds = traced_answer same (links_in (length ls)) (room_in (length rs) (length ds)) m
+abbrev pub traced_in : Comparison → ℕ → Tables → (links rows diags : List ℕ) → Answer TracedList
+traced_in same k m ls rs ds = traced_answer same k (links_in (length ls)) (room_in (length rs) (length ds)) m
 
 abbrev pub group_in : Comparison → Tables → (links rows diags names : List ℕ) → Answer GroupList
 group_in same m ls rs ds ns = group_answer same (links_in (length ls)) (room_in (length rs) (length ds)) (length ns) m
 
-abbrev pub both_in : Comparison → Tables → List ℕ → List (List ℕ) → Answer BothLists
-both_in same m ls out =
-    both_answer same (links_in (length ls)) (room_in (length (get_or out 0 [])) (length (get_or out 1 []))) (room_in (length (get_or out 2 [])) (length (get_or out 3 []))) (length (get_or out 4 [])) m
+abbrev pub both_in : Comparison → ℕ → Tables → List ℕ → List (List ℕ) → Answer BothLists
+both_in same k m ls out =
+    both_answer same k (links_in (length ls)) (room_in (length (get_or out 0 [])) (length (get_or out 1 []))) (room_in (length (get_or out 2 [])) (length (get_or out 3 []))) (length (get_or out 4 [])) m
 
 abbrev pub both_outputs : Tables → List (List ℕ) → Answer BothLists → List (List ℕ)
 both_outputs m out a =
@@ -258,17 +258,17 @@ both_outputs m out a =
 -- ---- THE TRIALS: of outputs and lent tables a trial has what they hold afterwards, and so their lengths
 
 pub data Trial : Type 0 where
-  -- a sheet's bytes, and what conlist prints; the same in a lent output of text
-  prints : List ℕ → List String → Trial
-  fills : List ℕ → List ℕ → Trial
+  -- a limit or none, a sheet's bytes, and what conlist prints; and under a limit a lent output of text
+  prints_by : Option ℕ → List ℕ → List String → Trial
+  fills_by : ℕ → List ℕ → List ℕ → Trial
   -- the lengths of the byte table and of each letter's table that conlist lends
   lends : List ℕ → Trial
   -- a sheet written before 02 (ii), its refusal then or none, and what it is once padded
   pads : List ℕ → Option Refusal → List ℕ → Trial
-  -- a sheet's bytes, and what conlist_ignoring_case prints
-  prints_folded : List ℕ → List String → Trial
-  -- a comparison and tables, and what is printed for them
-  lists_by : Comparison → Tables → List String → Trial
+  -- a limit or none, a sheet's bytes, and what conlist_ignoring_case prints
+  prints_folded_by : Option ℕ → List ℕ → List String → Trial
+  -- a comparison, a limit and tables, and what is printed for them
+  lists_by : Comparison → ℕ → Tables → List String → Trial
   -- and how many bytes that is
   length_is : Tables → ℕ → Trial
   name : List ℕ → Bool → Trial
@@ -291,16 +291,16 @@ pub data Trial : Type 0 where
   expands_into : Tables → ℕ → ℕ → Bool → Option Refusal → List ℕ → Trial
   -- a comparison, an accepted model, a component and a name: the children that are found
   children_by : Comparison → Tables → ℕ → String → List ℕ → Trial
-  -- by a comparison, of an accepted model the rows of at most 20 steps are the rows without a limit; they are not
-  whole_by : Comparison → Tables → Trial
-  cut_by : Comparison → Tables → Trial
+  -- by a comparison, of an accepted model the rows under a limit are the rows without one; they are not
+  whole_by : Comparison → ℕ → Tables → Trial
+  cut_by : Comparison → ℕ → Tables → Trial
   -- 02 (xiii): an accepted model and a component: the walk along the link table from its first child on
   walks : Tables → ℕ → List ℕ → Trial
-  -- a comparison and tables, the refusal of a listing or none, its outputs afterwards: the link table, rows and diagnostics; of the group listing also
+  -- a comparison, of the traced listing and of both a limit, tables, the refusal or none, the outputs afterwards: the link table, rows and diagnostics; of the group listing also
   -- composed names; of both, the link table and all five
-  traces_by : Comparison → Tables → Option Refusal → (links rows diags : List ℕ) → Trial
+  traces_by : Comparison → ℕ → Tables → Option Refusal → (links rows diags : List ℕ) → Trial
   groups_by : Comparison → Tables → Option Refusal → (links rows diags names : List ℕ) → Trial
-  both_by : Comparison → Tables → Option Refusal → (links : List ℕ) → List (List ℕ) → Trial
+  both_by : Comparison → ℕ → Tables → Option Refusal → (links : List ℕ) → List (List ℕ) → Trial
   -- 02 (xi): under a limit, the selections of tables and whether they are cut
   grows : ℕ → Tables → List (List ℕ) → Bool → Trial
   -- the refusal or none, the number of selections and whether they are cut; a number, the refusal or none, the outputs of M rows and of the name
@@ -312,12 +312,22 @@ pub data Trial : Type 0 where
   -- the group listing of connections whose ends are expanded
   joins : Room → ℕ → Tables → List GroupConnection → Option Refusal → Trial
 
+-- without a limit that is named
+abbrev pub prints : List ℕ → List String → Trial
+prints = prints_by None
+
+abbrev pub prints_folded : List ℕ → List String → Trial
+prints_folded = prints_folded_by None
+
+abbrev pub fills : List ℕ → List ℕ → Trial
+fills = fills_by usual_limit
+
 -- by bytes, as the ported entry compares; and folded, as the second one
 abbrev pub lists : Tables → List String → Trial
-lists = lists_by same_bytes
+lists = lists_by same_bytes usual_limit
 
 abbrev pub lists_folded : Tables → List String → Trial
-lists_folded = lists_by same_folded
+lists_folded = lists_by same_folded usual_limit
 
 abbrev pub children : Tables → ℕ → String → List ℕ → Trial
 children = children_by same_bytes
@@ -326,22 +336,22 @@ abbrev pub children_folded : Tables → ℕ → String → List ℕ → Trial
 children_folded = children_by same_folded
 
 abbrev pub whole : Tables → Trial
-whole = whole_by same_bytes
+whole = whole_by same_bytes usual_limit
 
 abbrev pub whole_folded : Tables → Trial
-whole_folded = whole_by same_folded
+whole_folded = whole_by same_folded usual_limit
 
 abbrev pub cut : Tables → Trial
-cut = cut_by same_bytes
+cut = cut_by same_bytes usual_limit
 
 abbrev pub cut_folded : Tables → Trial
-cut_folded = cut_by same_folded
+cut_folded = cut_by same_folded usual_limit
 
 abbrev pub traces : Tables → Option Refusal → (links rows diags : List ℕ) → Trial
-traces = traces_by same_bytes
+traces = traces_by same_bytes usual_limit
 
 abbrev pub traces_folded : Tables → Option Refusal → (links rows diags : List ℕ) → Trial
-traces_folded = traces_by same_folded
+traces_folded = traces_by same_folded usual_limit
 
 abbrev pub groups : Tables → Option Refusal → (links rows diags names : List ℕ) → Trial
 groups = groups_by same_bytes
@@ -350,19 +360,19 @@ abbrev pub groups_folded : Tables → Option Refusal → (links rows diags names
 groups_folded = groups_by same_folded
 
 abbrev pub both : Tables → Option Refusal → (links : List ℕ) → List (List ℕ) → Trial
-both = both_by same_bytes
+both = both_by same_bytes usual_limit
 
 abbrev pub both_folded : Tables → Option Refusal → (links : List ℕ) → List (List ℕ) → Trial
-both_folded = both_by same_folded
+both_folded = both_by same_folded usual_limit
 
 abbrev pub Means : Trial → Type 0
-Means (prints sheet list) = conlist sheet ≡ text list
-Means (fills sheet out) = text_after (length out) sheet ≡ out
+Means (prints_by limit sheet list) = conlist limit sheet ≡ text list
+Means (fills_by k sheet out) = text_after k (length out) sheet ≡ out
 Means (lends ns) = lengths lent ≡ ns
 Means (pads sheet r padded) = (refusal_before sheet ≡ r) × (padded_sheet sheet ≡ padded)
-Means (prints_folded sheet list) = conlist_ignoring_case sheet ≡ text list
-Means (lists_by same m list) = listed same m ≡ text list
-Means (length_is m n) = length (listed same_bytes m) ≡ n
+Means (prints_folded_by limit sheet list) = conlist_ignoring_case limit sheet ≡ text list
+Means (lists_by same k m list) = listed same k m ≡ text list
+Means (length_is m n) = length (listed same_bytes usual_limit m) ≡ n
 Means (name s b) = good_name s ≡ b
 Means (folds s t) = folded (bytes_of s) ≡ bytes_of t
 Means (base s t) = base_name (bytes_of s) ≡ bytes_of t
@@ -382,24 +392,24 @@ Means (expands_into m g u inverse r out) =
     (refusal_of (expand_answer (length out / feature_numbers) m g u inverse) ≡ r)
     × (output (length out) expansion_numbers (expand_answer (length out / feature_numbers) m g u inverse) ≡ out)
 Means (children_by same m c s l) = T (accepted m) × (found_children same m c (bytes_of s) ≡ l)
-Means (whole_by same m) = T (accepted m) × (rows same step_limit m ≡ unlimited same m)
-Means (cut_by same m) = T (accepted m) × (rows same step_limit m ≡ unlimited same m → ⊥)
+Means (whole_by same k m) = T (accepted m) × (rows same k m ≡ unlimited same m)
+Means (cut_by same k m) = T (accepted m) × (rows same k m ≡ unlimited same m → ⊥)
 Means (walks m c l) = T (accepted m) × (walk (link_table m) (c_count m) (first_in (link_table m) c) ≡ l)
-Means (traces_by same m r ls rs ds) =
-    (refusal_of (traced_in same m ls rs ds) ≡ r)
-    × (output (length ls) (links_of m) (traced_in same m ls rs ds) ≡ ls)
-    × (output (length rs) (traced_row_numbers m) (traced_in same m ls rs ds) ≡ rs)
-    × (output (length ds) traced_diag_numbers (traced_in same m ls rs ds) ≡ ds)
+Means (traces_by same k m r ls rs ds) =
+    (refusal_of (traced_in same k m ls rs ds) ≡ r)
+    × (output (length ls) (links_of m) (traced_in same k m ls rs ds) ≡ ls)
+    × (output (length rs) (traced_row_numbers m) (traced_in same k m ls rs ds) ≡ rs)
+    × (output (length ds) traced_diag_numbers (traced_in same k m ls rs ds) ≡ ds)
 Means (groups_by same m r ls rs ds ns) =
     (refusal_of (group_in same m ls rs ds ns) ≡ r)
     × (output (length ls) (links_of m) (group_in same m ls rs ds ns) ≡ ls)
     × (output (length rs) group_row_numbers (group_in same m ls rs ds ns) ≡ rs)
     × (output (length ds) group_diag_numbers (group_in same m ls rs ds ns) ≡ ds)
     × (output (length ns) composed_names (group_in same m ls rs ds ns) ≡ ns)
-Means (both_by same m r ls out) =
-    (refusal_of (both_in same m ls out) ≡ r)
-    × (output (length ls) (links_of m) (both_in same m ls out) ≡ ls)
-    × (both_outputs m out (both_in same m ls out) ≡ out)
+Means (both_by same k m r ls out) =
+    (refusal_of (both_in same k m ls out) ≡ r)
+    × (output (length ls) (links_of m) (both_in same k m ls out) ≡ ls)
+    × (both_outputs m out (both_in same k m ls out) ≡ out)
 Means (grows limit m ss b) = (selections_of limit (modal m) ≡ ss) × (is_cut limit (modal m) ≡ b)
 Means (counts_modes m r n b) = (refusal_of (modes_answer m) ≡ r) × (mode_count (modes_answer m) ≡ n) × (modes_cut (modes_answer m) ≡ b)
 Means (selects m k r rs ns) =
@@ -543,13 +553,13 @@ same-bool false true t = absurd t
 same-bool false false t = refl
 
 abbrev pub passes : Trial → Bool
-passes (prints sheet list) = same_bytes (conlist sheet) (text list)
-passes (fills sheet out) = same_bytes (text_after (length out) sheet) out
+passes (prints_by limit sheet list) = same_bytes (conlist limit sheet) (text list)
+passes (fills_by k sheet out) = same_bytes (text_after k (length out) sheet) out
 passes (lends ns) = same_bytes (lengths lent) ns
 passes (pads sheet r padded) = same_refusal (refusal_before sheet) r && same_bytes (padded_sheet sheet) padded
-passes (prints_folded sheet list) = same_bytes (conlist_ignoring_case sheet) (text list)
-passes (lists_by same m list) = same_bytes (listed same m) (text list)
-passes (length_is m n) = eqb (length (listed same_bytes m)) n
+passes (prints_folded_by limit sheet list) = same_bytes (conlist_ignoring_case limit sheet) (text list)
+passes (lists_by same k m list) = same_bytes (listed same k m) (text list)
+passes (length_is m n) = eqb (length (listed same_bytes usual_limit m)) n
 passes (name s b) = beq (good_name s) b
 passes (folds s t) = same_bytes (folded (bytes_of s)) (bytes_of t)
 passes (base s t) = same_bytes (base_name (bytes_of s)) (bytes_of t)
@@ -569,23 +579,23 @@ passes (expands_into m g u inverse r out) =
     same_refusal (refusal_of (expand_answer (length out / feature_numbers) m g u inverse)) r
     && same_bytes (output (length out) expansion_numbers (expand_answer (length out / feature_numbers) m g u inverse)) out
 passes (children_by same m c s l) = accepted m && same_bytes (found_children same m c (bytes_of s)) l
-passes (whole_by same m) = accepted m && same_rows (rows same step_limit m) (unlimited same m)
-passes (cut_by same m) = accepted m && not (same_rows (rows same step_limit m) (unlimited same m))
+passes (whole_by same k m) = accepted m && same_rows (rows same k m) (unlimited same m)
+passes (cut_by same k m) = accepted m && not (same_rows (rows same k m) (unlimited same m))
 passes (walks m c l) = accepted m && same_bytes (walk (link_table m) (c_count m) (first_in (link_table m) c)) l
-passes (traces_by same m r ls rs ds) =
-    same_refusal (refusal_of (traced_in same m ls rs ds)) r
-    && (same_bytes (output (length ls) (links_of m) (traced_in same m ls rs ds)) ls
-    && (same_bytes (output (length rs) (traced_row_numbers m) (traced_in same m ls rs ds)) rs
-    && same_bytes (output (length ds) traced_diag_numbers (traced_in same m ls rs ds)) ds))
+passes (traces_by same k m r ls rs ds) =
+    same_refusal (refusal_of (traced_in same k m ls rs ds)) r
+    && (same_bytes (output (length ls) (links_of m) (traced_in same k m ls rs ds)) ls
+    && (same_bytes (output (length rs) (traced_row_numbers m) (traced_in same k m ls rs ds)) rs
+    && same_bytes (output (length ds) traced_diag_numbers (traced_in same k m ls rs ds)) ds))
 passes (groups_by same m r ls rs ds ns) =
     same_refusal (refusal_of (group_in same m ls rs ds ns)) r
     && (same_bytes (output (length ls) (links_of m) (group_in same m ls rs ds ns)) ls
     && (same_bytes (output (length rs) group_row_numbers (group_in same m ls rs ds ns)) rs
     && (same_bytes (output (length ds) group_diag_numbers (group_in same m ls rs ds ns)) ds
     && same_bytes (output (length ns) composed_names (group_in same m ls rs ds ns)) ns)))
-passes (both_by same m r ls out) =
-    same_refusal (refusal_of (both_in same m ls out)) r
-    && (same_bytes (output (length ls) (links_of m) (both_in same m ls out)) ls && same_lists (both_outputs m out (both_in same m ls out)) out)
+passes (both_by same k m r ls out) =
+    same_refusal (refusal_of (both_in same k m ls out)) r
+    && (same_bytes (output (length ls) (links_of m) (both_in same k m ls out)) ls && same_lists (both_outputs m out (both_in same k m ls out)) out)
 passes (grows limit m ss b) = same_lists (selections_of limit (modal m)) ss && beq (is_cut limit (modal m)) b
 passes (counts_modes m r n b) = same_refusal (refusal_of (modes_answer m)) r && (eqb (mode_count (modes_answer m)) n && beq (modes_cut (modes_answer m)) b)
 passes (selects m k r rs ns) =
@@ -597,13 +607,13 @@ passes (mode_prints sheet k list) = same_bytes (mode k sheet) (text list)
 passes (joins space names m bs r) = same_refusal (refusal_of (group_of space names m bs)) r
 
 meant : (t : Trial) → T (passes t) → Means t
-meant (prints sheet list) t = same-bytes (conlist sheet) (text list) t
-meant (fills sheet out) t = same-bytes (text_after (length out) sheet) out t
+meant (prints_by limit sheet list) t = same-bytes (conlist limit sheet) (text list) t
+meant (fills_by k sheet out) t = same-bytes (text_after k (length out) sheet) out t
 meant (lends ns) t = same-bytes (lengths lent) ns t
 meant (pads sheet r padded) t = (same-refusal _ r (search and_left), same-bytes _ padded (search and_right))
-meant (prints_folded sheet list) t = same-bytes (conlist_ignoring_case sheet) (text list) t
-meant (lists_by same m list) t = same-bytes (listed same m) (text list) t
-meant (length_is m n) t = eqb→eq (length (listed same_bytes m)) n t
+meant (prints_folded_by limit sheet list) t = same-bytes (conlist_ignoring_case limit sheet) (text list) t
+meant (lists_by same k m list) t = same-bytes (listed same k m) (text list) t
+meant (length_is m n) t = eqb→eq (length (listed same_bytes usual_limit m)) n t
 meant (name s b) t = same-bool (good_name s) b t
 meant (folds s r) t = same-bytes (folded (bytes_of s)) (bytes_of r) t
 meant (base s r) t = same-bytes (base_name (bytes_of s)) (bytes_of r) t
@@ -625,13 +635,13 @@ meant (stops room x r fs visits) t =
     (same-refusal _ r (search and_left), eqb→eq _ fs (search (and_left, and_right)), eqb→eq _ visits (search (and_left, and_right)))
 meant (expands_into m g u inverse r out) t = (same-refusal _ r (search and_left), same-bytes _ out (search and_right))
 meant (children_by same m c s l) t = (and_left (accepted m) _ t, same-bytes (found_children same m c (bytes_of s)) l (and_right (accepted m) _ t))
-meant (whole_by same m) t = (and_left (accepted m) _ t, same-rows (rows same step_limit m) (unlimited same m) (and_right (accepted m) _ t))
-meant (cut_by same m) t = (
-  and_left (accepted m) (not (same_rows (rows same step_limit m) (unlimited same m))) t,
-  (λ e. T_not (same_rows (rows same step_limit m) (unlimited same m)) (and_right (accepted m) (not (same_rows (rows same step_limit m) (unlimited same m))) t) (rows_same (rows same step_limit m) (unlimited same m) e)),
+meant (whole_by same k m) t = (and_left (accepted m) _ t, same-rows (rows same k m) (unlimited same m) (and_right (accepted m) _ t))
+meant (cut_by same k m) t = (
+  and_left (accepted m) (not (same_rows (rows same k m) (unlimited same m))) t,
+  (λ e. T_not (same_rows (rows same k m) (unlimited same m)) (and_right (accepted m) (not (same_rows (rows same k m) (unlimited same m))) t) (rows_same (rows same k m) (unlimited same m) e)),
 )
 meant (walks m c l) t = (and_left (accepted m) _ t, same-bytes _ l (and_right (accepted m) _ t))
-meant (traces_by same m r ls rs ds) t = (
+meant (traces_by same k m r ls rs ds) t = (
   same-refusal _ r (search and_left),
   same-bytes _ ls (search (and_left, and_right)),
   same-bytes _ rs (search (and_left, and_right)),
@@ -644,7 +654,7 @@ meant (groups_by same m r ls rs ds ns) t = (
   same-bytes _ ds (search (and_left, and_right)),
   same-bytes _ ns (search (and_left, and_right)),
 )
-meant (both_by same m r ls out) t = (same-refusal _ r (search and_left), same-bytes _ ls (search (and_left, and_right)), same-lists _ out (search (and_left, and_right)))
+meant (both_by same k m r ls out) t = (same-refusal _ r (search and_left), same-bytes _ ls (search (and_left, and_right)), same-lists _ out (search (and_left, and_right)))
 meant (grows limit m ss b) t = (same-lists _ ss (search and_left), same-bool _ b (search and_right))
 meant (counts_modes m r n b) t = (same-refusal _ r (search and_left), eqb→eq _ n (search (and_left, and_right)), same-bool (modes_cut (modes_answer m)) b (search and_right))
 meant (selects m k r rs ns) t =

@@ -4,9 +4,11 @@ use mathlib.Core.Bool.{true, false}
 use mathlib.Core.Path.{◌≡◌, refl}
 use mathlib.Core.List.{List, [], ◌∷◌, ◌++◌, map}
 use Prim.Native.Nat.{ℕ, zero, suc, ◌+◌}
+use Prim.Native.String.{String}
 use lib.Dec.{T}
 use lib.ListN.{length}
-use Rattle.as5506.specs.Lists.{each, bytes_of, up_to, padded, sort_by}
+use Rattle.std.specs.Prelude.{Some}
+use Rattle.as5506.specs.Lists.{each, same_bytes, bytes_of, up_to, padded, sort_by}
 use Rattle.as5506.specs.Tables.{Tables, missing, rows_naming, name_in}
 use Rattle.as5506.specs.Names.{good_name, folded, key, same_folded, base_name, is_one_to_one}
 use Rattle.as5506.specs.Fields.{unspaced, decimal_from, is_decimal, is_number, field_of, fields_fit, field_numbers}
@@ -24,10 +26,10 @@ use Rattle.as5506.specs.Text.{digits_within, digits, column, number_line, text_l
 use Rattle.as5506.specs.Modes.{modal, grown, selections_of, combinations, selections, underscored, joined_name, modes_counted, modes_on, modes_answer, selection_at, selection_within, selection_on, selection_answer}
 use Rattle.as5506.specs.Program.{text_or_refusal, printed_or_refusal, conlist_text, modes_text, mode_text, of_reading, what_fits, conlist_within, text_after, conlist, conlist_ignoring_case, modes, mode}
 use Rattle.as5506.proofs.Laws.{All}
-use Rattle.as5506.proofs.TrialForms.{Trial, Means, prints, prints_folded, lists, lists_folded, pattern, children, expands, whole, whole_folded, cut, cut_folded, text, component_rows, offsets, every, all-meant}
+use Rattle.as5506.proofs.TrialForms.{Trial, Means, prints_by, prints, prints_folded_by, prints_folded, lists, lists_folded, pattern, children, expands, whole_by, whole, whole_folded, cut_by, cut, cut_folded, text, component_rows, offsets, every, all-meant}
 use Rattle.as5506.proofs.TrialsRead.{of_names, of_sheets, of_index, of_lent, of10, of6, of7to9, of16}
 use Rattle.as5506.proofs.TrialsFind.{of_packages, of_searches, of_groups, of_children, of_spellings}
-use Rattle.as5506.proofs.TrialsList.{of_chains, of_places, of_shapes, of_matching, of_endpoints, of_rooms, of_links, of_entries, of_conlist, of_visits, of_modes}
+use Rattle.as5506.proofs.TrialsList.{of_chains, of_places, of_shapes, of_matching, of_endpoints, of_rooms, of_links, of_entries, of_chosen_limit, of_conlist, of_visits, of_modes}
 
 -- ---- models made by rule
 
@@ -108,14 +110,16 @@ extensions n =
 -- ---- the sheets
 
 -- "the run above"
-abbrev run : Trial
-run =
-    prints
-    (text ("N hub" ∷ "N pit" ∷ "N mot" ∷ "N cmd" ∷ "N set" ∷ "N c1" ∷ "N c2" ∷ "N p" ∷ "N t" ∷ "N reg" ∷
+abbrev run_sheet : List ℕ
+run_sheet =
+    text
+    ("N hub" ∷ "N pit" ∷ "N mot" ∷ "N cmd" ∷ "N set" ∷ "N c1" ∷ "N c2" ∷ "N p" ∷ "N t" ∷ "N reg" ∷
     "C     0     -                   -     7     8     -     0" ∷ "C     1     0                   -     7     8     -     0" ∷
     "C     2     0                   -     7     8     -     1" ∷ "C     9     1                   -     7     8     -     0" ∷
-    "X     5     0     0     1     3     2     4" ∷ "X     6     1     0     9     4     -     3" ∷ []))
-    ("S     0     0     3     2     2     0     1" ∷ "= c1" ∷ "< set" ∷ "> set" ∷ "Z     1     0" ∷ [])
+    "X     5     0     0     1     3     2     4" ∷ "X     6     1     0     9     4     -     3" ∷ [])
+
+abbrev run : Trial
+run = prints run_sheet ("S     0     0     3     2     2     0     1" ∷ "= c1" ∷ "< set" ∷ "> set" ∷ "Z     1     0" ∷ [])
 
 -- "One to one, 3 against 2: one diagnostic, 2 pairs"
 abbrev uneven : Trial
@@ -130,6 +134,20 @@ uneven =
     "= c" ∷ "< f" ∷ "> g" ∷ "D     4     0     3     2" ∷
     "! connection 'c': One_To_One pattern requires equal array sizes (source=3, destination=2)" ∷ "@ top" ∷ "@ c" ∷
     "Z     2     0" ∷ [])
+
+-- n components below component 0, each the child of the one before, and through them the connections of the feature f: connection 0 has a source chain of
+-- n - 1 steps
+abbrev nested_sheet : ℕ → List ℕ
+nested_sheet n =
+    text ("N r" ∷ "N a" ∷ "N f" ∷ "C     0     -                   -     0     0     -     0" ∷ [])
+    ++ each (λ i. bytes_of "C     1" ++ column i ++ text ("                   -     0     0     -     0" ∷ [])) (up_to n)
+    ++ each (λ i. bytes_of "X     2" ++ column i ++ text ("     0     1     2     -     2" ∷ [])) (up_to n)
+
+-- what is printed of it where the chain of connection 0 ends after 20 steps
+abbrev nested_list : List String
+nested_list =
+    "S     0     0    21     0    21     0     1     2     3     4     5     6     7     8     9    10    11    12    13    14    15    16    17    18    19    20" ∷
+    "= f" ∷ "< f" ∷ "> f" ∷ "Z     1     0" ∷ []
 
 -- connection d leads to F inside a, and connection c begins at f of a
 abbrev in_other_case : List ℕ
@@ -222,17 +240,37 @@ of_folded =
     ∷ cut_folded (mirror 21)
     ∷ []
 
+-- 02 (ix): the programs under a limit that is named, and under 20 "wherever none is named"; rows under limits beside 20
+abbrev of_named_limit : List Trial
+of_named_limit =
+    prints_by (Some 0) run_sheet ("S     0     0     1     2     1     0" ∷ "= c1" ∷ "< cmd" ∷ "> set" ∷ "Z     1     0" ∷ [])
+    ∷ prints_folded_by (Some 0) in_other_case ("S     0     0     1     2     1     0" ∷ "= c" ∷ "< f" ∷ "> g" ∷ "Z     1     0" ∷ [])
+    -- "after 5 and before 10": behind 2 and 4, and before the 7 of an empty sheet
+    ∷ prints_by (Some 65) (bytes_of "N") ("R     2     1 -" ∷ [])
+    ∷ prints_folded_by (Some 65) (text ("N" ∷ [])) ("R     4     1 -" ∷ [])
+    ∷ prints_by (Some 65) [] ("R    19     0 -" ∷ [])
+    ∷ prints_folded_by (Some 65) [] ("R    19     0 -" ∷ [])
+    -- "20 holds wherever none is named"
+    ∷ prints (nested_sheet 22) nested_list
+    ∷ prints_folded (nested_sheet 22) nested_list
+    -- 19 cuts a chain of 20 steps, and 21 does not cut one of 21
+    ∷ cut_by same_folded 19 (spelled 20)
+    ∷ whole_by same_bytes 21 (mirror 21)
+    -- no chain that is followed has a step beyond 0
+    ∷ whole_by same_bytes 0 (unpaired 1)
+    ∷ []
+
 -- A TRIAL FOR EACH RULE; the quick ones first, since a definition that differs is refused at the first trial that fails
 abbrev pub further : List Trial
 further =
     of_names ++ of_index ++ of_lent ++ of10 ++ of7to9 ++ of16 ++ of_packages ++ of_searches ++ of_groups ++ of_children ++ of_spellings ++ of_chains ++ of_places ++ of_shapes ++ of_matching
-    ++ of_endpoints ++ of_rooms ++ of_folded ++ of_entries ++ of_links ++ of_sheets ++ of_limit ++ of6 ++ of_conlist ++ of_visits ++ of_modes
+    ++ of_endpoints ++ of_rooms ++ of_folded ++ of_entries ++ of_chosen_limit ++ of_named_limit ++ of_links ++ of_sheets ++ of_limit ++ of6 ++ of_conlist ++ of_visits ++ of_modes
 
 abbrev pub trial_table : List Trial
 trial_table = starred ++ traps ++ further
 
 -- how many there are
-trials-counted : length trial_table ≡ 747
+trials-counted : length trial_table ≡ 776
 trials-counted = refl
 
 -- ---- THE PROOF

@@ -5,12 +5,13 @@ use Prim.Native.Nat.{ℕ, ◌+◌, ◌-◌, ◌*◌}
 use Prim.Native.String.{String}
 use lib.ListN.{length, replicate, set}
 use Rattle.std.specs.Prelude.{Option, None, Some}
-use Rattle.as5506.specs.Lists.{up_to, each, zeros, bytes_of}
+use Rattle.as5506.specs.Lists.{up_to, each, zeros, same_bytes, bytes_of}
 use Rattle.as5506.specs.Tables.{Tables, missing, letter_c, letter_n, letter_p, letter_m}
+use Rattle.as5506.specs.Names.{same_folded}
 use Rattle.as5506.specs.Answers.{Refusal, refusal, nowhere, row}
 use Rattle.as5506.specs.Groups.{Expansion}
 use Rattle.as5506.specs.GroupList.{GroupConnection}
-use Rattle.as5506.proofs.TrialForms.{Trial, fills, lends, lists, lists_folded, length_is, walks, traces, traces_folded, groups, groups_folded, both, both_folded, joins, grows, counts_modes, selects, modes_prints, mode_prints, text, model, change}
+use Rattle.as5506.proofs.TrialForms.{Trial, fills_by, fills, lends, lists_by, lists, lists_folded, length_is, walks, traces_by, traces, traces_folded, groups, groups_folded, both_by, both, both_folded, joins, grows, counts_modes, selects, modes_prints, mode_prints, text, model, change}
 
 -- a model in words, and what is printed
 abbrev prints-of : List String → List String → Trial
@@ -379,9 +380,9 @@ filled n l = l ++ zeros (n - length l)
 
 -- the numbers of a listing's row
 abbrev row_width : ℕ
-row_width = 49
+row_width = 137
 
--- connection, kind, two components, three name fields, path length, "places for 41 connections of its path": of a traced row the fields are name
+-- connection, kind, two components, three name fields, path length, "places for 129 connections" of its path: of a traced row the fields are name
 -- numbers, of a group row the lengths of its names
 abbrev traced_row : List ℕ
 traced_row = filled row_width (1 ∷ 0 ∷ 1 ∷ 0 ∷ 11 ∷ 13 ∷ 14 ∷ 1 ∷ 1 ∷ [])
@@ -523,7 +524,7 @@ of_links =
     traces unordered None unordered_links [] []
     ∷ traces unordered None (filled 13 unordered_links) (zeros 50) (zeros 5)
     ∷ groups unordered None (filled 15 unordered_links) [] [] []
-    ∷ both unordered None (filled 14 unordered_links) ([] ∷ zeros 4 ∷ zeros 49 ∷ [] ∷ zeros 1 ∷ [])
+    ∷ both unordered None (filled 14 unordered_links) ([] ∷ zeros 4 ∷ zeros 137 ∷ [] ∷ zeros 1 ∷ [])
     ∷ traces (model ("C top - - p t -" ∷ [])) None (missing ∷ missing ∷ 0 ∷ []) [] []
     -- "the walk gives the same children in the same order as a scan by place"
     ∷ walks unordered 0 (2 ∷ 5 ∷ 1 ∷ 4 ∷ [])
@@ -752,6 +753,65 @@ of_entries =
     ∷ both_folded repeated bad_package (zeros 3) (zeros row_width ∷ zeros 4 ∷ zeros row_width ∷ zeros 4 ∷ zeros 12 ∷ [])
     ∷ both_folded parented bad_root (zeros 4) (zeros row_width ∷ zeros 4 ∷ zeros row_width ∷ zeros 4 ∷ zeros 12 ∷ [])
     ∷ lists_folded parented ("R     7     0 C" ∷ [])
+    ∷ []
+
+-- ---- 02 (ix): a limit that the buyer sets
+
+-- connection c from a to b; inside a two steps lead on, and inside b one. And the mirror image in other case, so that only the second entry takes a step
+abbrev stepped : List String
+stepped = across_top ("C k 1 - p t -" ∷ "C l 3 - p t -" ∷ "C m 2 - p t -" ∷ "X d 1 0 k u - f" ∷ "X e 3 0 l v - u" ∷ "X h 2 0 - g m w" ∷ [])
+
+abbrev stepped_spelled : List String
+stepped_spelled = across_top ("C k 2 - p t -" ∷ "C l 3 - p t -" ∷ "C m 1 - p t -" ∷ "X d 2 0 - G K u" ∷ "X e 3 0 - U L v" ∷ "X h 1 0 M w - F" ∷ [])
+
+-- the list of `stepped` under the limits from 2 on
+abbrev stepped_list : List String
+stepped_list = "S     0     3     4     5     4     0     1     2     3" ∷ "= c" ∷ "< v" ∷ "> w" ∷ "Z     1     0" ∷ []
+
+-- 2 and 3, and 4 of each, but no row
+abbrev faulty_ends : List String
+faulty_ends = "C top - - p t One_To_One" ∷ "C a 0 - p t -" ∷ "X c 0 0 a f z g" ∷ "X d 0 0 y f a g" ∷ []
+
+abbrev faulty_list : List String
+faulty_list =
+    "D     3     0    10     0" ∷ "! connection 'c': unresolved destination subcomponent 'z'" ∷ "@ top" ∷ "@ c" ∷
+    "D     4     0     1     0" ∷ "! connection 'c': One_To_One pattern requires equal array sizes (source=1, destination=0)" ∷ "@ top" ∷ "@ c" ∷
+    "D     2     1    13     0" ∷ "! connection 'd': unresolved source subcomponent 'y'" ∷ "@ top" ∷ "@ d" ∷
+    "D     4     1     0     1" ∷ "! connection 'd': One_To_One pattern requires equal array sizes (source=0, destination=1)" ∷ "@ top" ∷ "@ d" ∷ "Z     0     0" ∷ []
+
+-- one component and three names
+abbrev alone : Tables
+alone = model ("C top - - p t -" ∷ [])
+
+abbrev pub of_chosen_limit : List Trial
+of_chosen_limit =
+    -- "becomes an argument, 0 to 64": under 0 the chains have no step and the row still comes; 1 cuts towards the source alone; 2 cuts nothing
+    lists_by same_bytes 0 (model stepped) ("S     0     3     1     2     1     0" ∷ "= c" ∷ "< f" ∷ "> g" ∷ "Z     1     0" ∷ [])
+    ∷ lists_by same_bytes 1 (model stepped) ("S     0     3     3     5     3     0     1     3" ∷ "= c" ∷ "< u" ∷ "> w" ∷ "Z     1     0" ∷ [])
+    ∷ lists_by same_bytes 2 (model stepped) stepped_list
+    -- "the lists are equal exactly when they are the same number or no followed chain has a step beyond the smaller": 2 and 64, though not 1 and 2
+    ∷ lists_by same_bytes 64 (model stepped) stepped_list
+    -- the second entry, of which 1 cuts the chain towards the destination alone
+    ∷ lists_by same_folded 0 (model stepped_spelled) ("S     0     3     1     2     1     0" ∷ "= c" ∷ "< f" ∷ "> g" ∷ "Z     1     0" ∷ [])
+    ∷ lists_by same_folded 1 (model stepped_spelled) ("S     0     3     5     3     3     0     3     1" ∷ "= c" ∷ "< w" ∷ "> u" ∷ "Z     1     0" ∷ [])
+    -- "places for 129 connections": the path stands in the first of them
+    ∷ traces_by same_folded 2 (model stepped) None (1 ∷ missing ∷ 3 ∷ 2 ∷ 5 ∷ missing ∷ 4 ∷ missing ∷ missing ∷ missing ∷ missing ∷ missing ∷ [])
+    (filled row_width (0 ∷ 3 ∷ 4 ∷ 5 ∷ 9 ∷ 29 ∷ 34 ∷ 4 ∷ 0 ∷ 1 ∷ 2 ∷ 3 ∷ [])) []
+    -- the limit changes no diagnostic, and nothing of the group listing
+    ∷ lists_by same_bytes 0 (model faulty_ends) faulty_list
+    ∷ both_by same_bytes 0 mixed None mixed_links (traced_row ∷ traced_diag ∷ group_row ∷ group_diag ∷ composed ∷ [])
+    -- "A limit above 64 is refused as 19", which has no place; every output holds zeros
+    ∷ lists_by same_bytes 65 (model stepped) ("R    19     0 -" ∷ [])
+    ∷ lists_by same_folded 18446744073709551615 (model stepped) ("R    19     0 -" ∷ [])
+    ∷ traces_by same_bytes 65 mixed (over 19) (zeros 4) (zeros row_width) (zeros 4)
+    ∷ both_by same_folded 65 mixed (over 19) (zeros 4) (zeros row_width ∷ zeros 4 ∷ zeros row_width ∷ zeros 4 ∷ zeros 12 ∷ [])
+    -- "before 10", and so before 6, 7 and 22
+    ∷ traces_by same_bytes 65 (change alone letter_n (λ t. t ++ (0 ∷ []))) (over 19) (zeros 2) [] []
+    ∷ both_by same_folded 65 (change alone letter_c (λ t. set t 0 3)) (over 19) (zeros 2) ([] ∷ [] ∷ [] ∷ [] ∷ [] ∷ [])
+    ∷ traces_by same_folded 65 (change alone letter_c (λ t. set t 1 0)) (over 19) (zeros 2) [] []
+    ∷ both_by same_bytes 65 alone (over 19) (zeros 1) ([] ∷ [] ∷ [] ∷ [] ∷ [] ∷ [])
+    -- a lent output of text
+    ∷ fills_by 65 root_sheet (filled 63 (text ("R    19     0 -" ∷ [])))
     ∷ []
 
 -- ---- what conlist lends

@@ -1,5 +1,5 @@
 -- Children, tracing, listing (instance.rs): one definition over the comparison of names (`same`), over the side and over the limit on steps. Assumes nothing.
-use Rattle.std.specs.Prelude.{Bool, true, false, not, ◌&&◌, cond, List, [], ◌∷◌, ◌++◌, map, ℕ, zero, suc, eqb, length}
+use Rattle.std.specs.Prelude.{Bool, true, false, not, ◌&&◌, cond, List, [], ◌∷◌, ◌++◌, map, ℕ, zero, suc, eqb, length, Option, unwrap_or}
 use Rattle.as5506.specs.Lists.{keep, when, is_nil, each, up_to, has}
 use Rattle.as5506.specs.Tables.{Tables, present, Side, source, destination, other, name_of, c_count, c_name, c_parent, has_index, c_pattern, children_of, x_count, x_name, x_owner, x_kind, x_sub, x_feat, has_ends, connections_of}
 use Rattle.as5506.specs.Names.{Comparison, same_folded, bracket, base_name, is_one_to_one}
@@ -71,7 +71,7 @@ abbrev pub grow : Chain → (Step → List Chain) → List Step → List Chain
 grow e g [] = e ∷ []
 grow e g (st ∷ sts) = each g (st ∷ sts)
 
--- "or after 20 steps": the chains of at most k steps from (c, f), over any steps
+-- "or after 20 steps", or as many as the limit allows: the chains of at most k steps from (c, f), over any steps
 unfoldable pub chains_by : (ℕ → ℕ → List Step) → ℕ → ℕ → ℕ → List Chain
 chains_by next zero c f = stop c f ∷ []
 chains_by next (suc k) c f = grow (stop c f) (λ st. map (push st.conn) (chains_by next k st.child st.feat)) (next c f)
@@ -211,9 +211,16 @@ shown m r =
 unfoldable pub rows : Comparison → ℕ → Tables → List Row
 rows same k m = map (shown m) (traced same k m)
 
--- "A chain ends .. after 20 steps"
-abbrev pub step_limit : ℕ
-step_limit = 20
+-- "A chain ends .. after 20 steps"; 02 (ix): "20 holds wherever none is named"
+abbrev pub usual_limit : ℕ
+usual_limit = 20
+
+abbrev pub limit_or : Option ℕ → ℕ
+limit_or limit = unwrap_or limit usual_limit
+
+-- "The traced listing's limit becomes an argument, 0 to 64"
+abbrev pub largest_limit : ℕ
+largest_limit = 64
 
 -- THE ROWS WITHOUT A LIMIT: "rows grow, so it ends". No chain of an accepted model has as many steps as there are components
 -- (proofs: unlimited-is, unlimited-ends, unlimited-none)

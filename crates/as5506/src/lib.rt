@@ -2,11 +2,13 @@
 #![tactic(auto)]
 
 mod reason;
+mod step_limit;
 
 ghost use Rattle.std.specs.Prelude.{◌≡◌};
 ghost use Rattle.as5506.specs.Answers.{nowhere, refusal, told};
 
 pub use reason::Reason;
+pub use step_limit::StepLimit;
 
 // A missing field of a table. A number and no Option: C and the reader lend the tables so, and the definition has the same word.
 pub const MISSING: u32 = 4294967295;
@@ -15,10 +17,12 @@ pub const SHEET_BYTES: usize = 16384;
 
 pub const TABLE_ROWS: usize = 4096;
 
-// The steps of a chain, at most.
-pub const STEPS: usize = 20;
+// The steps of a chain, at most, where no limit is named.
+pub const USUAL_LIMIT: u64 = 20;
+// The largest limit that may be named.
+pub const LARGEST_LIMIT: usize = 64;
 // Places for a connection and the steps of one chain.
-pub const CHAIN_PLACES: usize = STEPS + 1;
+pub const CHAIN_PLACES: usize = 1 + LARGEST_LIMIT;
 
 pub const VISITS: u32 = 65536;
 // The selections of modes, at most.
@@ -57,7 +61,7 @@ pub const WIDTHS: [usize; LETTER_COUNT] = [
     U_NUMBERS, E_NUMBERS, R_NUMBERS, M_NUMBERS,
 ];
 // The path of a listing's row: a connection, the steps of its source's chain and those of its destination's.
-pub const PATH_PLACES: usize = CHAIN_PLACES + STEPS;
+pub const PATH_PLACES: usize = CHAIN_PLACES + LARGEST_LIMIT;
 // A listing's row: connection, kind, two components, three name fields, path length, the path's places.
 pub const ROW_NUMBERS: usize = 8 + PATH_PLACES;
 

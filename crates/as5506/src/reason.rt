@@ -18,6 +18,8 @@ pub enum Reason {
     Names = 14,
     // A printed list longer than its output.
     Text = 15,
+    // A step limit above 64.
+    Limit = 19,
     // A selection number not below the number of selections.
     Selection = 20,
     // A link table of fewer rows than there are components.

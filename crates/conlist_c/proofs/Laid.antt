@@ -71,19 +71,19 @@ front-room rows n count end part part' cleared h =
 
 -- ---- each listing
 
-pub traced-laid : (m : Tables) (links rows numbers : List ℕ) (count end : ℕ) (part part' cleared told' links' rows' : List ℕ)
+pub traced-laid : (k : ℕ) (m : Tables) (links rows numbers : List ℕ) (count end : ℕ) (part part' cleared told' links' rows' : List ℕ)
     → Front (length numbers) (min count (length numbers / diag_numbers)) end part part' cleared
-    → TracedTold (traced_here m links rows part) m links rows part told' links' rows' part'
-    → TracedTold (traced_for m links rows numbers count) m links rows numbers told' links' rows' (part' ++ drop end cleared)
-traced-laid m links rows numbers count end part part' cleared told' links' rows' f h =
-    subst (λ (room : Room). TracedTold (traced_answer same_bytes (links_in (length links)) room m) m links rows numbers told' links' rows' (part' ++ drop end cleared)) (front-room (length rows) (length numbers) count end part part' cleared f)
+    → TracedTold (traced_here k m links rows part) k m links rows part told' links' rows' part'
+    → TracedTold (traced_for k m links rows numbers count) k m links rows numbers told' links' rows' (part' ++ drop end cleared)
+traced-laid k m links rows numbers count end part part' cleared told' links' rows' f h =
+    subst (λ (room : Room). TracedTold (traced_answer same_bytes k (links_in (length links)) room m) k m links rows numbers told' links' rows' (part' ++ drop end cleared)) (front-room (length rows) (length numbers) count end part part' cleared f)
     (record {
       told = h.told;
       outputs-hold = record {
         answer = refl;
         written-links = h.outputs-hold.written-links;
         written-rows = h.outputs-hold.written-rows;
-        written-diagnostics = all_hold traced_diag_numbers (traced_here m links rows part) (length numbers) _ end part part' cleared f h.outputs-hold.written-diagnostics;
+        written-diagnostics = all_hold traced_diag_numbers (traced_here k m links rows part) (length numbers) _ end part part' cleared f h.outputs-hold.written-diagnostics;
         children-by-links = h.outputs-hold.children-by-links;
         step-limit = h.outputs-hold.step-limit;
       };
@@ -108,16 +108,16 @@ group-laid m links rows names numbers count end part part' cleared told' links' 
       };
     })
 
-pub both-laid : (same : Comparison) (m : Tables) (links rows numbers grows names gnumbers : List ℕ) (count gcount end gend : ℕ) (part part' cleared gpart gpart' gcleared told' links' rows' grows' names' : List ℕ)
+pub both-laid : (same : Comparison) (k : ℕ) (m : Tables) (links rows numbers grows names gnumbers : List ℕ) (count gcount end gend : ℕ) (part part' cleared gpart gpart' gcleared told' links' rows' grows' names' : List ℕ)
     → Front (length numbers) (min count (length numbers / diag_numbers)) end part part' cleared
     → Front (length gnumbers) (min gcount (length gnumbers / diag_numbers)) gend gpart gpart' gcleared
-    → BothTold same (both_here same m (outputs links rows part grows names gpart)) m (outputs links rows part grows names gpart) told' (outputs links' rows' part' grows' names' gpart')
-    → BothTold same (both_for same m (outputs links rows numbers grows names gnumbers) count gcount) m (outputs links rows numbers grows names gnumbers) told'
+    → BothTold same (both_here same k m (outputs links rows part grows names gpart)) k m (outputs links rows part grows names gpart) told' (outputs links' rows' part' grows' names' gpart')
+    → BothTold same (both_for same k m (outputs links rows numbers grows names gnumbers) count gcount) k m (outputs links rows numbers grows names gnumbers) told'
     (outputs links' rows' (part' ++ drop end cleared) grows' names' (gpart' ++ drop gend gcleared))
-both-laid same m links rows numbers grows names gnumbers count gcount end gend part part' cleared gpart gpart' gcleared told' links' rows' grows' names' f g h =
-    let wanted : Answer BothLists = both_here same m (outputs links rows part grows names gpart) in
+both-laid same k m links rows numbers grows names gnumbers count gcount end gend part part' cleared gpart gpart' gcleared told' links' rows' grows' names' f g h =
+    let wanted : Answer BothLists = both_here same k m (outputs links rows part grows names gpart) in
     let here : Room → Room → Type 0
-    = λ (room room' : Room). BothTold same (both_answer same (links_in (length links)) room room' (length names) m) m (outputs links rows numbers grows names gnumbers) told'
+    = λ (room room' : Room). BothTold same (both_answer same k (links_in (length links)) room room' (length names) m) k m (outputs links rows numbers grows names gnumbers) told'
     (outputs links' rows' (part' ++ drop end cleared) grows' names' (gpart' ++ drop gend gcleared)) in
     subst (λ (room : Room). here room (room_with (length grows) (length gnumbers) gcount)) (front-room (length rows) (length numbers) count end part part' cleared f)
     (subst (λ (room : Room). here (room_in (length rows) (length part)) room) (front-room (length grows) (length gnumbers) gcount gend gpart gpart' gcleared g)
@@ -152,16 +152,16 @@ holds-map P Q (refused r) g h = tt
 under : (rows n count k : ℕ) → k ≤ (room_with rows n count).diags → k ≤ count
 under rows n count k h = omega (arith, h)
 
-pub traced-records : (m : Tables) (links rows numbers : List ℕ) (out : List Diagnostic) (told' links' rows' numbers' : List ℕ) (out' : List Diagnostic)
-    → TracedTold (traced_for m links rows numbers (length out)) m links rows numbers told' links' rows' numbers' → out' ≡ records_from numbers' 0 (length out)
-    → TracedRecords m links rows numbers out told' links' rows' numbers' out'
+pub traced-records : (k : ℕ) (m : Tables) (links rows numbers : List ℕ) (out : List Diagnostic) (told' links' rows' numbers' : List ℕ) (out' : List Diagnostic)
+    → TracedTold (traced_for k m links rows numbers (length out)) k m links rows numbers told' links' rows' numbers' → out' ≡ records_from numbers' 0 (length out)
+    → TracedRecords k m links rows numbers out told' links' rows' numbers' out'
 unfolding traced_diag_numbers
-traced-records m links rows numbers out told' links' rows' numbers' out' h e =
+traced-records k m links rows numbers out told' links' rows' numbers' out' h e =
     let room : Room = room_with (length rows) (length numbers) (length out) in
     record {
       as-numbers = h;
-      as-records = e ∙ filled-records (λ (l : TracedList). l.diags) traced_diag_numbers (traced_answer same_bytes (links_in (length links)) room m) numbers' (length numbers) (length out) (λ x. refl)
-          (holds-map _ _ (traced_answer same_bytes (links_in (length links)) room m) (λ x t. under (length rows) (length numbers) (length out) (length x.diags) t.diags) (traced_fit same_bytes (links_in (length links)) room m)) h.outputs-hold.written-diagnostics;
+      as-records = e ∙ filled-records (λ (l : TracedList). l.diags) traced_diag_numbers (traced_answer same_bytes k (links_in (length links)) room m) numbers' (length numbers) (length out) (λ x. refl)
+          (holds-map _ _ (traced_answer same_bytes k (links_in (length links)) room m) (λ x t. under (length rows) (length numbers) (length out) (length x.diags) t.diags) (traced_fit same_bytes k (links_in (length links)) room m)) h.outputs-hold.written-diagnostics;
     }
 
 pub group-records : (m : Tables) (links rows names numbers : List ℕ) (out : List Diagnostic) (told' links' rows' names' numbers' : List ℕ) (out' : List Diagnostic)
@@ -177,13 +177,13 @@ group-records m links rows names numbers out told' links' rows' names' numbers' 
           h.outputs-hold.written-diagnostics;
     }
 
-pub both-records : (same : Comparison) (m : Tables) (o : Outputs) (out group-out : List Diagnostic) (told' : List ℕ) (p : Outputs) (out' group-out' : List Diagnostic)
-    → BothTold same (both_for same m o (length out) (length group-out)) m o told' p → out' ≡ records_from p.diags 0 (length out) → group-out' ≡ records_from p.group-diags 0 (length group-out)
-    → BothRecords same m o out group-out told' p out' group-out'
+pub both-records : (same : Comparison) (k : ℕ) (m : Tables) (o : Outputs) (out group-out : List Diagnostic) (told' : List ℕ) (p : Outputs) (out' group-out' : List Diagnostic)
+    → BothTold same (both_for same k m o (length out) (length group-out)) k m o told' p → out' ≡ records_from p.diags 0 (length out) → group-out' ≡ records_from p.group-diags 0 (length group-out)
+    → BothRecords same k m o out group-out told' p out' group-out'
 unfolding traced_diag_numbers group_diag_numbers
-both-records same m o out group-out told' p out' group-out' h e g =
-    let a : Answer BothLists = both_for same m o (length out) (length group-out) in
-    let fits = both-fit same (links_in (length o.links)) (room_with (length o.rows) (length o.diags) (length out)) (room_with (length o.group-rows) (length o.group-diags) (length group-out)) (length o.names) m in
+both-records same k m o out group-out told' p out' group-out' h e g =
+    let a : Answer BothLists = both_for same k m o (length out) (length group-out) in
+    let fits = both-fit same k (links_in (length o.links)) (room_with (length o.rows) (length o.diags) (length out)) (room_with (length o.group-rows) (length o.group-diags) (length group-out)) (length o.names) m in
     record {
       as-numbers = h;
       as-records = e ∙ filled-records (λ (b : BothLists). b.traced.diags) (of_traced traced_diag_numbers) a p.diags (length o.diags) (length out) (λ x. refl)

@@ -17,6 +17,7 @@ use name::Reading;
 pub fn list(
     m: &Tables,
     reading: Reading,
+    limit: u64,
     links: &mut [u32],
     rows: &mut [u32],
     diagnostics: &mut [u32],
@@ -25,14 +26,15 @@ pub fn list(
     group_diagnostics: &mut [u32],
 ) -> [u64; 5]
     ensures { BothTold (comparison reading)
-        (answer_for (comparison reading) (model m.now) (outputs links.old rows.old diagnostics.old group_rows.old names.old group_diagnostics.old))
-        (model m.now)
+        (answer_for (comparison reading) limit (model m.now) (outputs links.old rows.old diagnostics.old group_rows.old names.old group_diagnostics.old))
+        limit (model m.now)
         (outputs links.old rows.old diagnostics.old group_rows.old names.old group_diagnostics.old) result
         (outputs links.new rows.new diagnostics.new group_rows.new names.new group_diagnostics.new) }
 {
     numbers::told(listing::list_connections(
         m,
         reading,
+        limit,
         links,
         rows,
         diagnostics,
@@ -46,6 +48,7 @@ pub fn list(
 pub fn list_for(
     m: &Tables,
     reading: Reading,
+    limit: u64,
     links: &mut [u32],
     rows: &mut [u32],
     numbers: &mut [u32],
@@ -56,8 +59,8 @@ pub fn list_for(
     group_count: usize,
 ) -> [u64; 5]
     ensures { BothTold (comparison reading)
-        (both_for (comparison reading) (model m.now) (outputs links.old rows.old numbers.old group_rows.old names.old group_numbers.old) count group_count)
-        (model m.now)
+        (both_for (comparison reading) limit (model m.now) (outputs links.old rows.old numbers.old group_rows.old names.old group_numbers.old) count group_count)
+        limit (model m.now)
         (outputs links.old rows.old numbers.old group_rows.old names.old group_numbers.old) result
         (outputs links.new rows.new numbers.new group_rows.new names.new group_numbers.new) }
 {
@@ -68,6 +71,7 @@ pub fn list_for(
     list(
         m,
         reading,
+        limit,
         links,
         rows,
         &mut numbers[..end],
@@ -95,6 +99,7 @@ pub extern "C" fn conlist_list_connections(
     e: &[u32],
     r: &[u32],
     m: &[u32],
+    limit: u64,
     links: &mut [u32],
     rows: &mut [u32],
     diagnostics: &mut [u32],
@@ -104,9 +109,9 @@ pub extern "C" fn conlist_list_connections(
     told: &mut [u64; 5],
 )
     ensures { BothTold same_bytes
-        (answer_for same_bytes (tables_at bytes n c f x p i t q u e r m)
+        (answer_for same_bytes limit (tables_at bytes n c f x p i t q u e r m)
         (outputs links.old rows.old diagnostics.old group_rows.old names.old group_diagnostics.old))
-        (tables_at bytes n c f x p i t q u e r m)
+        limit (tables_at bytes n c f x p i t q u e r m)
         (outputs links.old rows.old diagnostics.old group_rows.old names.old group_diagnostics.old) told.new
         (outputs links.new rows.new diagnostics.new group_rows.new names.new group_diagnostics.new) }
 {
@@ -128,6 +133,7 @@ pub extern "C" fn conlist_list_connections(
     *told = list(
         &model,
         Reading::Ported,
+        limit,
         links,
         rows,
         diagnostics,
@@ -155,6 +161,7 @@ pub extern "C" fn conlist_list_connections_with_records(
     e: &[u32],
     r: &[u32],
     m: &[u32],
+    limit: u64,
     links: &mut [u32],
     rows: &mut [u32],
     numbers: &mut [u32],
@@ -166,7 +173,7 @@ pub extern "C" fn conlist_list_connections_with_records(
     told: &mut [u64; 5],
 )
     ensures { BothRecords same_bytes
-        (tables_at bytes n c f x p i t q u e r m)
+        limit (tables_at bytes n c f x p i t q u e r m)
         (outputs links.old rows.old numbers.old group_rows.old names.old group_numbers.old)
         out.old group_out.old told.new
         (outputs links.new rows.new numbers.new group_rows.new names.new group_numbers.new)
@@ -190,6 +197,7 @@ pub extern "C" fn conlist_list_connections_with_records(
     *told = list_for(
         &model,
         Reading::Ported,
+        limit,
         links,
         rows,
         numbers,

@@ -29,6 +29,7 @@ pub extern "C" fn conlist_list_connections_ignoring_case(
     e: &[u32],
     r: &[u32],
     m: &[u32],
+    limit: u64,
     links: &mut [u32],
     rows: &mut [u32],
     diagnostics: &mut [u32],
@@ -38,9 +39,9 @@ pub extern "C" fn conlist_list_connections_ignoring_case(
     told: &mut [u64; 5],
 )
     ensures { BothTold same_folded
-        (answer_for same_folded (tables_at bytes n c f x p i t q u e r m)
+        (answer_for same_folded limit (tables_at bytes n c f x p i t q u e r m)
         (outputs links.old rows.old diagnostics.old group_rows.old names.old group_diagnostics.old))
-        (tables_at bytes n c f x p i t q u e r m)
+        limit (tables_at bytes n c f x p i t q u e r m)
         (outputs links.old rows.old diagnostics.old group_rows.old names.old group_diagnostics.old) told.new
         (outputs links.new rows.new diagnostics.new group_rows.new names.new group_diagnostics.new) }
 {
@@ -62,6 +63,7 @@ pub extern "C" fn conlist_list_connections_ignoring_case(
     *told = both::list(
         &model,
         Reading::CaseIgnored,
+        limit,
         links,
         rows,
         diagnostics,
@@ -89,6 +91,7 @@ pub extern "C" fn conlist_list_connections_ignoring_case_with_records(
     e: &[u32],
     r: &[u32],
     m: &[u32],
+    limit: u64,
     links: &mut [u32],
     rows: &mut [u32],
     numbers: &mut [u32],
@@ -100,7 +103,7 @@ pub extern "C" fn conlist_list_connections_ignoring_case_with_records(
     told: &mut [u64; 5],
 )
     ensures { BothRecords same_folded
-        (tables_at bytes n c f x p i t q u e r m)
+        limit (tables_at bytes n c f x p i t q u e r m)
         (outputs links.old rows.old numbers.old group_rows.old names.old group_numbers.old)
         out.old group_out.old told.new
         (outputs links.new rows.new numbers.new group_rows.new names.new group_numbers.new)
@@ -124,6 +127,7 @@ pub extern "C" fn conlist_list_connections_ignoring_case_with_records(
     *told = both::list_for(
         &model,
         Reading::CaseIgnored,
+        limit,
         links,
         rows,
         numbers,

@@ -11,25 +11,32 @@ use lent::Tables;
 
 // Lists as `compute_semantic_connections` does, with what is told of it: 0, the rows and the diagnostics that were written, or a refusal's number, place
 // and letter.
-fn trace(m: &Tables, links: &mut [u32], rows: &mut [u32], diagnostics: &mut [u32]) -> [u64; 3]
-    ensures { TracedTold (answer_for (model m.now) links.old rows.old diagnostics.old) (model m.now) links.old rows.old diagnostics.old result links.new rows.new diagnostics.new }
+fn trace(
+    m: &Tables,
+    limit: u64,
+    links: &mut [u32],
+    rows: &mut [u32],
+    diagnostics: &mut [u32],
+) -> [u64; 3]
+    ensures { TracedTold (answer_for limit (model m.now) links.old rows.old diagnostics.old) limit (model m.now) links.old rows.old diagnostics.old result links.new rows.new diagnostics.new }
 {
-    numbers::told(instance::compute_semantic_connections(m, links, rows, diagnostics))
+    numbers::told(instance::compute_semantic_connections(m, limit, links, rows, diagnostics))
 }
 
 // The same with room for no more diagnostics than `count` records, which C lends beside the numbers.
 fn trace_for(
     m: &Tables,
+    limit: u64,
     links: &mut [u32],
     rows: &mut [u32],
     numbers: &mut [u32],
     count: usize,
 ) -> [u64; 3]
-    ensures { TracedTold (traced_for (model m.now) links.old rows.old numbers.old count) (model m.now) links.old rows.old numbers.old result links.new rows.new numbers.new }
+    ensures { TracedTold (traced_for limit (model m.now) links.old rows.old numbers.old count) limit (model m.now) links.old rows.old numbers.old result links.new rows.new numbers.new }
 {
     let end = diagnostic::numbers_for(numbers.len(), count);
     numbers.fill(0);
-    trace(m, links, rows, &mut numbers[..end])
+    trace(m, limit, links, rows, &mut numbers[..end])
 }
 
 // Lists as `compute_semantic_connections` does. `told` then holds 0, the rows and the diagnostics that were written, or a refusal's number, place and
@@ -49,14 +56,15 @@ pub extern "C" fn conlist_compute_semantic_connections(
     e: &[u32],
     r: &[u32],
     m: &[u32],
+    limit: u64,
     links: &mut [u32],
     rows: &mut [u32],
     diagnostics: &mut [u32],
     told: &mut [u64; 3],
 )
     ensures { TracedTold
-        (answer_for (tables_at bytes n c f x p i t q u e r m) links.old rows.old diagnostics.old)
-        (tables_at bytes n c f x p i t q u e r m)
+        (answer_for limit (tables_at bytes n c f x p i t q u e r m) links.old rows.old diagnostics.old)
+        limit (tables_at bytes n c f x p i t q u e r m)
         links.old rows.old diagnostics.old told.new links.new rows.new diagnostics.new }
 {
     let model = Tables {
@@ -74,7 +82,7 @@ pub extern "C" fn conlist_compute_semantic_connections(
         r,
         m,
     };
-    *told = trace(&model, links, rows, diagnostics);
+    *told = trace(&model, limit, links, rows, diagnostics);
 }
 
 // Lists as `compute_semantic_connections` does, with the diagnostics in the caller's records: there is room for as many as there are records, and for
@@ -94,6 +102,7 @@ pub extern "C" fn conlist_compute_semantic_connections_with_records(
     e: &[u32],
     r: &[u32],
     m: &[u32],
+    limit: u64,
     links: &mut [u32],
     rows: &mut [u32],
     numbers: &mut [u32],
@@ -101,7 +110,7 @@ pub extern "C" fn conlist_compute_semantic_connections_with_records(
     told: &mut [u64; 3],
 )
     ensures { TracedRecords
-        (tables_at bytes n c f x p i t q u e r m)
+        limit (tables_at bytes n c f x p i t q u e r m)
         links.old rows.old numbers.old out.old told.new links.new rows.new numbers.new out.new }
 {
     let model = Tables {
@@ -119,6 +128,6 @@ pub extern "C" fn conlist_compute_semantic_connections_with_records(
         r,
         m,
     };
-    *told = trace_for(&model, links, rows, numbers, out.len());
+    *told = trace_for(&model, limit, links, rows, numbers, out.len());
     diagnostic::fill_records(out, numbers);
 }

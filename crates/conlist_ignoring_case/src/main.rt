@@ -1,22 +1,27 @@
-// conlist_ignoring_case: reads a sheet on standard input and prints the list of its connections on standard output, or the line of a refusal, with names
-// compared without regard to letter case, 02 (vi). Where it cannot read or write it says so on standard error, and prints no list.
+// conlist_ignoring_case [LIMIT]: reads a sheet on standard input and prints the list of its connections on standard output, or the line of a refusal, with
+// names compared without regard to letter case, 02 (vi); its ways inwards have so many steps at most, 02 (ix), or 20 where no limit is named. Where its
+// argument is no number, or it cannot read or write, it says so on standard error, and prints no list.
 #![tactic(auto)]
 
 ghost use Rattle.as5506.specs.Program.{conlist_ignoring_case as written};
 ghost use Rattle.on_sheet.specs.Tasks.{Writes};
 
-use as5506::{SHEET_LENT, TEXT_LENT};
+use as5506::{SHEET_LENT, TEXT_LENT, USUAL_LIMIT};
 use name::Reading;
 use on_sheet::Task;
 
-// THE PROGRAM (each program has its own, since its contract cites the definition of that program): the text for the bytes that were read, the front of an
-// array: a program has no other memory.
-#[tactic(auto, using(on_sheet::proofs::Programs::ignoring_writes))]
-fn conlist_ignoring_case(read: &[u8; SHEET_LENT], got: usize, text: &mut [u8; TEXT_LENT]) -> usize
-    ensures { Writes written read.now got result text.new }
+// THE PROGRAM (each program has its own, since its contract cites the definition of that program): the text for the limit and the bytes that were read, the
+// front of an array: a program has no other memory.
+fn conlist_ignoring_case(
+    limit: Option<u64>,
+    read: &[u8; SHEET_LENT],
+    got: usize,
+    text: &mut [u8; TEXT_LENT],
+) -> usize
+    ensures { Writes (written limit) read.now got result text.new }
 {
     on_sheet::on_sheet(
-        Task::Conlist(Reading::CaseIgnored),
+        Task::Conlist(Reading::CaseIgnored, limit.unwrap_or(USUAL_LIMIT)),
         lent::part(read, 0, got),
         text,
     )
@@ -24,6 +29,13 @@ fn conlist_ignoring_case(read: &[u8; SHEET_LENT], got: usize, text: &mut [u8; TE
 
 // (Each program has its own `main` too: one for all would take the program as a closure, with a promise on what it gives, and no line less.)
 fn main(rt: HostRuntime) {
+    let Some(limit) = stdio::optional_number_argument(
+        &rt,
+        &mut rt.stderr(),
+        b"conlist_ignoring_case",
+    ) else {
+        return;
+    };
     let mut read = [0u8; SHEET_LENT];
     let Some(got) = stdio::read_input(
         &mut rt.stdin(),
@@ -34,7 +46,7 @@ fn main(rt: HostRuntime) {
         return;
     };
     let mut text = [0u8; TEXT_LENT];
-    let used = conlist_ignoring_case(&read, got, &mut text);
+    let used = conlist_ignoring_case(limit, &read, got, &mut text);
     stdio::write_output(
         &mut rt.stdout(),
         &mut rt.stderr(),

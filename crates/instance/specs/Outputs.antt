@@ -11,9 +11,9 @@ use Rattle.lent.specs.Answered.{AnswerIn}
 use Rattle.child_links.specs.Linked.{Linked}
 use Rattle.instance.specs.Answer.{listed}
 
--- the definition's answer for accepted tables
-abbrev pub answer_of : Comparison → Tables → List ℕ → List ℕ → Answer TracedList
-answer_of same m rows diags = traced_within (room_in (length rows) (length diags)) (traced_list same m)
+-- the definition's answer for accepted tables, under a limit of k steps
+abbrev pub answer_of : Comparison → ℕ → Tables → List ℕ → List ℕ → Answer TracedList
+answer_of same k m rows diags = traced_within (room_in (length rows) (length diags)) (traced_list same k m)
 
 -- a call for which the definition's answer is `wanted`, before a refusal clears the outputs: it answers z and leaves rows' and diags' in them
 pub record Lists (wanted : Answer TracedList) (m : Tables) (rows diags : List ℕ) (z : Result Listed Told) (rows' diags' : List ℕ) : Type 0 where

@@ -38,20 +38,20 @@ module _ (w k : ℕ) (out : List ℕ) (blocks : List (List ℕ)) (h : k ≤ leng
 
 -- ---- the call
 
-abbrev pub answer : Comparison → Tables → Answer BothLists
-answer same m = both_answer same (rows_lent false) room room names_lent m
+abbrev pub answer : Comparison → ℕ → Tables → Answer BothLists
+answer same k m = both_answer same k (rows_lent false) room room names_lent m
 
-module _ (same : Comparison) (m : Tables) (z : Result Both Told) (e : z ≡ handed listed (answer_for same m no_outputs)) where
-  pub answered : z ≡ handed listed (answer same m)
-  answered = e ∙ ap (handed listed) (answer-lent same m)
+module _ (same : Comparison) (k : ℕ) (m : Tables) (z : Result Both Told) (e : z ≡ handed listed (answer_for same k m no_outputs)) where
+  pub answered : z ≡ handed listed (answer same k m)
+  answered = e ∙ ap (handed listed) (answer-lent same k m)
 
   -- no more is counted than there is room for
   module _ (b : Both) (given_so : z ≡ Ok b) where
-    the-lists : (x : BothLists) × (answer_for same m no_outputs ≡ given x) × (b ≡ listed x)
-    the-lists = handed-ok listed z (answer_for same m no_outputs) e b given_so
+    the-lists : (x : BothLists) × (answer_for same k m no_outputs ≡ given x) × (b ≡ listed x)
+    the-lists = handed-ok listed z (answer_for same k m no_outputs) e b given_so
 
     fits : BothFit (traced_room no_outputs) (group_room no_outputs) the-lists.0
-    fits = holds (BothFit (traced_room no_outputs) (group_room no_outputs)) (answer_for same m no_outputs) (fit same m no_outputs) the-lists.0 the-lists.1
+    fits = holds (BothFit (traced_room no_outputs) (group_room no_outputs)) (answer_for same k m no_outputs) (fit same k m no_outputs) the-lists.0 the-lists.1
 
     module _ (out : List ℕ) where
       traced-room : length out ≡ length no_outputs.rows → b.traced.rows ≤ length out / row_numbers
@@ -80,12 +80,12 @@ module _ (same : Comparison) (m : Tables) (z : Result Both Told) (e : z ≡ hand
         group_diags_within l h = blocks-within diag_numbers _ out blocks (group-diags-room l) h
 
     -- what the outputs hold
-    module _ (rows ds group-rows names gs : List ℕ) (r : rows ≡ output (length no_outputs.rows) (of_traced (traced_row_numbers m)) (answer_for same m no_outputs))
-        (d : ds ≡ output (length no_outputs.diags) (of_traced traced_diag_numbers) (answer_for same m no_outputs))
-        (gr : group-rows ≡ output (length no_outputs.group-rows) (of_group group_row_numbers) (answer_for same m no_outputs))
-        (ns : names ≡ output (length no_outputs.names) (of_group composed_names) (answer_for same m no_outputs))
-        (gd : gs ≡ output (length no_outputs.group-diags) (of_group group_diag_numbers) (answer_for same m no_outputs)) where
-      given-is : (n : ℕ) (f : BothLists → List ℕ) (out : List ℕ) → out ≡ output n f (answer_for same m no_outputs) → out ≡ output n f (given the-lists.0)
+    module _ (rows ds group-rows names gs : List ℕ) (r : rows ≡ output (length no_outputs.rows) (of_traced (traced_row_numbers m)) (answer_for same k m no_outputs))
+        (d : ds ≡ output (length no_outputs.diags) (of_traced traced_diag_numbers) (answer_for same k m no_outputs))
+        (gr : group-rows ≡ output (length no_outputs.group-rows) (of_group group_row_numbers) (answer_for same k m no_outputs))
+        (ns : names ≡ output (length no_outputs.names) (of_group composed_names) (answer_for same k m no_outputs))
+        (gd : gs ≡ output (length no_outputs.group-diags) (of_group group_diag_numbers) (answer_for same k m no_outputs)) where
+      given-is : (n : ℕ) (f : BothLists → List ℕ) (out : List ℕ) → out ≡ output n f (answer_for same k m no_outputs) → out ≡ output n f (given the-lists.0)
       given-is n f out q = q ∙ ap (output n f) the-lists.1
 
       traced-is : rows_back m b.traced.rows rows ≡ map (shown m) the-lists.0.traced.rows
@@ -116,25 +116,25 @@ module _ (same : Comparison) (m : Tables) (z : Result Both Told) (e : z ≡ hand
           (λ i. list_of m (traced-rows i) (rows i) (ds i) (gs i)) ∙ sym (list-printed m the-lists.0)
 
 -- the list that is printed from the blocks that are counted is what is shown
-pub list_shown : (same : Comparison) (n : ℕ) (m : Tables) (b : Both) (traced group diags group-diags : List (List ℕ)) (names : List ℕ) (z : Result Both Told) (rows ds group-rows gs : List ℕ)
-    → z ≡ handed listed (answer_for same m no_outputs) → z ≡ Ok b
-    → rows ≡ output (length no_outputs.rows) (of_traced (traced_row_numbers m)) (answer_for same m no_outputs)
-    → ds ≡ output (length no_outputs.diags) (of_traced traced_diag_numbers) (answer_for same m no_outputs)
-    → group-rows ≡ output (length no_outputs.group-rows) (of_group group_row_numbers) (answer_for same m no_outputs)
-    → names ≡ output (length no_outputs.names) (of_group composed_names) (answer_for same m no_outputs)
-    → gs ≡ output (length no_outputs.group-diags) (of_group group_diag_numbers) (answer_for same m no_outputs)
+pub list_shown : (same : Comparison) (k n : ℕ) (m : Tables) (b : Both) (traced group diags group-diags : List (List ℕ)) (names : List ℕ) (z : Result Both Told) (rows ds group-rows gs : List ℕ)
+    → z ≡ handed listed (answer_for same k m no_outputs) → z ≡ Ok b
+    → rows ≡ output (length no_outputs.rows) (of_traced (traced_row_numbers m)) (answer_for same k m no_outputs)
+    → ds ≡ output (length no_outputs.diags) (of_traced traced_diag_numbers) (answer_for same k m no_outputs)
+    → group-rows ≡ output (length no_outputs.group-rows) (of_group group_row_numbers) (answer_for same k m no_outputs)
+    → names ≡ output (length no_outputs.names) (of_group composed_names) (answer_for same k m no_outputs)
+    → gs ≡ output (length no_outputs.group-diags) (of_group group_diag_numbers) (answer_for same k m no_outputs)
     → length rows ≡ length no_outputs.rows → length ds ≡ length no_outputs.diags → length group-rows ≡ length no_outputs.group-rows → length gs ≡ length no_outputs.group-diags
     → traced ≡ first_chunks row_numbers (length rows / row_numbers) rows → group ≡ first_chunks row_numbers (length group-rows / row_numbers) group-rows
     → diags ≡ first_chunks diag_numbers (length ds / diag_numbers) ds → group-diags ≡ first_chunks diag_numbers (length gs / diag_numbers) gs
-    → printed_or_refusal n (list_text m) (answer same m)
+    → printed_or_refusal n (list_text m) (answer same k m)
     ≡ text_or_refusal (text_within n (list_of m (map (row_back m) (take b.traced.rows traced)) (group_rows (take b.group.rows group) names) (map diag_back (take b.traced.diagnostics diags)) (map diag_back (take b.group.diagnostics group-diags))))
 unfolding printed_or_refusal
-list_shown same n m b traced group diags group-diags names z rows ds group-rows gs e k r d gr ns gd rl dl grl gdl t g dc gdc =
-    ap (printed_or_refusal n (list_text m)) (sym (answer-lent same m) ∙ (the-lists same m z e b k).1)
+list_shown same k n m b traced group diags group-diags names z rows ds group-rows gs e i r d gr ns gd rl dl grl gdl t g dc gdc =
+    ap (printed_or_refusal n (list_text m)) (sym (answer-lent same k m) ∙ (the-lists same k m z e b i).1)
     ∙ ap (λ (t : List ℕ). text_or_refusal (text_within n t))
-    (sym (list-same same m z e b k rows ds group-rows names gs r d gr ns gd _ _ _ _ (blocks-are row_numbers _ rows traced (traced-room same m z e b k rows rl) t)
-    (blocks-are row_numbers _ group-rows group (group-room same m z e b k group-rows grl) g) (blocks-are diag_numbers _ ds diags (diags-room same m z e b k ds dl) dc)
-    (blocks-are diag_numbers _ gs group-diags (group-diags-room same m z e b k gs gdl) gdc)))
+    (sym (list-same same k m z e b i rows ds group-rows names gs r d gr ns gd _ _ _ _ (blocks-are row_numbers _ rows traced (traced-room same k m z e b i rows rl) t)
+    (blocks-are row_numbers _ group-rows group (group-room same k m z e b i group-rows grl) g) (blocks-are diag_numbers _ ds diags (diags-room same k m z e b i ds dl) dc)
+    (blocks-are diag_numbers _ gs group-diags (group-diags-room same k m z e b i gs gdl) gdc)))
 
 -- what the call for the list goes by
 pub ruleset listing = (traced_within, group_within, diags_within, group_diags_within, answered, refusal_shown, list_shown)

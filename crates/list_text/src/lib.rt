@@ -27,11 +27,11 @@ fn print_listings(m: &Tables, list: &Listings, text: &mut [u8]) -> usize
     shown::finish(used, text)
 }
 
-// Lists what the tables hold, by a reading of names, and prints the list, or the refusal's line: how many bytes of text there are. Behind them the output is
+// Lists what the tables hold, by a reading of names and under a limit, and prints the list, or the refusal's line: how many bytes of text there are. Behind them the output is
 // zero.
 #[tactic(auto, unfolding(as5506::specs::Program::conlist_text), using(crate::proofs::Listed::listing))]
-pub fn list_tables(m: &Tables, reading: Reading, text: &mut [u8]) -> usize
-    ensures { Shown (conlist_text (comparison reading) (length text.old) (model m.now)) text.old result text.new }
+pub fn list_tables(m: &Tables, reading: Reading, limit: u64, text: &mut [u8]) -> usize
+    ensures { Shown (conlist_text (comparison reading) limit (length text.old) (model m.now)) text.old result text.new }
 {
     let mut links = [0u32; ROWS_LENT * LINK_NUMBERS];
     let mut rows = [0u32; LISTED_LENT * ROW_NUMBERS];
@@ -42,6 +42,7 @@ pub fn list_tables(m: &Tables, reading: Reading, text: &mut [u8]) -> usize
     match listing::list_connections(
         m,
         reading,
+        limit,
         &mut links,
         &mut rows,
         &mut diagnostics,

@@ -14,14 +14,15 @@ use Rattle.as5506.specs.Names.{Comparison}
 use Rattle.as5506.specs.Answers.{Refusal, refusal, nowhere, Answer, given, refused, fault, unless_faults}
 use Rattle.as5506.specs.Groups.{Feature}
 use Rattle.as5506.specs.GroupList.{GroupConnection, group_connections, overrun, Match, matches, match_row, rows_matched}
-use Rattle.as5506.specs.Tracing.{step_limit}
+use Rattle.as5506.specs.Tracing.{largest_limit}
 use Rattle.as5506.specs.Links.{link_numbers}
-use Rattle.as5506.specs.Listing.{Room, faults_linked, TracedList, GroupList, BothLists, rows_over, names_over, diags_over, traced_list, traced_within, traced_on, traced_answer, group_list_of, group_within, group_of, group_on, group_answer, with_group, after_traced, both_answer}
+use Rattle.as5506.specs.Listing.{Room, limit_over, faults_linked, TracedList, GroupList, BothLists, rows_over, names_over, diags_over, traced_list, traced_within, traced_on, traced_answer, group_list_of, group_within, group_of, group_on, group_answer, with_group, after_traced, both_answer}
 use Rattle.as5506.specs.Layout.{links_in, row_numbers, diag_numbers, room_in}
 use Rattle.as5506.specs.Program.{rows_lent, names_lent, room as room_lent}
 use Rattle.as5506.proofs.Laws.{All, all-each-of, nil-left, nil-right, nil-when}
 use Rattle.as5506.proofs.Back.{ShortPath, ShortRow}
-use Rattle.as5506.proofs.Ends.{traced-short}
+use Rattle.as5506.proofs.Allowed.{allowed}
+use Rattle.as5506.proofs.Output.{list-short}
 use Rattle.listing.specs.Answer.{Outputs, outputs, answer_for}
 
 -- ---- what holds of an answer that is given
@@ -59,25 +60,21 @@ pub record BothFit (traced_room group_room : Room) (b : BothLists) : Type 0 wher
 
 -- ---- the traced listing
 
-list-short : (same : Comparison) (m : Tables) → All ShortPath (traced_list same m).rows
-unfolding traced_list
-list-short same m = traced-short same m step_limit
-
-traced-fits : (same : Comparison) (room : Room) (m : Tables) (fs : List Refusal) → Holds (TracedFits room) (traced_on same room m fs)
+traced-fits : (same : Comparison) (k : ℕ) (room : Room) (m : Tables) (fs : List Refusal) → (T (is_nil fs) → k ≤ largest_limit) → Holds (TracedFits room) (traced_on same k room m fs)
 unfolding traced_on traced_within
-traced-fits same room m [] =
-    let l = traced_list same m in
+traced-fits same k room m [] few =
+    let l = traced_list same k m in
     unless_holds (TracedFits room) (rows_over room l.rows ++ diags_over room l.diags) l
     (λ t. record {
       rows = roomy 11 room.rows (length l.rows) (nil-left (rows_over room l.rows) (diags_over room l.diags) t);
       diags = roomy 12 room.diags (length l.diags) (nil-right (rows_over room l.rows) (diags_over room l.diags) t);
-      short = list-short same m;
+      short = list-short same k m (few tt);
     })
-traced-fits same room m (r ∷ fs) = tt
+traced-fits same k room m (r ∷ fs) few = tt
 
-pub traced_fit : (same : Comparison) (links : ℕ) (room : Room) (m : Tables) → Holds (TracedFits room) (traced_answer same links room m)
+pub traced_fit : (same : Comparison) (k links : ℕ) (room : Room) (m : Tables) → Holds (TracedFits room) (traced_answer same k links room m)
 unfolding traced_answer
-traced_fit same links room m = traced-fits same room m (faults_linked links m)
+traced_fit same k links room m = traced-fits same k room m (limit_over k ++ faults_linked links m) (λ t. allowed k (nil-left (limit_over k) (faults_linked links m) t))
 
 -- ---- the group listing: a row's path is its connection
 
@@ -130,9 +127,9 @@ unfolding after_traced
 after-fits same room room' names m (refused r) h = tt
 after-fits same room room' names m (given l) h = with-fits room room' l (group_of room' names m (group_connections same m)) h (group-fits room' names m (group_connections same m))
 
-pub both-fit : (same : Comparison) (links : ℕ) (room room' : Room) (names : ℕ) (m : Tables) → Holds (BothFit room room') (both_answer same links room room' names m)
+pub both-fit : (same : Comparison) (k links : ℕ) (room room' : Room) (names : ℕ) (m : Tables) → Holds (BothFit room room') (both_answer same k links room room' names m)
 unfolding both_answer
-both-fit same links room room' names m = after-fits same room room' names m (traced_answer same links room m) (traced_fit same links room m)
+both-fit same k links room room' names m = after-fits same room room' names m (traced_answer same k links room m) (traced_fit same k links room m)
 
 -- ---- what a call leaves
 
@@ -142,8 +139,8 @@ traced_room o = room_in (length o.rows) (length o.diags)
 abbrev pub group_room : Outputs → Room
 group_room o = room_in (length o.group-rows) (length o.group-diags)
 
-pub fit : (same : Comparison) (m : Tables) (o : Outputs) → Holds (BothFit (traced_room o) (group_room o)) (answer_for same m o)
-fit same m o = both-fit same (links_in (length o.links)) (traced_room o) (group_room o) (length o.names) m
+pub fit : (same : Comparison) (k : ℕ) (m : Tables) (o : Outputs) → Holds (BothFit (traced_room o) (group_room o)) (answer_for same k m o)
+fit same k m o = both-fit same k (links_in (length o.links)) (traced_room o) (group_room o) (length o.names) m
 
 -- ---- the outputs that a program lends
 
@@ -159,9 +156,9 @@ diags_lent = room_lent.diags * diag_numbers
 abbrev pub no_outputs : Outputs
 no_outputs = outputs (zeros links_lent) (zeros listed_lent) (zeros diags_lent) (zeros listed_lent) (zeros names_lent) (zeros diags_lent)
 
-pub answer-lent : (same : Comparison) (m : Tables) → answer_for same m no_outputs ≡ both_answer same (rows_lent false) room_lent room_lent names_lent m
-answer-lent same m =
+pub answer-lent : (same : Comparison) (k : ℕ) (m : Tables) → answer_for same k m no_outputs ≡ both_answer same k (rows_lent false) room_lent room_lent names_lent m
+answer-lent same k m =
     let links = length-replicate {A = ℕ} links_lent 0 in
     let rows = length-replicate {A = ℕ} listed_lent 0 in
     let diags = length-replicate {A = ℕ} diags_lent 0 in
-    λ i. both_answer same (links_in (links i)) (room_in (rows i) (diags i)) (room_in (rows i) (diags i)) (length-replicate {A = ℕ} names_lent 0 i) m
+    λ i. both_answer same k (links_in (links i)) (room_in (rows i) (diags i)) (room_in (rows i) (diags i)) (length-replicate {A = ℕ} names_lent 0 i) m

@@ -1,5 +1,5 @@
 -- 02 (vi), of what both entries hand back. Assumes nothing.
-use Rattle.std.specs.Prelude.{◌≡◌, length, Result}
+use Rattle.std.specs.Prelude.{◌≡◌, ℕ, length, Result}
 use Rattle.as5506.specs.Lists.{same_bytes}
 use Rattle.as5506.specs.Tables.{Tables}
 use Rattle.as5506.specs.Names.{same_folded}
@@ -17,9 +17,9 @@ pub record SameLengths (o o' : Outputs) : Type 0 where
   pub names : length o.names ≡ length o'.names
   pub group-diags : length o.group-diags ≡ length o'.group-diags
 
--- "Where all names that differ also differ folded, both entries give one list": for tables with such names both answer the same, and leave the same in every
--- output
+-- "Where all names that differ also differ folded, both entries give one list": for tables with such names both answer the same under one limit, and leave
+-- the same in every output
 abbrev pub OneListHandedBack : Type 0
 OneListHandedBack =
-    (m : Tables) → NamesApart m → (o o' : Outputs) → SameLengths o o' → (z z' : Result Both Told) (p p' : Outputs)
-    → BothInto same_bytes m o z p → BothInto same_folded m o' z' p' → (z ≡ z') × (p ≡ p')
+    (m : Tables) → NamesApart m → (k : ℕ) (o o' : Outputs) → SameLengths o o' → (z z' : Result Both Told) (p p' : Outputs)
+    → BothInto same_bytes k m o z p → BothInto same_folded k m o' z' p' → (z ≡ z') × (p ≡ p')

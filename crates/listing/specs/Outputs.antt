@@ -1,5 +1,5 @@
 -- What the outputs hold before a refusal clears them. Assumes nothing.
-use Rattle.std.specs.Prelude.{◌≡◌, length, Result, Ok}
+use Rattle.std.specs.Prelude.{◌≡◌, ℕ, length, Result, Ok}
 use Rattle.as5506.specs.Tables.{Tables}
 use Rattle.as5506.specs.Names.{Comparison}
 use Rattle.as5506.specs.Answers.{Answer, handed}
@@ -11,10 +11,10 @@ use Rattle.child_links.specs.Linked.{Linked}
 use Rattle.listing.specs.declared.Both.{Both}
 use Rattle.listing.specs.Answer.{listed, Outputs}
 
--- the definition's answer for accepted tables
-abbrev pub answer_of : Comparison → Tables → Outputs → Answer BothLists
-answer_of same m o =
-    after_traced same (room_in (length o.group-rows) (length o.group-diags)) (length o.names) m (traced_within (room_in (length o.rows) (length o.diags)) (traced_list same m))
+-- the definition's answer for accepted tables, under a limit of k steps
+abbrev pub answer_of : Comparison → ℕ → Tables → Outputs → Answer BothLists
+answer_of same k m o =
+    after_traced same (room_in (length o.group-rows) (length o.group-diags)) (length o.names) m (traced_within (room_in (length o.rows) (length o.diags)) (traced_list same k m))
 
 -- a call with the outputs o, for which the definition's answer is `wanted`, before a refusal clears them: it answers z and leaves p in them
 pub record Lists (wanted : Answer BothLists) (m : Tables) (o : Outputs) (z : Result Both Told) (p : Outputs) : Type 0 where

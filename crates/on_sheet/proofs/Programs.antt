@@ -7,10 +7,12 @@ use native.Mathlib.Omega.{arith}
 use native.Mathlib.Decide.{dec_le}
 use borrow.Author.Tests.{lt-ltb}
 use lib.ListN.{length, take}
+use Rattle.std.specs.Prelude.{Option}
 use lib.Seq.{length-take-le, take_all}
 use Rattle.as5506.specs.Lists.{padded}
 use Rattle.as5506.specs.Tables.{Tables}
 use Rattle.as5506.specs.Answers.{refusal, nowhere, Answer, refused}
+use Rattle.as5506.specs.Tracing.{limit_or}
 use Rattle.as5506.specs.Sheet.{Lent, sheet_faults, read_sheet}
 use Rattle.as5506.specs.Program.{lent, text_lent, of_reading, what_fits, conlist_within, conlist, conlist_ignoring_case, modes, mode}
 use Rattle.shown.specs.Shown.{Shown}
@@ -44,13 +46,13 @@ enough task n s = ap (λ (a : Answer Tables). what_fits n (of_reading (task_text
 
 -- ---- each program is that of its task, with 8,192 bytes of text
 
-conlist-is : (s : List ℕ) → program (Conlist Ported) text_lent s ≡ conlist s
+conlist-is : (limit : Option ℕ) (k : ℕ) → k ≡ limit_or limit → (s : List ℕ) → program (Conlist Ported k) text_lent s ≡ conlist limit s
 unfolding program on_sheet conlist_within conlist comparison
-conlist-is s = refl
+conlist-is limit k e s = rw e
 
-ignoring-is : (s : List ℕ) → program (Conlist CaseIgnored) text_lent s ≡ conlist_ignoring_case s
+ignoring-is : (limit : Option ℕ) (k : ℕ) → k ≡ limit_or limit → (s : List ℕ) → program (Conlist CaseIgnored k) text_lent s ≡ conlist_ignoring_case limit s
 unfolding program on_sheet conlist_ignoring_case comparison
-ignoring-is s = refl
+ignoring-is limit k e s = rw e
 
 modes-is : (s : List ℕ) → program Modes text_lent s ≡ modes s
 unfolding program on_sheet modes
@@ -88,12 +90,14 @@ writes_as f g e read got z text' w =
 -- WHAT EACH PROGRAM WRITES, from what its task leaves in the output
 module _ (read : List ℕ) (got : ℕ) (sheet text : List ℕ) (z : ℕ) (text' : List ℕ)
     (r : length read ≡ 16385) (w : sheet ≡ take got read) (e : length text ≡ text_lent) (k : length text' ≡ length text) where
-  pub conlist_writes : Shown (on_sheet (Conlist Ported) (length text) sheet) text z text' → Writes conlist read got z text'
-  conlist_writes h = writes_as (program (Conlist Ported) text_lent) conlist conlist-is read got z text' (writes (Conlist Ported) text_lent read got sheet text z text' r w e k h)
+  pub conlist_writes : (limit : Option ℕ) (n : ℕ) → n ≡ limit_or limit → Shown (on_sheet (Conlist Ported n) (length text) sheet) text z text' → Writes (conlist limit) read got z text'
+  conlist_writes limit n f h =
+      writes_as (program (Conlist Ported n) text_lent) (conlist limit) (conlist-is limit n f) read got z text' (writes (Conlist Ported n) text_lent read got sheet text z text' r w e k h)
 
-  pub ignoring_writes : Shown (on_sheet (Conlist CaseIgnored) (length text) sheet) text z text' → Writes conlist_ignoring_case read got z text'
-  ignoring_writes h =
-      writes_as (program (Conlist CaseIgnored) text_lent) conlist_ignoring_case ignoring-is read got z text' (writes (Conlist CaseIgnored) text_lent read got sheet text z text' r w e k h)
+  pub ignoring_writes : (limit : Option ℕ) (n : ℕ) → n ≡ limit_or limit → Shown (on_sheet (Conlist CaseIgnored n) (length text) sheet) text z text'
+      → Writes (conlist_ignoring_case limit) read got z text'
+  ignoring_writes limit n f h =
+      writes_as (program (Conlist CaseIgnored n) text_lent) (conlist_ignoring_case limit) (ignoring-is limit n f) read got z text' (writes (Conlist CaseIgnored n) text_lent read got sheet text z text' r w e k h)
 
   pub modes_writes : Shown (on_sheet Modes (length text) sheet) text z text' → Writes modes read got z text'
   modes_writes h = writes_as (program Modes text_lent) modes modes-is read got z text' (writes Modes text_lent read got sheet text z text' r w e k h)

@@ -10,7 +10,7 @@ use Rattle.on_sheet.specs.declared.Task.TheVariants.{Conlist, Modes, Mode}
 
 -- WHAT A TASK GIVES for the tables m, accepted or not, and an output of n bytes: its text, or a refusal's line
 abbrev pub task_text : Task → ℕ → Tables → List ℕ
-task_text (Conlist reading) n m = conlist_text (comparison reading) n m
+task_text (Conlist reading k) n m = conlist_text (comparison reading) k n m
 task_text Modes n m = modes_text n m
 task_text (Mode k) n m = mode_text k n m
 

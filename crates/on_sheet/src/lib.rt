@@ -16,8 +16,8 @@ use name::Reading;
 // What is done with the tables of a sheet. An enum and no closure: these are all, and the contract has the definition's word for each.
 #[derive(Clone, Copy)]
 pub enum Task {
-    // The list of its connections, by a reading of names (conlist, conlist_ignoring_case).
-    Conlist(Reading),
+    // The list of its connections, by a reading of names and under a limit (conlist, conlist_ignoring_case).
+    Conlist(Reading, u64),
     // How many selections of modes there are (modes).
     Modes,
     // The selection of modes at a number (mode).
@@ -29,7 +29,7 @@ fn do_task(task: Task, m: &Tables, text: &mut [u8]) -> usize
     ensures { Shown (task_text task (length text.old) (model m.now)) text.old result text.new }
 {
     match task {
-        Task::Conlist(reading) => list_text::list_tables(m, reading, text),
+        Task::Conlist(reading, limit) => list_text::list_tables(m, reading, limit, text),
         Task::Modes => modes_text::count_tables(m, text),
         Task::Mode(number) => modes_text::select_tables(m, number, text),
     }

@@ -9,7 +9,7 @@ use Rattle.as5506.specs.Lists.{each}
 use Rattle.as5506.specs.Tables.{Tables, present, source, destination, c_parent, x_owner, x_sub, name_of}
 use Rattle.as5506.specs.Tables.{Side as TheSide}
 use Rattle.as5506.specs.Names.{Comparison}
-use Rattle.as5506.specs.Tracing.{pair_rows, rows_at, diags_at, diags_by, pairs, pairs_by, shape, step_limit, named, one_to_one, all_as, pair_across, pair_up, pair_down, faulty, across, neither}
+use Rattle.as5506.specs.Tracing.{pair_rows, rows_at, diags_at, diags_by, pairs, pairs_by, shape, named, one_to_one, all_as, pair_across, pair_up, pair_down, faulty, across, neither}
 use Rattle.as5506.proofs.Laws.{all-of, each_same, each-each, each_map}
 use Rattle.as5506.proofs.Links.{length-found}
 use Rattle.child_links.specs.Trees.{of_tree, same_in}
@@ -29,16 +29,16 @@ use Rattle.semantic.specs.Ends.{Names, EndsOf}
 
 -- ---- by the definition's lists of children
 
-module _ (same : Comparison) (m : Tables) (x : ℕ) where
-  all-pairs : (l r : List ℕ) → each (pair_rows same m step_limit x) (all_as (pair_across m x) l r) ≡ rows_all same m x l r
+module _ (same : Comparison) (k : ℕ) (m : Tables) (x : ℕ) where
+  all-pairs : (l r : List ℕ) → each (pair_rows same m k x) (all_as (pair_across m x) l r) ≡ rows_all same k m x l r
   unfolding pair_on
   all-pairs l r =
-      each-each (pair_rows same m step_limit x) (λ a. map (pair_across m x a) r) l
-      ∙ each_same (λ a. each (pair_rows same m step_limit x) (map (pair_across m x a) r)) (λ a. each (λ b. pair_rows same m step_limit x (pair_across m x a b)) r) l
-      (all-of _ (λ a. each_map (pair_rows same m step_limit x) (pair_across m x a) r) l)
+      each-each (pair_rows same m k x) (λ a. map (pair_across m x a) r) l
+      ∙ each_same (λ a. each (pair_rows same m k x) (map (pair_across m x a) r)) (λ a. each (λ b. pair_rows same m k x (pair_across m x a b)) r) l
+      (all-of _ (λ a. each_map (pair_rows same m k x) (pair_across m x a) r) l)
 
   across-rows : (p : ConnectionPattern) → says_one_to_one p ≡ one_to_one m (x_owner m x)
-      → each (pair_rows same m step_limit x) (pairs_by same m x across) ≡ rows_across same m x p (named same m source x) (named same m destination x)
+      → each (pair_rows same m k x) (pairs_by same m x across) ≡ rows_across same k m x p (named same m source x) (named same m destination x)
   unfolding pairs_by
   across-rows OneToOne e = rw (← e) refl
   across-rows AllToAll e = rw (← e) (all-pairs (named same m source x) (named same m destination x))
@@ -48,10 +48,10 @@ module _ (same : Comparison) (m : Tables) (x : ℕ) where
   across-diags p e = rw e refl
 
   edge-rows : (s : TheSide) → present (c_parent m (x_owner m x)) ≡ false
-      → each (pair_rows same m step_limit x) (pairs_by same m x (edge_of s)) ≡ rows_beside same m x s (Owner (x_owner m x)) (named same m s x)
+      → each (pair_rows same m k x) (pairs_by same m x (edge_of s)) ≡ rows_beside same k m x s (Owner (x_owner m x)) (named same m s x)
   unfolding pairs_by pair_on
-  edge-rows source e = rw e (each_map (pair_rows same m step_limit x) (pair_up m x) (named same m source x))
-  edge-rows destination e = rw e (each_map (pair_rows same m step_limit x) (pair_down m x) (named same m destination x))
+  edge-rows source e = rw e (each_map (pair_rows same m k x) (pair_up m x) (named same m source x))
+  edge-rows destination e = rw e (each_map (pair_rows same m k x) (pair_down m x) (named same m destination x))
 
   edge-diags : (s : TheSide) → present (c_parent m (x_owner m x)) ≡ false → diags_by same m x (edge_of s) ≡ none_on m x s (named same m s x)
   unfolding diags_by
@@ -84,8 +84,8 @@ module _ (x : Connection) where
   unfolding rows_at pairs diags_at
   ends_across e p h s d n k =
       record {
-        rows = rw (e, n.left, k.left) (across-rows same m x.row p h);
-        diagnostics = rw (e, n.left, k.left) (across-diags same m x.row p h);
+        rows = rw (e, n.left, k.left) (across-rows same x.limit.steps m x.row p h);
+        diagnostics = rw (e, n.left, k.left) (across-diags same x.limit.steps m x.row p h);
         along = record { sources = along source s n; destinations = along destination d k };
       }
 
@@ -94,8 +94,8 @@ module _ (x : Connection) where
   unfolding rows_at pairs diags_at
   ends_edge s e h c n =
       record {
-        rows = rw (e, n.left) (edge-rows same m x.row (side_of s) h);
-        diagnostics = rw (e, n.left) (edge-diags same m x.row (side_of s) h);
+        rows = rw (e, n.left) (edge-rows same x.limit.steps m x.row (side_of s) h);
+        diagnostics = rw (e, n.left) (edge-diags same x.limit.steps m x.row (side_of s) h);
         along = along (side_of s) c n;
       }
 

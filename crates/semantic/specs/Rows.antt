@@ -1,10 +1,10 @@
--- The rows of some of the pairs of an X row, and of all of them by its ends. Assumes nothing.
+-- The rows of some of the pairs of an X row under a limit of k steps, and of all of them by its ends. Assumes nothing.
 use Rattle.std.specs.Prelude.{◌≡◌, ◌≤◌, List, [], ℕ, ◌<◌, length}
 use Rattle.as5506.specs.Lists.{each}
 use Rattle.as5506.specs.Tables.{Tables, source, destination, c_count, x_feat, x_owner}
 use Rattle.as5506.specs.Tables.{Side as TheSide}
 use Rattle.as5506.specs.Names.{Comparison}
-use Rattle.as5506.specs.Tracing.{Start as TheStart, child, owner, Pair, Traced, pair_rows, pair_across, zip_as, step_limit, upward, downward}
+use Rattle.as5506.specs.Tracing.{Start as TheStart, child, owner, Pair, Traced, pair_rows, pair_across, zip_as, upward, downward}
 use Rattle.as5506.specs.Tracing.{Shape as TheShape}
 use Rattle.name.specs.declared.ConnectionPattern.{ConnectionPattern}
 use Rattle.name.specs.declared.ConnectionPattern.TheVariants.{OneToOne, AllToAll}
@@ -35,10 +35,10 @@ component_of (Owner i) = i
 abbrev pub Inside : Tables → Start → Type 0
 Inside m a = component_of a < c_count m
 
--- the steps that are made from it: the owner "is not traced"
-abbrev pub limit_of : Start → ℕ
-limit_of (Child i) = step_limit
-limit_of (Owner i) = 0
+-- the steps that are made from it under a limit of k: the owner "is not traced"
+abbrev pub limit_of : ℕ → Start → ℕ
+limit_of k (Child i) = k
+limit_of k (Owner i) = 0
 
 -- an iterator goes through these tables, and no more children are left to it than they have components
 pub record Along (m : Tables) (c : Children) : Type 0 where
@@ -62,25 +62,25 @@ pair_on m x source a b = record { from = start_on m source x a; to = start_on m 
 pair_on m x destination a b = record { from = start_on m source x b; to = start_on m destination x a }
 
 -- the rows of the children l on side s, each with the end b on the other
-abbrev pub rows_beside : Comparison → Tables → ℕ → TheSide → Start → List ℕ → List Traced
-rows_beside same m x s b l = each (λ i. pair_rows same m step_limit x (pair_on m x s (Child i) b)) l
+abbrev pub rows_beside : Comparison → ℕ → Tables → ℕ → TheSide → Start → List ℕ → List Traced
+rows_beside same k m x s b l = each (λ i. pair_rows same m k x (pair_on m x s (Child i) b)) l
 
 -- the rows of the source children l, each with all destination children r
-abbrev pub rows_all : Comparison → Tables → ℕ → List ℕ → List ℕ → List Traced
-rows_all same m x l r = each (λ a. rows_beside same m x destination (Child a) r) l
+abbrev pub rows_all : Comparison → ℕ → Tables → ℕ → List ℕ → List ℕ → List Traced
+rows_all same k m x l r = each (λ a. rows_beside same k m x destination (Child a) r) l
 
 -- the rows of two lists of children, pair by pair
-abbrev pub rows_zip : Comparison → Tables → ℕ → List ℕ → List ℕ → List Traced
-rows_zip same m x l r = each (pair_rows same m step_limit x) (zip_as (pair_across m x) l r)
+abbrev pub rows_zip : Comparison → ℕ → Tables → ℕ → List ℕ → List ℕ → List Traced
+rows_zip same k m x l r = each (pair_rows same m k x) (zip_as (pair_across m x) l r)
 
 -- the rows of two lists of children by a pattern
-abbrev pub rows_across : Comparison → Tables → ℕ → ConnectionPattern → List ℕ → List ℕ → List Traced
-rows_across same m x OneToOne l r = rows_zip same m x l r
-rows_across same m x AllToAll l r = rows_all same m x l r
+abbrev pub rows_across : Comparison → ℕ → Tables → ℕ → ConnectionPattern → List ℕ → List ℕ → List Traced
+rows_across same k m x OneToOne l r = rows_zip same k m x l r
+rows_across same k m x AllToAll l r = rows_all same k m x l r
 
 -- the rows of X row x by its ends
-abbrev pub rows_from : Comparison → Tables → ℕ → Ends → List Traced
-rows_from same m x Faulty = []
-rows_from same m x (Across p s d) = rows_across same m x p (children_left s) (children_left d)
-rows_from same m x (Edge s c) = rows_beside same m x (side_of s) (Owner (x_owner m x)) (children_left c)
-rows_from same m x Nothing = []
+abbrev pub rows_from : Comparison → ℕ → Tables → ℕ → Ends → List Traced
+rows_from same k m x Faulty = []
+rows_from same k m x (Across p s d) = rows_across same k m x p (children_left s) (children_left d)
+rows_from same k m x (Edge s c) = rows_beside same k m x (side_of s) (Owner (x_owner m x)) (children_left c)
+rows_from same k m x Nothing = []

@@ -1,7 +1,7 @@
 // What a connection is by its ends: the children on each side, found once, and the pattern by which they are paired.
 ghost use Rattle.std.specs.Prelude.{◌≡◌, ◌≤◌, length, ◌<◌};
 ghost use Rattle.as5506.specs.Tables.{present, has_ends, c_count, c_parent, x_owner, x_sub};
-ghost use Rattle.as5506.specs.Tracing.{shape, one_to_one, step_limit};
+ghost use Rattle.as5506.specs.Tracing.{shape, one_to_one, largest_limit};
 ghost use Rattle.child_links.specs.Trees.{of_tree};
 ghost use Rattle.columns.specs.Side.{side_of};
 ghost use Rattle.name.specs.Pattern.{says_one_to_one};
@@ -10,7 +10,7 @@ ghost use Rattle.semantic.specs.Rows.{edge_of, component_of, limit_of};
 ghost use Rattle.semantic.specs.Ends.{Names, EndsOf};
 
 use super::{Connection, Ends, Start};
-use as5506::{MISSING, STEPS};
+use as5506::{MISSING, StepLimit};
 use children::Children;
 use columns::{Side, component, connection};
 use name::ConnectionPattern;
@@ -122,13 +122,13 @@ impl Start {
         }
     }
 
-    // How many steps are made from it. By cases: from the owner itself none is made.
-    pub fn limit(self) -> usize
-        ensures value { result ≡ limit_of self }
-        ensures upper_bound { result ≤ step_limit }
+    // How many steps are made from it under a limit. By cases: from the owner itself none is made.
+    pub fn steps_under(self, limit: StepLimit) -> usize
+        ensures value { result ≡ limit_of limit.steps self }
+        ensures upper_bound { result ≤ largest_limit }
     {
         match self {
-            Start::Child(_) => STEPS,
+            Start::Child(_) => limit.steps,
             Start::Owner(_) => 0,
         }
     }

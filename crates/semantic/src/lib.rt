@@ -10,16 +10,18 @@ mod found;
 mod list;
 mod pairs;
 
+use as5506::StepLimit;
 use child_links::Tree;
 use children::Children;
 use columns::Side;
 pub use list::{Counts, list_connections};
 use name::ConnectionPattern;
 
-// A connection: a row of X.
+// A connection, a row of X, and the limit under which its ends are traced.
 #[derive(Clone, Copy)]
 struct Connection<'a> {
     tree: &'a Tree<'a>,
+    limit: StepLimit,
     row: usize,
     ghost in_table: { row < x_count (of_tree tree.now) },
 }

@@ -1,13 +1,13 @@
 // All connections, one after the other: of each its ends are found once, for its rows and its diagnostics.
 ghost use Rattle.std.specs.Prelude.{◌≡◌, ℕ, Some};
-ghost use Rattle.as5506.specs.Tracing.{traced, traced_diags, step_limit};
+ghost use Rattle.as5506.specs.Tracing.{traced, traced_diags};
 ghost use Rattle.as5506.specs.Layout.{traced_block, row_numbers, diag_block, diag_numbers};
 ghost use Rattle.child_links.specs.Trees.{of_tree, same_in};
 ghost use Rattle.output.specs.Blocks.{Written};
 ghost use Rattle.semantic.specs.Told.{ListedAll};
 
 use super::Connection;
-use as5506::{DIAGNOSTIC_NUMBERS, ROW_NUMBERS, X_NUMBERS};
+use as5506::{DIAGNOSTIC_NUMBERS, ROW_NUMBERS, StepLimit, X_NUMBERS};
 use child_links::Tree;
 use output::Blocks;
 
@@ -18,18 +18,19 @@ pub struct Counts {
     pub diagnostics: Option<usize>,
 }
 
-// Writes the rows and the diagnostics of all X rows. Rows that find no room end it; after a diagnostic that finds none, no other is written.
+// Writes the rows of all X rows under a limit, and their diagnostics. Rows that find no room end it; after a diagnostic that finds none, no other is written.
 #[tactic(auto, unfolding(as5506::specs::Tracing::traced, as5506::specs::Tracing::traced_diags))]
 fn list_all<'a>(
     tree: &'a Tree<'a>,
+    limit: StepLimit,
     rows: &mut Blocks<ROW_NUMBERS>,
     diagnostics: &mut Blocks<DIAGNOSTIC_NUMBERS>,
 ) -> Option<Option<()>>
-    ensures { ListedAll (same_in tree.now) (of_tree tree.now) rows.old diagnostics.old result rows.new diagnostics.new }
+    ensures { ListedAll (same_in tree.now) limit.steps (of_tree tree.now) rows.old diagnostics.old result rows.new diagnostics.new }
 {
     let mut noted = Some(());
     for row in 0..tree.m.x.len() / X_NUMBERS {
-        let connection = Connection { tree, row };
+        let connection = Connection { tree, limit, row };
         let ends = connection.ends();
         connection.trace(rows, ends)?;
         if noted.is_some() {
@@ -39,15 +40,20 @@ fn list_all<'a>(
     Some(noted)
 }
 
-// Writes the rows and the diagnostics of all X rows, each from the front of its output on.
-pub fn list_connections<'a>(tree: &'a Tree<'a>, rows: &mut [u32], diagnostics: &mut [u32]) -> Counts
-    ensures rows { Written row_numbers (traced_block (of_tree tree.now)) (traced (same_in tree.now) step_limit (of_tree tree.now)) rows.old 0 result.rows rows.new }
+// Writes the rows of all X rows under a limit and their diagnostics, each from the front of its output on.
+pub fn list_connections<'a>(
+    tree: &'a Tree<'a>,
+    limit: StepLimit,
+    rows: &mut [u32],
+    diagnostics: &mut [u32],
+) -> Counts
+    ensures rows { Written row_numbers (traced_block (of_tree tree.now)) (traced (same_in tree.now) limit.steps (of_tree tree.now)) rows.old 0 result.rows rows.new }
     ensures diagnostics { (k : ℕ) → result.rows ≡ Some k
         → Written diag_numbers diag_block (traced_diags (same_in tree.now) (of_tree tree.now)) diagnostics.old 0 result.diagnostics diagnostics.new }
 {
     let mut listed = Blocks::new(rows);
     let mut noted = Blocks::new(diagnostics);
-    match list_all(tree, &mut listed, &mut noted) {
+    match list_all(tree, limit, &mut listed, &mut noted) {
         Some(told) => Counts {
             rows: Some(listed.done()),
             diagnostics: told.and(Some(noted.done())),

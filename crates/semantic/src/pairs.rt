@@ -1,7 +1,7 @@
 // The rows of each connection: every pair of its ends, traced on both sides.
 ghost use Rattle.std.specs.Prelude.{◌≡◌};
 ghost use Rattle.as5506.specs.Tables.{source};
-ghost use Rattle.as5506.specs.Tracing.{pair_rows, step_limit};
+ghost use Rattle.as5506.specs.Tracing.{pair_rows};
 ghost use Rattle.as5506.specs.Layout.{traced_block};
 ghost use Rattle.child_links.specs.Trees.{of_tree, same_in};
 ghost use Rattle.columns.specs.Side.{side_of};
@@ -22,7 +22,7 @@ impl<'a> Connection<'a> {
     fn trace_pair(&self, out: &mut Blocks<ROW_NUMBERS>, from: Start, to: Start) -> Option<()>
         requires { Inside (of_tree self.now.tree.now) from × Inside (of_tree self.now.tree.now) to }
         ensures { Wrote (traced_block (of_tree self.now.tree.now))
-            (pair_rows (same_in self.now.tree.now) (of_tree self.now.tree.now) step_limit self.now.row (pair_on (of_tree self.now.tree.now) self.now.row source from to))
+            (pair_rows (same_in self.now.tree.now) (of_tree self.now.tree.now) self.now.limit.steps self.now.row (pair_on (of_tree self.now.tree.now) self.now.row source from to))
             out.old result out.new }
     {
         let row = self.row as u32;
@@ -30,13 +30,13 @@ impl<'a> Connection<'a> {
             component: from.component(),
             feature: connection::feature_of(self.tree.m, Side::Source, self.row),
             path: Path::of(&[row]),
-            left: from.limit(),
+            left: from.steps_under(self.limit),
         };
         let d = End {
             component: to.component(),
             feature: connection::feature_of(self.tree.m, Side::Destination, self.row),
             path: Path::new(),
-            left: to.limit(),
+            left: to.steps_under(self.limit),
         };
         trace::trace(self.tree, out, Side::Source, row, &s, &d)
     }
@@ -52,7 +52,7 @@ impl<'a> Connection<'a> {
     ) -> Option<()>
         requires { Inside (of_tree self.now.tree.now) near × Inside (of_tree self.now.tree.now) far }
         ensures { Wrote (traced_block (of_tree self.now.tree.now))
-            (pair_rows (same_in self.now.tree.now) (of_tree self.now.tree.now) step_limit self.now.row (pair_on (of_tree self.now.tree.now) self.now.row (side_of side) near far))
+            (pair_rows (same_in self.now.tree.now) (of_tree self.now.tree.now) self.now.limit.steps self.now.row (pair_on (of_tree self.now.tree.now) self.now.row (side_of side) near far))
             out.old result out.new }
     {
         match side {
@@ -72,7 +72,7 @@ impl<'a> Connection<'a> {
         requires along { Along (of_tree self.now.tree.now) children }
         requires inside { Inside (of_tree self.now.tree.now) far }
         ensures { Wrote (traced_block (of_tree self.now.tree.now))
-            (rows_beside (same_in self.now.tree.now) (of_tree self.now.tree.now) self.now.row (side_of side) far (children_left children.entry))
+            (rows_beside (same_in self.now.tree.now) self.now.limit.steps (of_tree self.now.tree.now) self.now.row (side_of side) far (children_left children.entry))
             out.old result out.new }
     {
         for i in children {
@@ -91,7 +91,7 @@ impl<'a> Connection<'a> {
     ) -> Option<()>
         requires { BothAlong (of_tree self.now.tree.now) sources destinations }
         ensures { Wrote (traced_block (of_tree self.now.tree.now))
-            (rows_all (same_in self.now.tree.now) (of_tree self.now.tree.now) self.now.row (children_left sources.entry) (children_left destinations.entry))
+            (rows_all (same_in self.now.tree.now) self.now.limit.steps (of_tree self.now.tree.now) self.now.row (children_left sources.entry) (children_left destinations.entry))
             out.old result out.new }
     {
         if destinations.first().is_none() {
@@ -112,7 +112,7 @@ impl<'a> Connection<'a> {
     ) -> Option<()>
         requires { BothAlong (of_tree self.now.tree.now) sources destinations }
         ensures { Wrote (traced_block (of_tree self.now.tree.now))
-            (rows_zip (same_in self.now.tree.now) (of_tree self.now.tree.now) self.now.row (children_left sources.entry) (children_left destinations.entry))
+            (rows_zip (same_in self.now.tree.now) self.now.limit.steps (of_tree self.now.tree.now) self.now.row (children_left sources.entry) (children_left destinations.entry))
             out.old result out.new }
     {
         for (a, b) in sources.zip(destinations) {
@@ -124,7 +124,7 @@ impl<'a> Connection<'a> {
     // Writes its rows, by its ends.
     pub fn trace(&self, out: &mut Blocks<ROW_NUMBERS>, ends: Ends<'a>) -> Option<()>
         requires { EndsAlong (of_tree self.now.tree.now) ends }
-        ensures { Wrote (traced_block (of_tree self.now.tree.now)) (rows_from (same_in self.now.tree.now) (of_tree self.now.tree.now) self.now.row ends.entry) out.old result out.new }
+        ensures { Wrote (traced_block (of_tree self.now.tree.now)) (rows_from (same_in self.now.tree.now) self.now.limit.steps (of_tree self.now.tree.now) self.now.row ends.entry) out.old result out.new }
     {
         match ends {
             Ends::Across {

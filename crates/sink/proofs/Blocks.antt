@@ -50,7 +50,7 @@ module _ (conn src dst : ℕ) (s d : List ℕ) (p : length s ≡ feature_numbers
       ∙ ap (λ (l : List ℕ). conn ∷ l) (sets-past-head (s ++ d) (dst ∷ zeros (row_numbers - 3)) src 1)
       ∙ ap (λ (l : List ℕ). conn ∷ src ∷ l) (sets-past-head (s ++ d) (zeros (row_numbers - 3)) dst 0)
       ∙ ap (λ (l : List ℕ). conn ∷ src ∷ dst ∷ l)
-      (padded-is 46 (s ++ d) (omega (arith, size)) ∙ ap (λ (k : ℕ). s ++ d ++ zeros k) room)
+      (padded-is (row_numbers - 3) (s ++ d) (omega (arith, size)) ∙ ap (λ (k : ℕ). s ++ d ++ zeros k) room)
 
 -- a kept feature's block is whole
 pub kept-length : (kept : List ℕ) (i : ℕ) → i * feature_numbers + feature_numbers ≤ length kept → length (kept_block kept i) ≡ feature_numbers

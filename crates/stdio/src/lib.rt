@@ -32,6 +32,17 @@ fn say<E: Write>(errors: &mut E, program: &[u8], what: &[u8]) {
     let _ = errors.write_all(what);
 }
 
+// Hands on what was got; where that is nothing, says on standard error what happened to a program.
+fn or_say<T, E: Write>(got: Option<T>, errors: &mut E, program: &[u8], what: &[u8]) -> Option<T>
+    ensures same { result ≡ got }
+    ensures quiet { IfSome result (λ _. errors.new ≡ errors.old) }
+{
+    if got.is_none() {
+        say(errors, program, what);
+    }
+    got
+}
+
 // Reads standard input into the front of a slice, for the program of this name: as many bytes as found room there. Where reading fails it says so.
 pub fn read_input<R: Read, E: Write>(
     input: &mut R,
@@ -42,11 +53,12 @@ pub fn read_input<R: Read, E: Write>(
     ensures read { IfSome result (λ k. Filled (R.remaining input.old) (R.remaining input.new) into.new k) }
     ensures quiet { IfSome result (λ _. errors.new ≡ errors.old) }
 {
-    let read = read_full(input, into).ok();
-    if read.is_none() {
-        say(errors, program, b": standard input could not be read\n");
-    }
-    read
+    or_say(
+        read_full(input, into).ok(),
+        errors,
+        program,
+        b": standard input could not be read\n",
+    )
 }
 
 // Writes the text of the program of this name to standard output. Where it tells true, the whole text stands there behind what did; where writing fails it
@@ -67,15 +79,18 @@ pub fn write_output<W: Write, E: Write>(
     written
 }
 
-// The one argument that the program was started with, behind its own name: there is one, there are no more, and it is a number. The largest number has
+// The argument that the program was started with, behind its own name: there is one or none, there are no more, and it is a number. The largest number has
 // 20 digits; of an argument that finds no room in 32 bytes none is taken.
-fn read_argument<A: Env>(arguments: &A) -> Option<u64> {
+fn read_argument<A: Env>(arguments: &A) -> Option<Option<u64>> {
     let Err(FillError::NotPresent) = arguments.arg(2, &mut []) else {
         return None;
     };
     let mut digits = [0u8; 32];
-    let got = arguments.arg(1, &mut digits).ok()?;
-    fields::number_in(&digits[..got])
+    match arguments.arg(1, &mut digits) {
+        Ok(got) => fields::number_in(&digits[..got]).map(Some),
+        Err(FillError::NotPresent) => Some(None),
+        Err(FillError::TooLong) => None,
+    }
 }
 
 // The one argument of the program of this name: a decimal number of 64 bits at most, spelt as in a sheet. Where it is none it says so.
@@ -86,13 +101,26 @@ pub fn number_argument<A: Env, E: Write>(
 ) -> Option<u64>
     ensures { IfSome result (λ _. errors.new ≡ errors.old) }
 {
-    let argument = read_argument(arguments);
-    if argument.is_none() {
-        say(
-            errors,
-            program,
-            b": one argument is expected, a decimal number\n",
-        );
-    }
-    argument
+    or_say(
+        read_argument(arguments).flatten(),
+        errors,
+        program,
+        b": one argument is expected, a decimal number\n",
+    )
+}
+
+// The same of a program whose argument may be left out: `Some(None)` where it is.
+pub fn optional_number_argument<A: Env, E: Write>(
+    arguments: &A,
+    errors: &mut E,
+    program: &[u8],
+) -> Option<Option<u64>>
+    ensures { IfSome result (λ _. errors.new ≡ errors.old) }
+{
+    or_say(
+        read_argument(arguments),
+        errors,
+        program,
+        b": at most one argument is expected, a decimal number\n",
+    )
 }

@@ -4,14 +4,14 @@ use Rattle.as5506.specs.Lists.{each}
 use Rattle.as5506.specs.Tables.{Tables, source, destination, x_kind}
 use Rattle.as5506.specs.Tables.{Side as TheSide}
 use Rattle.as5506.specs.Names.{Comparison}
-use Rattle.as5506.specs.Tracing.{Chain as TheEnd, Traced, append_new, chains, step_limit}
+use Rattle.as5506.specs.Tracing.{Chain as TheEnd, Traced, append_new, chains, largest_limit}
 use Rattle.columns.specs.declared.Side.{Side}
 use Rattle.columns.specs.declared.Side.TheVariants.{Source, Destination}
 use Rattle.trace.specs.declared.end.End.{End}
 
--- places for a connection and the steps of one chain
+-- "the path handed down for 65": a connection and the steps of one chain
 abbrev pub chain_places : ℕ
-chain_places = 1 + step_limit
+chain_places = 1 + largest_limit
 
 -- the end at feature f of component c, over the connections p
 abbrev pub the_end : ℕ → ℕ → List ℕ → TheEnd
@@ -40,7 +40,7 @@ rows_at_end same m destination x k o e = row_along m x o e ∷ []
 unfoldable pub rows_behind : Comparison → Tables → TheSide → ℕ → ℕ → TheEnd → List ℕ → List TheEnd → List Traced
 rows_behind same m s x k o p es = each (λ e. rows_at_end same m s x k o (behind p e)) es
 
--- that a row's path fits: of the destination's end, whichever it is, the connections so far and the steps that go on are no more than a chain's steps
+-- that a row's path fits: of the destination's end, whichever it is, the connections so far and the steps that go on are no more than the largest limit
 abbrev pub Fits : Side → End → End → Type 0
-Fits Source here other = length other.path + other.left ≤ step_limit
-Fits Destination here other = length here.path + here.left ≤ step_limit
+Fits Source here other = length other.path + other.left ≤ largest_limit
+Fits Destination here other = length here.path + here.left ≤ largest_limit

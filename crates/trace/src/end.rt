@@ -1,6 +1,6 @@
 // An end of a row: where a chain stands.
 ghost use Rattle.std.specs.Prelude.{◌+◌, ◌≤◌, length};
-ghost use Rattle.as5506.specs.Tracing.{step_limit};
+ghost use Rattle.as5506.specs.Tracing.{largest_limit};
 
 use as5506::CHAIN_PLACES;
 use path::Path;
@@ -12,5 +12,5 @@ pub struct End {
     pub feature: u32,
     pub path: Path<CHAIN_PLACES>,
     pub left: usize,
-    ghost fits: { length path + left ≤ 1 + step_limit },
+    ghost fits: { length path + left ≤ 1 + largest_limit },
 }

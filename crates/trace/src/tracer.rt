@@ -1,7 +1,7 @@
 // The tracer: the rows of all chains that go on from an end.
 ghost use Rattle.std.specs.Prelude.{◌≡◌, [], ◌∷◌, ◌+◌, ◌≤◌, ◌<◌, length};
 ghost use Rattle.as5506.specs.Tables.{c_count};
-ghost use Rattle.as5506.specs.Tracing.{append_new, chains, step_limit};
+ghost use Rattle.as5506.specs.Tracing.{append_new, chains, largest_limit};
 ghost use Rattle.as5506.specs.Layout.{traced_block};
 ghost use Rattle.lent.specs.Model.{model};
 ghost use Rattle.child_links.specs.Trees.{of_tree, same_in};
@@ -20,7 +20,7 @@ use path::Path;
 
 // A row's path: the source's connections, then those of the destination that are not yet in it.
 fn join(s: &Path<CHAIN_PLACES>, d: &Path<CHAIN_PLACES>) -> Path<PATH_PLACES>
-    requires { (length s.now ≤ chain_places) × (length d.now ≤ step_limit) }
+    requires { (length s.now ≤ chain_places) × (length d.now ≤ largest_limit) }
     ensures { result ≡ append_new s.now d.now }
 {
     let mut path: Path<PATH_PLACES> = Path::of(s.numbers());
@@ -31,7 +31,7 @@ fn join(s: &Path<CHAIN_PLACES>, d: &Path<CHAIN_PLACES>) -> Path<PATH_PLACES>
 // The row of a connection from a source end to a destination end: eight numbers, then the places of its path.
 #[tactic(auto, using(crate::proofs::Rows::row_is))]
 fn row(m: &Tables, conn: u32, s: &End, d: &End) -> [u32; ROW_NUMBERS]
-    requires { length d.now.path + d.now.left ≤ step_limit }
+    requires { length d.now.path + d.now.left ≤ largest_limit }
     ensures { result ≡ traced_block (model m.now) (row_along (model m.now) conn (end_of s.now) (end_of d.now)) }
 {
     let path = join(&s.path, &d.path);
@@ -54,7 +54,7 @@ fn row(m: &Tables, conn: u32, s: &End, d: &End) -> [u32; ROW_NUMBERS]
 
 // Writes that row.
 fn put_row(m: &Tables, out: &mut Blocks<ROW_NUMBERS>, conn: u32, s: &End, d: &End) -> Option<()>
-    requires { length d.now.path + d.now.left ≤ step_limit }
+    requires { length d.now.path + d.now.left ≤ largest_limit }
     ensures { Wrote (traced_block (model m.now)) (row_along (model m.now) conn (end_of s.now) (end_of d.now) ∷ []) out.old result out.new }
 {
     out.put(&row(m, conn, s, d))

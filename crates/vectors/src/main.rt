@@ -3,6 +3,7 @@
 // bytes. The label of each case that differs is printed, and at the end how many agree and how many differ.
 #![tactic(auto)]
 
+use as5506::USUAL_LIMIT;
 use std::io::Read;
 
 // The most cases of a file.
@@ -15,7 +16,7 @@ fn print(rt: &impl Print, text: &[u8]) {
 // Whether the list of a sheet is the expected text, with zeros behind it.
 fn agrees(sheet: &[u8], expected: &[u8]) -> bool {
     let mut text = [7u8; 8192];
-    let used = sheet_list::list_sheet(sheet, &mut text);
+    let used = sheet_list::list_sheet(sheet, USUAL_LIMIT, &mut text);
     let behind = lent::part(&text, used, text.len());
     lent::part(&text, 0, used) == expected && behind.iter().all(|b| *b == 0)
 }

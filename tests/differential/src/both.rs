@@ -17,6 +17,13 @@ pub struct Met {
     pub refused_22: usize,
 }
 
+/// How both listings are asked for: by which entry, and with how many steps of a chain at most.
+#[derive(Clone, Copy, Debug)]
+pub struct Asked {
+    pub entry: Entry,
+    pub limit: u64,
+}
+
 /// The lengths of the six outputs.
 #[derive(Clone, Copy)]
 pub struct Lengths {
@@ -76,24 +83,25 @@ impl Lists {
         (self.links.lend(), outputs)
     }
 
-    /// The one call, by an entry.
-    fn list(&mut self, entry: Entry, tables: &Tables) -> [u64; 5] {
+    /// The one call.
+    fn list(&mut self, asked: Asked, tables: &Tables) -> [u64; 5] {
         let (links, outputs) = self.lend();
-        library::list_connections(entry, tables, links, outputs)
+        library::list_connections(asked.entry, tables, asked.limit, links, outputs)
     }
 
     /// The one call with records.
     pub fn list_with_records(
         &mut self,
-        entry: Entry,
+        asked: Asked,
         tables: &Tables,
         records: &mut [Diagnostic],
         group_records: &mut [Diagnostic],
     ) -> [u64; 5] {
         let (links, outputs) = self.lend();
         library::list_connections_with_records(
-            entry,
+            asked.entry,
             tables,
+            asked.limit,
             links,
             outputs,
             records,
@@ -141,10 +149,10 @@ impl Called {
     }
 }
 
-/// The one call, by an entry, with outputs of these lengths.
-pub fn call(tables: &Tables, entry: Entry, lengths: Lengths) -> Result<Called, String> {
+/// The one call, with outputs of these lengths.
+pub fn call(tables: &Tables, asked: Asked, lengths: Lengths) -> Result<Called, String> {
     let (before, mut lists) = (tables.clone(), Lists::of(lengths));
-    let told = lists.list(entry, tables);
+    let told = lists.list(asked, tables);
     if *tables == before {
         Ok(Called { told, lists })
     } else {
@@ -152,36 +160,40 @@ pub fn call(tables: &Tables, entry: Entry, lengths: Lengths) -> Result<Called, S
     }
 }
 
-/// The one call, by an entry, gives this refusal and leaves zeros.
+/// The one call gives this refusal and leaves zeros.
 pub fn refused(
     tables: &Tables,
-    entry: Entry,
+    asked: Asked,
     lengths: Lengths,
     [number, place, letter]: [u64; 3],
 ) -> Result<(), String> {
-    let called = call(tables, entry, lengths)?;
+    let called = call(tables, asked, lengths)?;
     called.lists.are_zero()?;
     expect(called.told, [number, place, letter, 0, 0])
 }
 
-/// Compares the one call with the two, with outputs as conlist lends them and with small ones; and sees that it refuses too few links
-/// before all that it refuses of a list.
-pub fn compare(sheet: &Sheet, met: &mut Met) -> Result<(), String> {
+/// Compares the one call with the two under a limit, with outputs as conlist lends them and with small ones; and sees that it refuses too
+/// few links before all that it refuses of a list.
+pub fn compare(sheet: &Sheet, limit: u64, met: &mut Met) -> Result<(), String> {
     let (tables, links) = (Tables::of(sheet), LinkTable::of(sheet));
     let exact = links.length();
+    let asked = Asked {
+        entry: Entry::Ported,
+        limit,
+    };
     for (lent, rows) in [
         (exact, 64),
         (exact + LINK_NUMBERS - 1, 3),
         (exact + 1000, 3),
     ] {
-        agrees(&tables, &links, Lengths::of(lent, rows), met)
+        agrees(&tables, &links, asked, Lengths::of(lent, rows), met)
             .map_err(|what| format!("both listings: {what}"))?;
     }
     for (lent, rows) in [(exact - 1, 64), (exact - 1, 0), (0, 64), (0, 0)] {
         met.calls += 1;
         met.refused_22 += 1;
         let due = [TOO_FEW_LINKS, 0, b'-'.into()];
-        refused(&tables, Entry::Ported, Lengths::of(lent, rows), due)
+        refused(&tables, asked, Lengths::of(lent, rows), due)
             .map_err(|what| format!("both listings: {what}"))?;
     }
     Ok(())
@@ -191,6 +203,7 @@ pub fn compare(sheet: &Sheet, met: &mut Met) -> Result<(), String> {
 fn agrees(
     tables: &Tables,
     links: &LinkTable,
+    asked: Asked,
     lengths: Lengths,
     met: &mut Met,
 ) -> Result<(), String> {
@@ -199,6 +212,7 @@ fn agrees(
     let mut group_links = Lent::of_length(lengths.links);
     let traced = library::compute_semantic_connections(
         tables,
+        asked.limit,
         one.links.lend(),
         one.rows.lend(),
         one.diagnostics.lend(),
@@ -219,9 +233,9 @@ fn agrees(
     let refusal = [traced, group].into_iter().find(|told| told[0] != 0);
     if let Some(refusal) = refusal {
         met.refused += 1;
-        return refused(tables, Entry::Ported, lengths, refusal);
+        return refused(tables, asked, lengths, refusal);
     }
-    let both = call(tables, Entry::Ported, lengths)?;
+    let both = call(tables, asked, lengths)?;
     expect(both.told, [0, traced[1], traced[2], group[1], group[2]])?;
     links.fills(&both.lists.links)?;
     if both.lists.list_the_same(&one)? {

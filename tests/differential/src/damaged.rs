@@ -5,6 +5,7 @@ use oracle::letters::{LETTERS, row_numbers};
 use oracle::listing::{REFUSALS_OF_LINES, REFUSALS_OF_TABLES, refusal_of};
 use oracle::sheet::{SHEET_BYTES, Sheet, rows_lent};
 use oracle::stream::Case;
+use oracle::traced::STEPS;
 
 use crate::lent::Lent;
 use crate::library;
@@ -22,7 +23,7 @@ pub struct Met {
 }
 
 pub fn compare(case: &Case, met: &mut Met) -> Result<(), String> {
-    text::compare(&case.sheet, &case.text, &mut met.text)?;
+    text::compare(&case.sheet, STEPS, &case.text, &mut met.text)?;
     let refusal = refusal_of(&case.text);
     match (read(&case.sheet)?, refusal) {
         (Err(told), Some(refusal)) if told == refusal => {
@@ -35,7 +36,7 @@ pub fn compare(case: &Case, met: &mut Met) -> Result<(), String> {
             Err("the reader took a sheet that it has to refuse".to_string())
         }
         (Ok(tables), Some(refusal)) if REFUSALS_OF_TABLES.contains(&refusal[0]) => {
-            unaccepted::refused(&tables, refusal, &mut met.unaccepted)
+            unaccepted::refused(&tables, STEPS, refusal, &mut met.unaccepted)
         }
         (Ok(tables), _) => {
             met.read += 1;
@@ -58,7 +59,7 @@ pub fn read_again(bytes: &[u8], sheet: &Sheet) -> Result<(), String> {
 
 /// The tables that the reader makes, as conlist lends them, cut to the rows that it counts; or its refusal, with zeros in all of
 /// them.
-fn read(sheet: &[u8]) -> Result<Result<Tables, [u64; 3]>, String> {
+pub fn read(sheet: &[u8]) -> Result<Result<Tables, [u64; 3]>, String> {
     let mut bytes = Lent::<u8>::of_length(SHEET_BYTES);
     let mut letters: Vec<Lent<u32>> = LETTERS
         .iter()

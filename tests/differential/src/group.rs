@@ -3,7 +3,8 @@
 use oracle::listing::{Listing, Row, composed_bytes};
 use oracle::model::{self, Renames};
 use oracle::sheet::Sheet;
-use oracle::{MOST_VISITS, endpoint, group, traced};
+use oracle::traced::{self, STEPS};
+use oracle::{MOST_VISITS, endpoint, group};
 
 use crate::ROW_NUMBERS;
 use crate::lent::Lent;
@@ -43,7 +44,7 @@ pub fn expected(sheet: &Sheet, renames: Renames) -> Option<Result<Listing, u64>>
         return None;
     }
     let mut instance = model::instance(sheet);
-    if traced::row_count(sheet) <= crate::MOST_ROWS {
+    if traced::row_count(sheet, STEPS) <= crate::MOST_ROWS {
         traced::run(sheet, &mut instance);
     }
     Some(Ok(group::run(sheet, renames, &mut instance)))

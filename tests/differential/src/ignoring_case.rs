@@ -5,40 +5,26 @@
 
 use std::collections::HashSet;
 
-use oracle::listing::{Listing, Row, composed_bytes, refusal_of};
 use oracle::model::Renames;
 use oracle::sheet::Sheet;
 use oracle::stream::Case;
+use oracle::traced::STEPS;
 
-use crate::both::{self, Lengths};
+use crate::both::{self, Asked, Lengths};
 use crate::library::{ENTRIES, Entry};
-use crate::link_table::{LINK_NUMBERS, LinkTable, TOO_FEW_LINKS};
-use crate::records::{self, Model};
-use crate::tables::Tables;
-use crate::{DIAGNOSTIC_NUMBERS, ROW_NUMBERS, damaged, group, listed, printed, traced};
+use crate::lists::{self, Due, Given};
+use crate::{damaged, traced};
 
-/// The refusals of both listings.
-pub const REFUSALS: [u64; 5] = [11, 12, 13, 14, TOO_FEW_LINKS];
-
-/// The refusal of lists that are longer than a text.
-const TOO_LONG: u64 = 15;
+/// How the entry is asked for the lists.
+const ASKED: Asked = Asked {
+    entry: Entry::IgnoringCase,
+    limit: STEPS,
+};
 
 /// How often what was met, over all models.
 #[derive(Default)]
 pub struct Met {
-    pub models: usize,
-    pub rows: usize,
-    pub group_rows: usize,
-    pub diagnostics: usize,
-    /// Calls over numbers, and those of them that were refused, by their refusal.
-    pub calls: usize,
-    pub refused: [usize; REFUSALS.len()],
-    /// What the calls with records met.
-    pub records: records::Met,
-    /// Models that the original is too long at.
-    pub slow: usize,
-    /// Models whose lists are longer than a text.
-    pub too_long: usize,
+    pub lists: lists::Met,
     /// Models that the second entry answers otherwise than the ported one.
     pub answered_otherwise: usize,
     /// Models in which all names that differ also differ folded.
@@ -47,75 +33,39 @@ pub struct Met {
 
 impl Met {
     pub fn print(&self) {
-        println!(
-            "ignoring case: {} traced and {} group rows, {} diagnostics; {} calls, refused {REFUSALS:?}: {:?}, {} calls with records; {} models that the original is too long at, {} that a text is too short for",
-            self.rows,
-            self.group_rows,
-            self.diagnostics,
-            self.calls,
-            self.refused,
-            self.records.calls,
-            self.slow,
-            self.too_long,
-        );
+        self.lists.print("ignoring case");
         println!(
             "both entries: {} models, {} answered otherwise by the second, {} with all names apart",
-            self.models, self.answered_otherwise, self.names_apart,
+            self.lists.models, self.answered_otherwise, self.names_apart,
         );
     }
 
-    /// All that there is to meet was met. (No list has to be too long for the original or for a text.)
+    /// All that there is to meet was met.
     pub fn is_whole(&self) -> bool {
-        let met = [
-            self.rows,
-            self.group_rows,
-            self.diagnostics,
-            self.records.records,
-            self.answered_otherwise,
-            self.names_apart,
-        ];
-        met.iter().chain(&self.refused).all(|&number| number > 0)
+        self.lists.is_whole() && self.answered_otherwise > 0 && self.names_apart > 0
     }
-}
-
-/// What is due for a model.
-enum Due {
-    /// The traced and the group listing.
-    Lists([Listing; 2]),
-    /// Lists of which nothing is known, in outputs as conlist lends them.
-    SomeLists,
-    /// A refusal, in outputs of these lengths.
-    Refused([u64; 3], Lengths),
-}
-
-/// A model; and how the names that the entry hands over are spelled in what is due.
-struct Given<'a> {
-    sheet: &'a Sheet,
-    tables: Tables,
-    links: LinkTable,
-    spelled: fn(&str) -> String,
 }
 
 /// Holds the entry to the original on the model with all names in small letters.
 pub fn compare(sheet: &Sheet, renames: Renames, met: &mut Met) -> Result<(), String> {
-    let given = Given::of(sheet, str::to_ascii_lowercase);
-    let due = original(&folded(sheet), renames, given.links.length());
-    met.slow += usize::from(due.is_none());
-    given.hold(due, met)
+    let given = Given::of(sheet, ASKED, str::to_ascii_lowercase);
+    let folded = folded(sheet);
+    let traced = traced::expected(&folded);
+    let due = lists::original(traced, &folded, renames, given.links.length());
+    hold(&given, due, met)
 }
 
 /// Holds the entry to a text of it.
 pub fn compare_text(case: &Case, met: &mut Met) -> Result<(), String> {
     let sheet = Sheet::accepted(&case.sheet).ok_or("not accepted")?;
     damaged::read_again(&case.sheet, &sheet)?;
-    let given = Given::of(&sheet, str::to_string);
-    let due = told(&case.text, given.links.length())?;
-    met.too_long += usize::from(matches!(due, Due::SomeLists));
-    given.hold(Some(due), met)
+    let given = Given::of(&sheet, ASKED, str::to_string);
+    let due = lists::told(&case.text, given.links.length())?;
+    hold(&given, Some(due), met)
 }
 
 /// The model with all names in small letters.
-fn folded(sheet: &Sheet) -> Sheet {
+pub fn folded(sheet: &Sheet) -> Sheet {
     let mut sheet = sheet.clone();
     for name in &mut sheet.names {
         name.make_ascii_lowercase();
@@ -123,255 +73,52 @@ fn folded(sheet: &Sheet) -> Sheet {
     sheet
 }
 
-/// What the original gives, or the refusal that is owed in its place; nothing where it cannot be waited for.
-fn original(sheet: &Sheet, renames: Renames, links: usize) -> Option<Due> {
-    let Some(traced) = traced::expected(sheet) else {
-        return Some(Due::Refused(of_a_list(11), Lengths::of(links, 64)));
-    };
-    Some(match group::expected(sheet, renames)? {
-        Ok(group) => Due::Lists([traced, group]),
-        Err(number) => {
-            let no_group = Listing::default();
-            Due::Refused(of_a_list(number), exact(links, &[traced, no_group]))
-        }
-    })
+/// The entry gives what is due, and what the ported entry gives where both are to give one list.
+fn hold(given: &Given, due: Option<Due>, met: &mut Met) -> Result<(), String> {
+    given
+        .hold(due, &mut met.lists)
+        .and_then(|()| both_entries(given, met))
+        .map_err(|what| format!("ignoring case: {what}"))
 }
 
-/// What a text tells.
-fn told(text: &[u8], links: usize) -> Result<Due, String> {
-    match refusal_of(text) {
-        None => printed::lists(text).map(Due::Lists),
-        Some(refusal) if refusal == of_a_list(TOO_LONG) => Ok(Due::SomeLists),
-        Some(refusal) => Ok(Due::Refused(refusal, Lengths::of(links, 64))),
-    }
-}
-
-/// A refusal without a place.
-fn of_a_list(number: u64) -> [u64; 3] {
-    [number, 0, b'-'.into()]
-}
-
-/// The lengths that these lists need, behind so many numbers of links.
-fn exact(links: usize, [traced, group]: &[Listing; 2]) -> Lengths {
-    Lengths {
-        links,
-        rows: traced.rows.len() * ROW_NUMBERS,
-        diagnostics: traced.diagnostics.len() * DIAGNOSTIC_NUMBERS,
-        group_rows: group.rows.len() * ROW_NUMBERS,
-        names: composed_bytes(group),
-        group_diagnostics: group.diagnostics.len() * DIAGNOSTIC_NUMBERS,
-    }
-}
-
-/// The same, longer by as much as holds no further row; and longer by much.
-fn longer(exact: Lengths) -> [Lengths; 2] {
-    let by = |rows: usize, diagnostics: usize, names: usize, links: usize| Lengths {
-        links: exact.links + links,
-        rows: exact.rows + rows,
-        diagnostics: exact.diagnostics + diagnostics,
-        group_rows: exact.group_rows + rows,
-        names: exact.names + names,
-        group_diagnostics: exact.group_diagnostics + diagnostics,
-    };
-    [
-        by(ROW_NUMBERS - 1, DIAGNOSTIC_NUMBERS - 1, 1, LINK_NUMBERS - 1),
-        by(100 * ROW_NUMBERS, 1000, 10_000, 1000),
-    ]
-}
-
-/// The outputs in the order in which they are refused, each with its refusal.
-const OUTPUTS: [(fn(&mut Lengths) -> &mut usize, u64); 6] = [
-    (|own| &mut own.links, TOO_FEW_LINKS),
-    (|own| &mut own.rows, 11),
-    (|own| &mut own.diagnostics, 12),
-    (|own| &mut own.group_rows, 11),
-    (|own| &mut own.names, 14),
-    (|own| &mut own.group_diagnostics, 12),
-];
-
-/// Each output a number too short, by itself and with all that are refused behind it, and what is told then.
-fn too_short(exact: Lengths) -> Vec<(Lengths, u64)> {
-    let mut found = Vec::new();
-    let mut with_later = exact;
-    for (output, number) in OUTPUTS.into_iter().rev() {
-        let mut alone = exact;
-        if *output(&mut alone) > 0 {
-            *output(&mut alone) -= 1;
-            *output(&mut with_later) -= 1;
-            found.extend([(alone, number), (with_later, number)]);
-        }
-    }
-    found
-}
-
-impl Given<'_> {
-    fn of(sheet: &Sheet, spelled: fn(&str) -> String) -> Given<'_> {
-        Given {
-            sheet,
-            tables: Tables::of(sheet),
-            links: LinkTable::of(sheet),
-            spelled,
-        }
-    }
-
-    /// The entry gives what is due, refuses too few links before all that it refuses of a list, and gives what the ported entry gives where
-    /// both are to give one list.
-    fn hold(&self, due: Option<Due>, met: &mut Met) -> Result<(), String> {
-        met.models += 1;
-        let found = match due {
-            Some(Due::Lists(lists)) => self.every_length(&lists, met),
-            Some(Due::SomeLists) => self.some_lists(met),
-            Some(Due::Refused(refusal, lengths)) => self.refused(lengths, refusal, met),
-            None => Ok(()),
-        };
-        found
-            .and_then(|()| self.too_few_links(met))
-            .and_then(|()| self.both_entries(met))
-            .map_err(|what| format!("ignoring case: {what}"))
-    }
-
-    /// These lists, in outputs of every telling length.
-    fn every_length(&self, lists: &[Listing; 2], met: &mut Met) -> Result<(), String> {
-        met.rows += lists[0].rows.len();
-        met.group_rows += lists[1].rows.len();
-        met.diagnostics += lists[0].diagnostics.len() + lists[1].diagnostics.len();
-        let exact = exact(self.links.length(), lists);
-        for lengths in [exact].into_iter().chain(longer(exact)) {
-            self.listed(&self.tables, lengths, lists, met)?;
-        }
-        let others = [
-            Some(self.tables.with_more_names()),
-            Some(self.tables.with_large_places()),
-            self.tables.with_other_indices(),
-        ];
-        for other in others.iter().flatten() {
-            self.listed(other, exact, lists, met)?;
-        }
-        for (lengths, number) in too_short(exact) {
-            self.refused(lengths, of_a_list(number), met)?;
-        }
-        Ok(())
-    }
-
-    /// These lists and the link table, with diagnostics as numbers and as records.
-    fn listed(
-        &self,
-        tables: &Tables,
-        lengths: Lengths,
-        [traced, group]: &[Listing; 2],
-        met: &mut Met,
-    ) -> Result<(), String> {
-        met.calls += 1;
-        let called = both::call(tables, Entry::IgnoringCase, lengths)?;
-        let [refused, one, other, third, fourth] = called.told;
-        listed::counts([refused, one, other], traced)?;
-        listed::counts([refused, third, fourth], group)?;
-        let lists = called.lists;
-        self.links.fills(&lists.links)?;
-        let rows = lists.rows.used(traced.rows.len() * ROW_NUMBERS)?;
-        if self.spelled(traced::rows_of(self.sheet, rows)?) != traced.rows {
-            return Err("the traced rows differ".to_string());
-        }
-        listed::diagnostics(&lists.diagnostics, traced)?;
-        let rows = lists.group_rows.used(group.rows.len() * ROW_NUMBERS)?;
-        let names = lists.names.used(composed_bytes(group))?;
-        if self.spelled(group::rows_of(rows, names)?) != group.rows {
-            return Err("the group rows differ".to_string());
-        }
-        listed::diagnostics(&lists.group_diagnostics, group)?;
-        self.with_records(tables, lengths, met)
-    }
-
-    /// The call with as many records as there is room for in the numbers.
-    fn with_records(&self, tables: &Tables, lengths: Lengths, met: &mut Met) -> Result<(), String> {
-        let model = Model {
-            tables,
-            links: &self.links,
-        };
-        let records = [lengths.diagnostics, lengths.group_diagnostics]
-            .map(|numbers| numbers / DIAGNOSTIC_NUMBERS);
-        let entry = Entry::IgnoringCase;
-        records::both_agree(model, entry, lengths, records, &mut met.records)
-            .map_err(|what| format!("with records: {what}"))
-    }
-
-    /// The rows with their names spelled as in what is due.
-    fn spelled(&self, rows: Vec<Row>) -> Vec<Row> {
-        let spelled = |row: Row| Row {
-            name: (self.spelled)(&row.name),
-            source_feature: (self.spelled)(&row.source_feature),
-            destination_feature: (self.spelled)(&row.destination_feature),
-            ..row
-        };
-        rows.into_iter().map(spelled).collect()
-    }
-
-    /// Some lists and the link table, in outputs as conlist lends them.
-    fn some_lists(&self, met: &mut Met) -> Result<(), String> {
-        met.calls += 1;
-        let lengths = Lengths::of(self.links.length(), 64);
-        let called = both::call(&self.tables, Entry::IgnoringCase, lengths)?;
-        if called.told[0] != 0 {
-            return Err(format!("lists expected, it told {:?}", called.told));
-        }
-        self.links.fills(&called.lists.links)?;
-        self.with_records(&self.tables, lengths, met)
-    }
-
-    /// This refusal, in outputs of these lengths.
-    fn refused(&self, lengths: Lengths, refusal: [u64; 3], met: &mut Met) -> Result<(), String> {
-        met.calls += 1;
-        let place = REFUSALS.iter().position(|&own| own == refusal[0]);
-        met.refused[place.ok_or("a refusal of lists expected")?] += 1;
-        both::refused(&self.tables, Entry::IgnoringCase, lengths, refusal)?;
-        self.with_records(&self.tables, lengths, met)
-    }
-
-    /// Links one number too short, one row, and none, the other outputs as conlist lends them and without a place.
-    fn too_few_links(&self, met: &mut Met) -> Result<(), String> {
-        let full = self.links.length();
-        for links in [full - 1, full - LINK_NUMBERS, 0] {
-            for rows in [64, 0] {
-                self.refused(Lengths::of(links, rows), of_a_list(TOO_FEW_LINKS), met)?;
-            }
-        }
-        Ok(())
-    }
-
-    /// Counts whether the entries part, in outputs as conlist lends them. Where all names are apart they are alike, in shorter and in longer
-    /// ones as well.
-    fn both_entries(&self, met: &mut Met) -> Result<(), String> {
-        let full = self.links.length();
-        let mut alike = self.are_alike(Lengths::of(full, 64))?;
-        met.answered_otherwise += usize::from(!alike);
-        if !names_apart(self.sheet) {
-            return Ok(());
-        }
+/// Counts whether the entries part, in outputs as conlist lends them. Where all names are apart they are alike.
+fn both_entries(given: &Given, met: &mut Met) -> Result<(), String> {
+    let alike = are_alike(given, Lengths::of(given.links.length(), 64))?;
+    met.answered_otherwise += usize::from(!alike);
+    if names_apart(given.sheet) {
         met.names_apart += 1;
-        for (links, rows) in [
-            (full, 3),
-            (full + 1, 0),
-            (full + 1000, 2048),
-            (full - 1, 64),
-        ] {
-            alike &= self.are_alike(Lengths::of(links, rows))?;
-        }
-        if alike {
-            Ok(())
-        } else {
-            Err("all names are apart, and the entries part".to_string())
-        }
+        return are_alike_in_all(given);
     }
+    Ok(())
+}
 
-    /// Both entries tell the same and leave the same, in outputs of these lengths.
-    fn are_alike(&self, lengths: Lengths) -> Result<bool, String> {
-        let [ported, second] = ENTRIES.map(|entry| both::call(&self.tables, entry, lengths));
-        ported?.is_as(&second?)
+/// The entries are alike in outputs as conlist lends them, in shorter and in longer ones.
+pub fn are_alike_in_all(given: &Given) -> Result<(), String> {
+    let full = given.links.length();
+    for (links, rows) in [
+        (full, 64),
+        (full, 3),
+        (full + 1, 0),
+        (full + 1000, 2048),
+        (full - 1, 64),
+    ] {
+        if !are_alike(given, Lengths::of(links, rows))? {
+            return Err("all names are apart, and the entries part".to_string());
+        }
     }
+    Ok(())
+}
+
+/// Both entries tell the same and leave the same, in outputs of these lengths.
+fn are_alike(given: &Given, lengths: Lengths) -> Result<bool, String> {
+    let limit = given.asked.limit;
+    let [ported, second] =
+        ENTRIES.map(|entry| both::call(&given.tables, Asked { entry, limit }, lengths));
+    ported?.is_as(&second?)
 }
 
 /// Whether all names that differ also differ folded.
-fn names_apart(sheet: &Sheet) -> bool {
+pub fn names_apart(sheet: &Sheet) -> bool {
     let names: HashSet<&String> = sheet.names.iter().collect();
     let folded: HashSet<String> = names.iter().map(|name| name.to_ascii_lowercase()).collect();
     names.len() == folded.len()

@@ -1,4 +1,5 @@
-//! The library's calls. A slice crosses as two arguments, its pointer and its length. Each listing takes the link table as its first output.
+//! The library's calls. A slice crosses as two arguments, its pointer and its length. Each listing takes the link table as its first output,
+//! and where it has traced rows, in front of that the most steps that a chain of these may have.
 
 use oracle::letters::LETTERS;
 
@@ -69,6 +70,7 @@ macro_rules! call {
 over_tables!(conlist_check_tables(told: *mut u64));
 over_tables!(conlist_expand_feature_group(out: *mut u32, out_length: usize, from: u32, type_name: u32, inverse: bool, told: *mut u64));
 over_tables!(conlist_compute_semantic_connections(
+    limit: u64,
     links: *mut u32,
     links_length: usize,
     rows: *mut u32,
@@ -89,6 +91,7 @@ over_tables!(conlist_expand_feature_group_connections(
     told: *mut u64
 ));
 over_tables!(conlist_compute_semantic_connections_with_records(
+    limit: u64,
     links: *mut u32,
     links_length: usize,
     rows: *mut u32,
@@ -113,6 +116,7 @@ over_tables!(conlist_expand_feature_group_connections_with_records(
     told: *mut u64
 ));
 over_tables!(conlist_list_connections_with_records, conlist_list_connections_ignoring_case_with_records(
+    limit: u64,
     links: *mut u32,
     links_length: usize,
     rows: *mut u32,
@@ -132,6 +136,7 @@ over_tables!(conlist_list_connections_with_records, conlist_list_connections_ign
     told: *mut u64
 ));
 over_tables!(conlist_list_connections, conlist_list_connections_ignoring_case(
+    limit: u64,
     links: *mut u32,
     links_length: usize,
     rows: *mut u32,
@@ -193,6 +198,7 @@ pub fn expand_feature_group(
 /// 0, the rows and the diagnostics, or a refusal's number, place and letter.
 pub fn compute_semantic_connections(
     tables: &Tables,
+    limit: u64,
     links: &mut [u32],
     rows: &mut [u32],
     diagnostics: &mut [u32],
@@ -203,6 +209,7 @@ pub fn compute_semantic_connections(
         call!(
             conlist_compute_semantic_connections,
             tables,
+            limit,
             links.as_mut_ptr(),
             links.len(),
             rows.as_mut_ptr(),
@@ -268,6 +275,7 @@ pub struct Outputs<'a> {
 pub fn list_connections(
     entry: Entry,
     tables: &Tables,
+    limit: u64,
     links: &mut [u32],
     outputs: Outputs,
 ) -> [u64; 5] {
@@ -281,6 +289,7 @@ pub fn list_connections(
         call!(
             listed,
             tables,
+            limit,
             links.as_mut_ptr(),
             links.len(),
             outputs.rows.as_mut_ptr(),
@@ -302,6 +311,7 @@ pub fn list_connections(
 /// As `compute_semantic_connections`, with records.
 pub fn compute_semantic_connections_with_records(
     tables: &Tables,
+    limit: u64,
     links: &mut [u32],
     rows: &mut [u32],
     numbers: &mut [u32],
@@ -313,6 +323,7 @@ pub fn compute_semantic_connections_with_records(
         call!(
             conlist_compute_semantic_connections_with_records,
             tables,
+            limit,
             links.as_mut_ptr(),
             links.len(),
             rows.as_mut_ptr(),
@@ -362,6 +373,7 @@ pub fn expand_feature_group_connections_with_records(
 pub fn list_connections_with_records(
     entry: Entry,
     tables: &Tables,
+    limit: u64,
     links: &mut [u32],
     outputs: Outputs,
     records: &mut [Diagnostic],
@@ -377,6 +389,7 @@ pub fn list_connections_with_records(
         call!(
             listed,
             tables,
+            limit,
             links.as_mut_ptr(),
             links.len(),
             outputs.rows.as_mut_ptr(),
@@ -430,15 +443,24 @@ unsafe extern "C" {
     fn conlist_list_sheet(
         sheet: *const u8,
         sheet_length: usize,
+        limit: u64,
         text: *mut u8,
         text_length: usize,
     ) -> usize;
 }
 
 /// How many bytes of text there are.
-pub fn list_sheet(sheet: &[u8], text: &mut [u8]) -> usize {
+pub fn list_sheet(sheet: &[u8], limit: u64, text: &mut [u8]) -> usize {
     // SAFETY: as above.
-    unsafe { conlist_list_sheet(sheet.as_ptr(), sheet.len(), text.as_mut_ptr(), text.len()) }
+    unsafe {
+        conlist_list_sheet(
+            sheet.as_ptr(),
+            sheet.len(),
+            limit,
+            text.as_mut_ptr(),
+            text.len(),
+        )
+    }
 }
 
 with_letters! { declare! conlist_read_sheet(sheet: *const u8, sheet_length: usize, [*mut u8, *mut u32], told: *mut u64) }

@@ -7,6 +7,7 @@ use oracle::letters::{component, connection};
 use oracle::listing::REFUSALS_OF_TABLES;
 use oracle::sheet::Sheet;
 use oracle::stream::Case;
+use oracle::traced::STEPS;
 
 use crate::lent::Lent;
 use crate::library::{self, Entry, Outputs};
@@ -203,6 +204,7 @@ fn run(
     let told = match call {
         Call::Traced => one(library::compute_semantic_connections(
             tables,
+            STEPS,
             links.lend(),
             traced.rows.lend(),
             traced.diagnostics.lend(),
@@ -217,6 +219,7 @@ fn run(
         Call::Both(entry) => library::list_connections(
             entry,
             tables,
+            STEPS,
             links.lend(),
             Outputs {
                 rows: traced.rows.lend(),

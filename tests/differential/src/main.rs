@@ -7,11 +7,14 @@
 //! `differential --stream`: holds it to the texts of a stream of cases on standard input.
 //! `differential --ignore-case`: holds the second entry, which ignores letter case, to the texts of a stream of cases on standard input, accepted
 //! sheets each with the text of its lists by that entry.
+//! `differential --limit LIMIT [--ignore-case]`: holds the ported entry, or the second one, under a limit on the steps of a chain to the texts of a
+//! stream of cases on standard input, sheets each with the text of its lists by that entry under that limit, or of its refusal.
 //! `differential --links`: holds its link tables to those of a stream of cases on standard input, accepted sheets each with a line of
 //! two numbers for every component in place of a text; and to a scan by place on models that are larger than a sheet.
 //!
-//! Each model is handed over as a sheet and as tables, with outputs that are exactly full, one number too short, a little too long
-//! and far too long, full of rubbish before the call and with guards around them.
+//! Where no limit is named it is 20, the original's; the first run also compares other limits with each other, and the largest with the copy of
+//! the original that has none. Each model is handed over as a sheet and as tables, with outputs that are exactly full, one number too short,
+//! a little too long and far too long, full of rubbish before the call and with guards around them.
 
 mod both;
 mod damaged;
@@ -20,9 +23,11 @@ mod group;
 mod ignoring_case;
 mod lent;
 mod library;
+mod limits;
 mod link_table;
 mod links;
 mod listed;
+mod lists;
 mod modes;
 mod printed;
 mod records;
@@ -42,9 +47,13 @@ use oracle::model::Renames;
 use oracle::places;
 use oracle::sheet::Sheet;
 use oracle::stream::{self, Case};
+use oracle::traced::STEPS;
+
+use both::Asked;
+use library::Entry;
 
 /// The numbers of a row and of a diagnostic in their outputs.
-const ROW_NUMBERS: usize = 49;
+const ROW_NUMBERS: usize = 137;
 const DIAGNOSTIC_NUMBERS: usize = 4;
 
 /// More rows than this are not collected by the original.
@@ -103,6 +112,7 @@ struct Met {
     both: both::Met,
     records: records::Met,
     ignoring_case: ignoring_case::Met,
+    limits: limits::Met,
     modes: modes::Met,
     text: text::Met,
     unaccepted: unaccepted::Met,
@@ -119,19 +129,20 @@ impl Met {
         let found = traced::compare(&sheet, &mut self.traced)
             .and_then(|()| expansion::compare(&sheet, renames, &mut self.expansion))
             .and_then(|()| group::compare(&sheet, renames, &mut self.group))
-            .and_then(|()| both::compare(&sheet, &mut self.both))
-            .and_then(|()| records::compare(&sheet, &mut self.records))
+            .and_then(|()| both::compare(&sheet, STEPS, &mut self.both))
+            .and_then(|()| records::compare(&sheet, STEPS, &mut self.records))
             .and_then(|()| ignoring_case::compare(&sheet, renames, &mut self.ignoring_case))
+            .and_then(|()| limits::compare(&sheet, renames, &mut self.limits))
             .and_then(|()| modes::compare(&sheet, &mut self.modes))
             .and_then(|()| damaged::read_again(&case.sheet, &sheet))
             .and_then(|()| {
                 let options = Options {
                     renames,
-                    unlimited: false,
+                    ..Options::default()
                 };
                 let expected =
                     oracle::conlist(&case.sheet, options).map_err(|why| format!("{why:?}"))?;
-                text::compare(&case.sheet, expected.as_bytes(), &mut self.text)
+                text::compare(&case.sheet, STEPS, expected.as_bytes(), &mut self.text)
             })
             .and_then(|()| unaccepted::compare(&sheet, self.models, &mut self.unaccepted));
         if let Err(what) = found {
@@ -206,6 +217,7 @@ impl Met {
             self.records.refused_22,
         );
         self.ignoring_case.print();
+        self.limits.print();
         println!(
             "array indices: {} models in the traced and {} in the group listing with other bits as well; {} tables refused for their numbers",
             traced.other_indices, group.other_indices, self.unaccepted.indices,
@@ -250,6 +262,7 @@ impl Met {
             && self.records.refused_12 > 0
             && self.records.refused_22 > 0
             && self.ignoring_case.is_whole()
+            && self.limits.is_whole()
             && self.both.refused_22 > 0
             && self.text.refused > 0
     }
@@ -297,8 +310,21 @@ fn known_texts_ignoring_case() -> ExitCode {
     let mut met = ignoring_case::Met::default();
     let (_, differing) = compared(|case| ignoring_case::compare_text(case, &mut met));
     met.print();
-    println!("{} models ignoring case, {differing} differ", met.models);
+    println!(
+        "{} models ignoring case, {differing} differ",
+        met.lists.models
+    );
     code(differing == 0 && met.is_whole())
+}
+
+/// The cases on standard input with the texts of an entry under a limit.
+fn known_texts_at(asked: Asked) -> ExitCode {
+    let mut met = limits::TextsMet::default();
+    let (cases, differing) = compared(|case| limits::compare_text(case, asked, &mut met));
+    met.print();
+    let Asked { entry, limit } = asked;
+    println!("{cases} sheets under a limit of {limit}, {entry:?}, {differing} differ");
+    code(differing == 0 && cases > 0)
 }
 
 /// The cases on standard input with their link tables.
@@ -338,21 +364,33 @@ fn count_and_first(words: &[String]) -> Option<(u64, u64)> {
     }
 }
 
+/// LIMIT and the entry, if these are all words that are left.
+fn asked(words: &[String]) -> Option<Asked> {
+    let (limit, entry) = match words {
+        [limit] => (limit, Entry::Ported),
+        [limit, option] if option == "--ignore-case" => (limit, Entry::IgnoringCase),
+        _ => return None,
+    };
+    let limit = limit.parse().ok()?;
+    Some(Asked { entry, limit })
+}
+
 fn main() -> ExitCode {
     let words: Vec<String> = std::env::args().skip(1).collect();
-    let (run, numbers) = match words.split_first() {
+    let (run, rest) = match words.split_first() {
         Some((option, rest)) if option.starts_with("--") => (option.as_str(), rest),
         _ => ("", &words[..]),
     };
-    match (run, count_and_first(numbers)) {
-        ("", Some((count, first))) => all(count, first),
-        ("--modes", Some((count, first))) => modes_alone(count, first),
-        ("--stream", _) if numbers.is_empty() => known_texts(),
-        ("--ignore-case", _) if numbers.is_empty() => known_texts_ignoring_case(),
-        ("--links", _) if numbers.is_empty() => known_links(),
+    match (run, count_and_first(rest), asked(rest)) {
+        ("", Some((count, first)), _) => all(count, first),
+        ("--modes", Some((count, first)), _) => modes_alone(count, first),
+        ("--limit", _, Some(asked)) => known_texts_at(asked),
+        ("--stream", ..) if rest.is_empty() => known_texts(),
+        ("--ignore-case", ..) if rest.is_empty() => known_texts_ignoring_case(),
+        ("--links", ..) if rest.is_empty() => known_links(),
         _ => {
             eprintln!(
-                "usage: differential [--modes] [COUNT] [FIRST], or differential --stream|--ignore-case|--links < CASES"
+                "usage: differential [--modes] [COUNT] [FIRST], or differential --stream|--ignore-case|--links|--limit LIMIT [--ignore-case] < CASES"
             );
             ExitCode::from(2)
         }
@@ -370,6 +408,8 @@ fn all(count: u64, first: u64) -> ExitCode {
     }
     let large = modes::compare_large(&mut met.modes);
     met.differing += usize::from(told("large tables", large));
+    let long = limits::compare_large(&mut met.limits);
+    met.differing += usize::from(told("long chains", long));
     let mut texts = damaged::Met::default();
     for case in differences() {
         let outcome = damaged::compare(&case, &mut texts);

@@ -4,7 +4,7 @@
 
 use oracle::sheet::Sheet;
 
-use crate::both::{self, Lists};
+use crate::both::{self, Asked, Lists};
 use crate::lent::Lent;
 use crate::library::{self, Diagnostic, ENTRIES, Entry};
 use crate::link_table::{LINK_NUMBERS, LinkTable, TOO_FEW_LINKS};
@@ -139,20 +139,30 @@ impl Lengths {
     }
 }
 
-/// The tables of a model, and the link table that is due for it.
+/// The tables of a model, the link table that is due for it, and how many steps a chain of it may have at most.
 #[derive(Clone, Copy)]
 pub struct Model<'a> {
     pub tables: &'a Tables,
     pub links: &'a LinkTable,
+    pub limit: u64,
 }
 
-/// Compares the calls with records with those over numbers: with room around as many diagnostics as there are, and with few rows; and sees
-/// that they refuse too few links before all that they refuse of a list.
-pub fn compare(sheet: &Sheet, met: &mut Met) -> Result<(), String> {
+impl Model<'_> {
+    /// How an entry is asked for both listings of it.
+    fn by(self, entry: Entry) -> Asked {
+        let limit = self.limit;
+        Asked { entry, limit }
+    }
+}
+
+/// Compares the calls with records with those over numbers under a limit: with room around as many diagnostics as there are, and with few
+/// rows; and sees that they refuse too few links before all that they refuse of a list.
+pub fn compare(sheet: &Sheet, limit: u64, met: &mut Met) -> Result<(), String> {
     let (tables, links) = (Tables::of(sheet), LinkTable::of(sheet));
     let model = Model {
         tables: &tables,
         links: &links,
+        limit,
     };
     let exact = links.length();
     in_rooms(exact, counts_alone(model), |lengths, traced, group| {
@@ -166,7 +176,7 @@ pub fn compare(sheet: &Sheet, met: &mut Met) -> Result<(), String> {
         met.calls += 4;
         met.refused_22 += 4;
         let refusal = [TOO_FEW_LINKS, 0, b'-'.into()];
-        all_refuse(&tables, Lengths { links, rows }, refusal)?;
+        all_refuse(&tables, limit, Lengths { links, rows }, refusal)?;
     }
     Ok(())
 }
@@ -180,6 +190,7 @@ fn counts_alone(model: Model) -> [usize; 2] {
     let (mut own, mut numbers) = (Rows::of(64), Lent::of_length(64 * DIAGNOSTIC_NUMBERS));
     let traced = library::compute_semantic_connections(
         model.tables,
+        model.limit,
         links.lend(),
         own.rows.lend(),
         numbers.lend(),
@@ -200,7 +211,7 @@ fn counts_alone(model: Model) -> [usize; 2] {
 /// How many diagnostics of each listing an entry gives.
 fn counts(model: Model, entry: Entry) -> Result<[usize; 2], String> {
     let lengths = both::Lengths::of(model.links.length(), 64);
-    let told = both::call(model.tables, entry, lengths)?.told;
+    let told = both::call(model.tables, model.by(entry), lengths)?.told;
     Ok(match told[0] {
         0 => [told[2] as usize, told[4] as usize],
         _ => [DIAGNOSTICS; 2],
@@ -270,6 +281,7 @@ fn traced_agrees(model: Model, lengths: Lengths, room: Room, met: &mut Met) -> R
     let mut numbers = Lent::of_length(room.places() * DIAGNOSTIC_NUMBERS);
     let due = library::compute_semantic_connections(
         tables,
+        model.limit,
         own_links.lend(),
         own.rows.lend(),
         numbers.lend(),
@@ -277,6 +289,7 @@ fn traced_agrees(model: Model, lengths: Lengths, room: Room, met: &mut Met) -> R
     let (mut links, mut diagnostics) = (Lent::of_length(lengths.links), Diagnostics::of(room));
     let told = library::compute_semantic_connections_with_records(
         tables,
+        model.limit,
         links.lend(),
         filled.rows.lend(),
         diagnostics.numbers.lend(),
@@ -330,11 +343,12 @@ pub fn both_agree(
         group_diagnostics: numbers(group_records, lengths.group_diagnostics),
         ..lengths
     };
-    let due = both::call(tables, entry, room)?;
+    let asked = model.by(entry);
+    let due = both::call(tables, asked, room)?;
     let mut filled = Lists::of(lengths);
     let (mut records, mut group_records) =
         (Lent::of_length(records), Lent::of_length(group_records));
-    let told = filled.list_with_records(entry, tables, records.lend(), group_records.lend());
+    let told = filled.list_with_records(asked, tables, records.lend(), group_records.lend());
     expect(&told, &due.told, *tables == before, met)?;
     model.links.is_left(&filled.links, &told)?;
     if !filled.have_the_same_rows(&due.lists)? {
@@ -376,16 +390,43 @@ fn written(numbers: &Lent<u32>, refused: u64, count: u64) -> Result<&[u32], Stri
 }
 
 /// Tables that are not accepted: each of the calls gives their refusal and leaves zeros, with so many numbers of links.
-pub fn refused(tables: &Tables, links: usize, refusal: [u64; 3]) -> Result<(), String> {
-    all_refuse(tables, Lengths { links, rows: 64 }, refusal)
+pub fn refused(tables: &Tables, limit: u64, links: usize, refusal: [u64; 3]) -> Result<(), String> {
+    all_refuse(tables, limit, Lengths { links, rows: 64 }, refusal)
+}
+
+/// A limit that is refused: each of the calls that take one gives this refusal and leaves zeros, with so many numbers of links and so many
+/// rows.
+pub fn limit_refused(
+    tables: &Tables,
+    limit: u64,
+    [links, rows]: [usize; 2],
+    refusal: [u64; 3],
+) -> Result<(), String> {
+    limited_refuse(tables, limit, Lengths { links, rows }, refusal)
 }
 
 /// Each of the calls gives this refusal and leaves zeros; there is room for as many diagnostics as rows.
-fn all_refuse(tables: &Tables, lengths: Lengths, refusal: [u64; 3]) -> Result<(), String> {
+fn all_refuse(
+    tables: &Tables,
+    limit: u64,
+    lengths: Lengths,
+    refusal: [u64; 3],
+) -> Result<(), String> {
+    limited_refuse(tables, limit, lengths, refusal)?;
+    group_refuses(tables, lengths, refusal)
+}
+
+/// Each of those that take a limit does.
+fn limited_refuse(
+    tables: &Tables,
+    limit: u64,
+    lengths: Lengths,
+    refusal: [u64; 3],
+) -> Result<(), String> {
     let before = tables.clone();
-    one_refuses(tables, lengths, refusal)?;
+    traced_refuses(tables, limit, lengths, refusal)?;
     for entry in ENTRIES {
-        both_refuse(tables, entry, lengths, refusal)?;
+        both_refuse(tables, Asked { entry, limit }, lengths, refusal)?;
     }
     if *tables == before {
         Ok(())
@@ -394,51 +435,68 @@ fn all_refuse(tables: &Tables, lengths: Lengths, refusal: [u64; 3]) -> Result<()
     }
 }
 
-/// The calls for one listing refuse.
-fn one_refuses(tables: &Tables, lengths: Lengths, refusal: [u64; 3]) -> Result<(), String> {
-    let room = lengths.room();
-    let links = || Lent::of_length(lengths.links);
-    let outputs = || (Rows::of(lengths.rows), Diagnostics::of(room));
-    let (mut traced_links, mut group_links) = (links(), links());
-    let (mut traced, mut diagnostics) = outputs();
-    let (mut group, mut group_diagnostics) = outputs();
-    let alone = [
-        library::compute_semantic_connections_with_records(
-            tables,
-            traced_links.lend(),
-            traced.rows.lend(),
-            diagnostics.numbers.lend(),
-            diagnostics.records.lend(),
-        ),
-        library::expand_feature_group_connections_with_records(
-            tables,
-            group_links.lend(),
-            group.rows.lend(),
-            group.names.lend(),
-            group_diagnostics.numbers.lend(),
-            group_diagnostics.records.lend(),
-        ),
-    ];
-    traced_links.used(0)?;
-    group_links.used(0)?;
-    traced.rows.used(0)?;
+/// The call for the traced listing refuses.
+fn traced_refuses(
+    tables: &Tables,
+    limit: u64,
+    lengths: Lengths,
+    refusal: [u64; 3],
+) -> Result<(), String> {
+    let mut links = Lent::of_length(lengths.links);
+    let mut own = Rows::of(lengths.rows);
+    let mut diagnostics = Diagnostics::of(lengths.room());
+    let told = library::compute_semantic_connections_with_records(
+        tables,
+        limit,
+        links.lend(),
+        own.rows.lend(),
+        diagnostics.numbers.lend(),
+        diagnostics.records.lend(),
+    );
+    links.used(0)?;
+    own.rows.used(0)?;
     diagnostics.are_zero()?;
-    group.rows.used(0)?;
-    group.names.used(0)?;
-    group_diagnostics.are_zero()?;
-    if alone == [refusal; 2] {
+    is_told("traced listing", told, refusal)
+}
+
+/// The call for the group listing refuses.
+fn group_refuses(tables: &Tables, lengths: Lengths, refusal: [u64; 3]) -> Result<(), String> {
+    let before = tables.clone();
+    let mut links = Lent::of_length(lengths.links);
+    let mut own = Rows::of(lengths.rows);
+    let mut diagnostics = Diagnostics::of(lengths.room());
+    let told = library::expand_feature_group_connections_with_records(
+        tables,
+        links.lend(),
+        own.rows.lend(),
+        own.names.lend(),
+        diagnostics.numbers.lend(),
+        diagnostics.records.lend(),
+    );
+    if *tables != before {
+        return Err("it changed an input".to_string());
+    }
+    links.used(0)?;
+    own.rows.used(0)?;
+    own.names.used(0)?;
+    diagnostics.are_zero()?;
+    is_told("group listing", told, refusal)
+}
+
+fn is_told(listing: &str, told: [u64; 3], refusal: [u64; 3]) -> Result<(), String> {
+    if told == refusal {
         Ok(())
     } else {
         Err(format!(
-            "calls with records told {alone:?} where {refusal:?} is due"
+            "the {listing} with records told {told:?} where {refusal:?} is due"
         ))
     }
 }
 
-/// The call for both listings by an entry refuses.
+/// The call for both listings refuses.
 fn both_refuse(
     tables: &Tables,
-    entry: Entry,
+    asked: Asked,
     lengths: Lengths,
     [number, place, letter]: [u64; 3],
 ) -> Result<(), String> {
@@ -446,7 +504,7 @@ fn both_refuse(
     let mut lists = Lists::of(lengths.of_both(room, room));
     let (mut records, mut group_records) =
         (Lent::of_length(room.records), Lent::of_length(room.records));
-    let told = lists.list_with_records(entry, tables, records.lend(), group_records.lend());
+    let told = lists.list_with_records(asked, tables, records.lend(), group_records.lend());
     lists.are_zero()?;
     records.used(0)?;
     group_records.used(0)?;
@@ -455,7 +513,7 @@ fn both_refuse(
         Ok(())
     } else {
         Err(format!(
-            "both listings with records, {entry:?}, told {told:?} where {due:?} is due"
+            "both listings with records, {asked:?}, told {told:?} where {due:?} is due"
         ))
     }
 }

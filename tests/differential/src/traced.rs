@@ -1,14 +1,16 @@
-//! The traced listing: `compute_semantic_connections` against the original's.
+//! The traced listing: `compute_semantic_connections` against the original's, and under another limit against a listing that is known.
 
 use oracle::letters::connection;
 use oracle::listing::{Listing, Row};
+use oracle::model;
 use oracle::sheet::Sheet;
-use oracle::{model, traced};
+use oracle::traced::{self, NO_LIMIT, STEPS};
 
 use crate::lent::Lent;
 use crate::library;
 use crate::link_table::{LinkTable, TOO_FEW_LINKS};
 use crate::listed::{self, Lengths};
+use crate::lists::of_a_list;
 use crate::tables::Tables;
 use crate::{MOST_ROWS, ROW_NUMBERS};
 
@@ -28,28 +30,41 @@ pub struct Met {
 
 /// The original's listing; nothing where it has more rows than are collected.
 pub fn expected(sheet: &Sheet) -> Option<Listing> {
-    let ends = traced::row_count(sheet) <= MOST_ROWS;
+    let ends = traced::row_count(sheet, STEPS) <= MOST_ROWS;
     ends.then(|| traced::run(sheet, &mut model::instance(sheet)))
 }
 
-/// Compares the two on a sheet, with outputs of every telling size.
+/// The same of the copy of the original that has no limit on the steps of a chain.
+pub fn lifted(sheet: &Sheet) -> Option<Listing> {
+    let ends = traced::row_count(sheet, NO_LIMIT) <= MOST_ROWS;
+    ends.then(|| traced::run_lifted(sheet, &mut model::instance(sheet)))
+}
+
+/// Compares the two on a sheet.
 pub fn compare(sheet: &Sheet, met: &mut Met) -> Result<(), String> {
+    if let Some(listing) = expected(sheet) {
+        return hold(sheet, STEPS, &listing, met);
+    }
+    met.endless += 1;
+    let tables = Tables::of(sheet);
+    let conlist = Lengths::of_conlist(LinkTable::of(sheet).length());
+    refused(&tables, STEPS, conlist, 11, met)?;
+    too_few_links(&tables, STEPS, conlist, met)
+}
+
+/// Holds the call under a limit to a listing, with outputs of every telling size.
+pub fn hold(sheet: &Sheet, limit: u64, listing: &Listing, met: &mut Met) -> Result<(), String> {
     let tables = Tables::of(sheet);
     let links = LinkTable::of(sheet);
-    let Some(listing) = expected(sheet) else {
-        met.endless += 1;
-        let conlist = Lengths::of_conlist(links.length());
-        refused(&tables, conlist, 11, met)?;
-        return too_few_links(&tables, conlist, met);
-    };
     met.rows += listing.rows.len();
     met.diagnostics += listing.diagnostics.len();
     let due = Due {
         sheet,
         links: &links,
-        listing: &listing,
+        limit,
+        listing,
     };
-    let exact = Lengths::of(links.length(), &listing, 0);
+    let exact = Lengths::of(links.length(), listing, 0);
     listed(&tables, exact, &due, met)?;
     listed(&tables.with_large_places(), exact, &due, met)?;
     if let Some(other) = tables.with_other_indices() {
@@ -58,34 +73,39 @@ pub fn compare(sheet: &Sheet, met: &mut Met) -> Result<(), String> {
     }
     listed(&tables, exact.a_little_more(), &due, met)?;
     listed(&tables, exact.far_more(), &due, met)?;
-    too_short(&tables, exact, met)?;
-    too_few_links(&tables, exact, met)
+    too_short(&tables, limit, exact, met)?;
+    too_few_links(&tables, limit, exact, met)
 }
 
 /// Rows or diagnostics one number too short, or both: 11 stands before 12.
-fn too_short(tables: &Tables, exact: Lengths, met: &mut Met) -> Result<(), String> {
+fn too_short(tables: &Tables, limit: u64, exact: Lengths, met: &mut Met) -> Result<(), String> {
     let less = |rows: usize, diagnostics: usize| Lengths {
         rows: exact.rows - rows,
         diagnostics: exact.diagnostics - diagnostics,
         ..exact
     };
     if exact.rows > 0 {
-        refused(tables, less(1, 0), 11, met)?;
-        refused(tables, less(exact.rows, exact.diagnostics), 11, met)?;
+        refused(tables, limit, less(1, 0), 11, met)?;
+        refused(tables, limit, less(exact.rows, exact.diagnostics), 11, met)?;
     }
     if exact.diagnostics > 0 {
-        refused(tables, less(0, 1), 12, met)?;
+        refused(tables, limit, less(0, 1), 12, met)?;
     }
     if exact.rows > 0 && exact.diagnostics > 0 {
-        refused(tables, less(1, 1), 11, met)?;
+        refused(tables, limit, less(1, 1), 11, met)?;
     }
     Ok(())
 }
 
 /// Outputs with too few links are refused 22.
-fn too_few_links(tables: &Tables, enough: Lengths, met: &mut Met) -> Result<(), String> {
+fn too_few_links(
+    tables: &Tables,
+    limit: u64,
+    enough: Lengths,
+    met: &mut Met,
+) -> Result<(), String> {
     let mut all = enough.with_too_few_links().into_iter();
-    all.try_for_each(|lengths| refused(tables, lengths, TOO_FEW_LINKS, met))
+    all.try_for_each(|lengths| refused(tables, limit, lengths, TOO_FEW_LINKS, met))
 }
 
 struct Called {
@@ -95,8 +115,8 @@ struct Called {
     diagnostics: Lent<u32>,
 }
 
-/// A call into outputs of these lengths: what it tells, and the outputs afterwards.
-fn run(tables: &Tables, lengths: Lengths) -> Result<Called, String> {
+/// A call under a limit into outputs of these lengths: what it tells, and the outputs afterwards.
+fn run(tables: &Tables, limit: u64, lengths: Lengths) -> Result<Called, String> {
     let before = tables.clone();
     let mut called = Called {
         told: [u64::MAX; 3],
@@ -106,6 +126,7 @@ fn run(tables: &Tables, lengths: Lengths) -> Result<Called, String> {
     };
     called.told = library::compute_semantic_connections(
         tables,
+        limit,
         called.links.lend(),
         called.rows.lend(),
         called.diagnostics.lend(),
@@ -117,17 +138,33 @@ fn run(tables: &Tables, lengths: Lengths) -> Result<Called, String> {
     }
 }
 
-fn refused(tables: &Tables, lengths: Lengths, number: u64, met: &mut Met) -> Result<(), String> {
+fn refused(
+    tables: &Tables,
+    limit: u64,
+    lengths: Lengths,
+    number: u64,
+    met: &mut Met,
+) -> Result<(), String> {
     met.calls += 1;
     match number {
         11 => met.refused_11 += 1,
         12 => met.refused_12 += 1,
         _ => met.refused_22 += 1,
     }
-    let called = run(tables, lengths)?;
-    if called.told != [number, 0, b'-'.into()] {
+    refuses(tables, limit, lengths, of_a_list(number))
+}
+
+/// The call gives this refusal and leaves zeros.
+pub fn refuses(
+    tables: &Tables,
+    limit: u64,
+    lengths: Lengths,
+    refusal: [u64; 3],
+) -> Result<(), String> {
+    let called = run(tables, limit, lengths)?;
+    if called.told != refusal {
         return Err(format!(
-            "refusal {number} expected, it told {:?}",
+            "refusal {refusal:?} expected, it told {:?}",
             called.told
         ));
     }
@@ -140,12 +177,13 @@ fn refused(tables: &Tables, lengths: Lengths, number: u64, met: &mut Met) -> Res
 struct Due<'a> {
     sheet: &'a Sheet,
     links: &'a LinkTable,
+    limit: u64,
     listing: &'a Listing,
 }
 
 fn listed(tables: &Tables, lengths: Lengths, due: &Due, met: &mut Met) -> Result<(), String> {
     met.calls += 1;
-    let called = run(tables, lengths)?;
+    let called = run(tables, due.limit, lengths)?;
     listed::counts(called.told, due.listing)?;
     due.links.fills(&called.links)?;
     let written = called.rows.used(due.listing.rows.len() * ROW_NUMBERS)?;

@@ -1,17 +1,22 @@
 //! Tables that are not accepted: the checks and every listing give the same refusal, leave zeros in their outputs and their
-//! inputs as they were. So do the listings that are lent too few links: the refusal of these stands behind those of tables.
+//! inputs as they were. So do the listings that are lent too few links: the refusal of these stands behind those of tables. That of a
+//! limit that is too large stands before them.
 
 use oracle::letters::{LETTERS, component, mode, name, row_numbers};
 use oracle::listing::REFUSALS_OF_TABLES;
 use oracle::sheet::{NAME_BYTES, Sheet};
+use oracle::traced::STEPS;
 
-use crate::both;
+use crate::both::{self, Asked};
 use crate::lent::Lent;
 use crate::library::{self, ENTRIES};
+use crate::limits::{self, TOO_LARGE};
 use crate::link_table::LINK_NUMBERS;
+use crate::listed;
 use crate::modes;
 use crate::records;
 use crate::tables::{LOW, MISSING, PRESENT, Tables};
+use crate::traced;
 use crate::{DIAGNOSTIC_NUMBERS, ROW_NUMBERS};
 
 const ROWS: usize = 4096;
@@ -49,16 +54,16 @@ pub fn compare(sheet: &Sheet, seed: usize, met: &mut Met) -> Result<(), String> 
     spoil(&mut broken.letters[rank], width(rank));
     let mut ranks = 0..LETTERS.len();
     if let Some(first) = ranks.find(|&rank| broken.letters[rank].len() % width(rank) != 0) {
-        refused(&broken, [10, 0, LETTERS[first].into()], met)?;
+        refused(&broken, STEPS, [10, 0, LETTERS[first].into()], met)?;
     }
 
     // too many rows; a broken row of an earlier table comes first
     let mut long = tables.clone();
     long.letters[rank].resize((ROWS + 1 + seed % 5) * width(rank), 0);
-    refused(&long, [10, ROWS as u64, LETTERS[rank].into()], met)?;
+    refused(&long, STEPS, [10, ROWS as u64, LETTERS[rank].into()], met)?;
     if rank > 0 {
         long.letters[0].push(0);
-        refused(&long, [10, 0, LETTERS[0].into()], met)?;
+        refused(&long, STEPS, [10, 0, LETTERS[0].into()], met)?;
     }
 
     // a name past the byte table, of no byte, of one more than the longest, or of a byte that no name has
@@ -82,7 +87,7 @@ pub fn compare(sheet: &Sheet, seed: usize, met: &mut Met) -> Result<(), String> 
             }
             _ => named.bytes[numbers[name::OFFSET] as usize] = 0x7F,
         }
-        refused(&named, [10, row as u64, b'N'.into()], met)?;
+        refused(&named, STEPS, [10, row as u64, b'N'.into()], met)?;
     }
     places(sheet, &tables, seed, met)?;
     indices(&tables, seed, met)?;
@@ -103,7 +108,7 @@ fn places(sheet: &Sheet, tables: &Tables, seed: usize, met: &mut Met) -> Result<
     // the root every other time
     let row = [0, seed / 2 % components][seed % 2];
     let missing = spoilt(&[row as u32], MISSING);
-    refused(&missing, [6, row as u64, b'C'.into()], met)?;
+    refused(&missing, STEPS, [6, row as u64, b'C'.into()], met)?;
 
     let families = (0..components as u32).map(|owner| sheet.children(owner));
     let families: Vec<Vec<u32>> = families.filter(|children| children.len() > 1).collect();
@@ -117,9 +122,9 @@ fn places(sheet: &Sheet, tables: &Tables, seed: usize, met: &mut Met) -> Result<
     pair.sort_unstable();
     let place = sheet.components[children[one] as usize][component::PLACE];
     let equal = spoilt(&pair, place.expect("a place"));
-    refused(&equal, [16, pair[1].into(), b'C'.into()], met)?;
+    refused(&equal, STEPS, [16, pair[1].into(), b'C'.into()], met)?;
     let neither = spoilt(&pair, MISSING);
-    refused(&neither, [6, pair[0].into(), b'C'.into()], met)
+    refused(&neither, STEPS, [6, pair[0].into(), b'C'.into()], met)
 }
 
 /// Numbers of an array index that no sheet has: present above 1, whatever the bits are, and bits of a missing index. Also of two
@@ -143,7 +148,7 @@ fn indices(tables: &Tables, seed: usize, met: &mut Met) -> Result<(), String> {
         rows[later][PRESENT..=LOW].copy_from_slice(&wrong[(next + seed) % wrong.len()]);
         rows[row][PRESENT..=LOW].copy_from_slice(numbers);
         met.indices += 1;
-        refused(&spoilt, [6, row as u64, b'C'.into()], met)?;
+        refused(&spoilt, STEPS, [6, row as u64, b'C'.into()], met)?;
     }
     Ok(())
 }
@@ -167,11 +172,11 @@ fn wrong_mode(sheet: &Sheet, tables: &Tables, seed: usize, met: &mut Met) -> Res
     modes[later][column] = MISSING;
     modes[row][column] = [end, end + 1, MISSING - 1, MISSING][seed % 4];
     met.modes += 1;
-    refused(&spoilt, [6, row as u64, b'M'.into()], met)?;
+    refused(&spoilt, STEPS, [6, row as u64, b'M'.into()], met)?;
     spoilt.components()[0][component::PARENT] = 0;
-    refused(&spoilt, [6, row as u64, b'M'.into()], met)?;
+    refused(&spoilt, STEPS, [6, row as u64, b'M'.into()], met)?;
     spoilt.table(b'M').extend(vec![0; 1 + seed % 2]);
-    refused(&spoilt, [10, 0, b'M'.into()], met)
+    refused(&spoilt, STEPS, [10, 0, b'M'.into()], met)
 }
 
 fn spoil(table: &mut Vec<u32>, width: usize) {
@@ -180,12 +185,12 @@ fn spoil(table: &mut Vec<u32>, width: usize) {
     }
 }
 
-/// Holds the checks and every call to a refusal.
-pub fn refused(tables: &Tables, refusal: Refusal, met: &mut Met) -> Result<(), String> {
+/// Holds the checks and every call, those with a limit under this one, to a refusal.
+pub fn refused(tables: &Tables, limit: u64, refusal: Refusal, met: &mut Met) -> Result<(), String> {
     met.tables += 1;
     let place = REFUSALS_OF_TABLES.iter().position(|&own| own == refusal[0]);
     met.refused[place.expect("a refusal of tables")] += 1;
-    met.calls += 5 + 8 * LINKS.len();
+    met.calls += 5 + (8 + limits::CALLS) * LINKS.len();
     let before = tables.clone();
     expect("check_tables", library::check_tables(tables), refusal)?;
 
@@ -195,13 +200,18 @@ pub fn refused(tables: &Tables, refusal: Refusal, met: &mut Met) -> Result<(), S
     out.used(0)?;
 
     for links in LINKS {
-        traced(tables, links, refusal)?;
+        traced::refuses(tables, limit, listed::Lengths::of_conlist(links), refusal)
+            .map_err(|what| format!("traced listing: {what}"))?;
         group(tables, links, refusal)?;
         for entry in ENTRIES {
-            both::refused(tables, entry, both::Lengths::of(links, 64), refusal)
-                .map_err(|what| format!("both listings, {entry:?}: {what}"))?;
+            let asked = Asked { entry, limit };
+            both::refused(tables, asked, both::Lengths::of(links, 64), refusal)
+                .map_err(|what| format!("both listings, {asked:?}: {what}"))?;
         }
-        records::refused(tables, links, refusal)?;
+        records::refused(tables, limit, links, refusal)?;
+    }
+    for (links, too_large) in LINKS.into_iter().zip(TOO_LARGE) {
+        limits::refused(tables, too_large, links, 3)?;
     }
     modes::not_accepted(tables, refusal)?;
     if *tables == before {
@@ -211,31 +221,10 @@ pub fn refused(tables: &Tables, refusal: Refusal, met: &mut Met) -> Result<(), S
     }
 }
 
-fn outputs() -> (Lent<u32>, Lent<u32>) {
-    (
-        Lent::of_length(64 * ROW_NUMBERS),
-        Lent::of_length(64 * DIAGNOSTIC_NUMBERS),
-    )
-}
-
-fn traced(tables: &Tables, links: usize, refusal: Refusal) -> Result<(), String> {
-    let mut links = Lent::of_length(links);
-    let (mut rows, mut diagnostics) = outputs();
-    let told = library::compute_semantic_connections(
-        tables,
-        links.lend(),
-        rows.lend(),
-        diagnostics.lend(),
-    );
-    expect("compute_semantic_connections", told, refusal)?;
-    links.used(0)?;
-    rows.used(0)?;
-    diagnostics.used(0).map(|_| ())
-}
-
 fn group(tables: &Tables, links: usize, refusal: Refusal) -> Result<(), String> {
     let mut links = Lent::of_length(links);
-    let (mut rows, mut diagnostics) = outputs();
+    let mut rows = Lent::of_length(64 * ROW_NUMBERS);
+    let mut diagnostics = Lent::of_length(64 * DIAGNOSTIC_NUMBERS);
     let mut names = Lent::<u8>::of_length(4096);
     let told = library::expand_feature_group_connections(
         tables,

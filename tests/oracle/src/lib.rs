@@ -5,10 +5,15 @@
 //! one instance. The four numbers of a diagnostic and the refusals 11 to 15 are
 //! not in the original; they are added here as document 01 says. Of `modes` and
 //! `mode` the selections are the original's `compute_soms`.
+//!
+//! The original ends a chain after 20 steps. A copy of its tracing without that
+//! limit, `lifted`, can take its place.
 
 pub mod endpoint;
 pub mod group;
 pub mod letters;
+#[rustfmt::skip]
+pub mod lifted;
 pub mod listing;
 pub mod model;
 pub mod modes;
@@ -23,6 +28,7 @@ pub mod visits;
 use listing::Listing;
 use model::Renames;
 use sheet::Sheet;
+use spar_hir_def::instance::SystemInstance;
 
 /// How to run the original.
 #[derive(Clone, Copy, Debug, Default)]
@@ -31,6 +37,8 @@ pub struct Options {
     pub renames: Renames,
     /// No sizes of outputs, so no refusals 11 to 15.
     pub unlimited: bool,
+    /// No limit on the steps of a chain: the copy of the original's tracing.
+    pub lifted: bool,
 }
 
 /// Why there is no text.
@@ -69,11 +77,8 @@ fn text(sheet: &Sheet, options: Options) -> Result<String, u32> {
         Some(refusal) if !options.unlimited => Err(refusal),
         _ => Ok(()),
     };
-    if traced::row_count(sheet) > MOST_ROWS {
-        return Err(11);
-    }
     let mut instance = model::instance(sheet);
-    let traced = traced::run(sheet, &mut instance);
+    let traced = traced_listing(sheet, options, &mut instance)?;
     limited(listing::traced_refusal(&traced))?;
 
     group_listing_ends(sheet, options.renames)?;
@@ -83,6 +88,22 @@ fn text(sheet: &Sheet, options: Options) -> Result<String, u32> {
     let text = listing::text(&traced, &group);
     limited((text.len() > listing::TEXT_BYTES).then_some(15))?;
     Ok(text)
+}
+
+/// The traced listing, or the refusal that is owed where it cannot be waited for.
+fn traced_listing(
+    sheet: &Sheet,
+    options: Options,
+    instance: &mut SystemInstance,
+) -> Result<Listing, u32> {
+    let (steps, run): (u64, fn(&Sheet, &mut SystemInstance) -> Listing) = match options.lifted {
+        true => (traced::NO_LIMIT, traced::run_lifted),
+        false => (traced::STEPS, traced::run),
+    };
+    match traced::row_count(sheet, steps) > MOST_ROWS {
+        true => Err(11),
+        false => Ok(run(sheet, instance)),
+    }
 }
 
 fn group_refusal(group: &Listing) -> Option<u32> {

@@ -1,4 +1,5 @@
-//! `oracle [options] < sheet`: the original's answer for an accepted sheet.
+//! `oracle [options] < sheet`: the original's answer for an accepted sheet, or with
+//! `--lifted` that of a copy in which a chain can have any number of steps.
 
 use std::io::{self, Read, Write};
 use std::process::ExitCode;
@@ -12,11 +13,12 @@ use oracle::{NoAnswer, Options, conlist};
 use oracle::{modes, stream};
 
 const USAGE: &str = "\
-usage: oracle [--exact-renames] [--unlimited] [--visits | --expand | --resolve | --modes | --mode NUMBER] [--stream] < sheet
+usage: oracle [--exact-renames] [--unlimited] [--lifted] [--visits | --expand | --resolve | --modes | --mode NUMBER] [--stream] < sheet
 
 Without an option: what conlist is to print, by the original unchanged.
   --exact-renames  renames as pairs of names, not as the original's text Pkg::Type
   --unlimited      no sizes of outputs, so no refusals 11 to 15
+  --lifted         chains followed to their last step, by a copy of the original's tracing
   --visits         V: X row, side (0 source, 1 destination), visits, features
   --expand         G: X row, side, E row, direction (3 none); then `. ` and the prefix
   --resolve        W: asking package, a space and the letter of the reference, its row,
@@ -89,6 +91,7 @@ fn arguments() -> Option<Arguments> {
         match word.as_str() {
             "--exact-renames" => arguments.options.renames = Renames::Exact,
             "--unlimited" => arguments.options.unlimited = true,
+            "--lifted" => arguments.options.lifted = true,
             "--visits" => arguments.output = Output::Visits,
             "--expand" => arguments.output = Output::Expand,
             "--resolve" => arguments.output = Output::Resolve,

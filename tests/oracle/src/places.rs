@@ -38,7 +38,7 @@ pub fn decide(sheet: &Sheet, renames: Renames) -> bool {
 /// The original's instance behind both listings.
 fn listed(sheet: &Sheet, renames: Renames) -> SystemInstance {
     let mut instance = model::instance(sheet);
-    if traced::row_count(sheet) <= MOST_ROWS {
+    if traced::row_count(sheet, traced::STEPS) <= MOST_ROWS {
         instance.compute_semantic_connections();
     }
     if group_listing_ends(sheet, renames).is_ok() {

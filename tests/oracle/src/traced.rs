@@ -6,14 +6,36 @@ use spar_hir_def::instance::{InstanceDiagnostic, SemanticConnection, SystemInsta
 
 use crate::letters::{Field, Sheet, array_index, component, connection, ends};
 use crate::listing::{Diagnostic, Listing, Row};
-use crate::model;
+use crate::{lifted, model};
+
+/// The most steps of a chain in the original.
+pub const STEPS: u64 = 20;
+
+/// In its place, no limit at all.
+pub const NO_LIMIT: u64 = u64::MAX;
 
 /// Runs the original on the instance. Its rows and diagnostics are the listing.
 pub fn run(sheet: &Sheet, instance: &mut SystemInstance) -> Listing {
-    instance.compute_semantic_connections();
+    run_by(
+        SystemInstance::compute_semantic_connections,
+        sheet,
+        instance,
+    )
+}
+
+/// The same by the copy of the original that has no limit on the steps of a chain.
+pub fn run_lifted(sheet: &Sheet, instance: &mut SystemInstance) -> Listing {
+    run_by(lifted::compute_semantic_connections, sheet, instance)
+}
+
+/// The original's method, or the copy of it.
+type Compute = fn(&mut SystemInstance);
+
+fn run_by(compute: Compute, sheet: &Sheet, instance: &mut SystemInstance) -> Listing {
+    compute(instance);
     Listing {
         rows: instance.semantic_connections.iter().map(row).collect(),
-        diagnostics: diagnostics(sheet, &instance.diagnostics),
+        diagnostics: diagnostics(compute, sheet, &instance.diagnostics),
     }
 }
 
@@ -46,11 +68,11 @@ pub fn diagnostic(numbers: [u32; 4], given: &InstanceDiagnostic) -> Diagnostic {
 
 /// The original does not number its diagnostics. Those of an X row depend on no
 /// other X row, so a run with that row alone tells which ones are its own.
-fn diagnostics(sheet: &Sheet, given: &[InstanceDiagnostic]) -> Vec<Diagnostic> {
+fn diagnostics(compute: Compute, sheet: &Sheet, given: &[InstanceDiagnostic]) -> Vec<Diagnostic> {
     let mut numbered = Vec::new();
     for connection in 0..sheet.connections.len() {
         let mut alone = model::instance_with_connection(sheet, connection);
-        alone.compute_semantic_connections();
+        compute(&mut alone);
         for own in &alone.diagnostics {
             numbered.push(diagnostic(numbers(sheet, connection, &own.message), own));
         }
@@ -89,14 +111,30 @@ fn numbers(sheet: &Sheet, connection: usize, message: &str) -> [u32; 4] {
     [4, row, count(source), count(destination)]
 }
 
-/// How many rows the original would give, or `u64::MAX` for more than that.
+/// The steps of the longest chain that a row follows. Of the connections behind
+/// the first of its path, those with a source subcomponent are steps towards
+/// the source, and those with a destination subcomponent the others.
+pub fn longest_chain(sheet: &Sheet, rows: &[Row]) -> u64 {
+    let steps = |row: &Row, end: usize| {
+        let steps = row.path[1..].iter();
+        let ends = steps.map(|&step| sheet.connections[step as usize][end]);
+        ends.flatten().count() as u64
+    };
+    let ends = [connection::SOURCE, connection::DESTINATION];
+    let chains = rows.iter().flat_map(|row| ends.map(|end| steps(row, end)));
+    chains.max().unwrap_or(0)
+}
+
+/// How many rows the original would give under a limit of so many steps, which
+/// is its own, `STEPS`, or `NO_LIMIT` for the copy; `u64::MAX` for more than that.
 ///
 /// The original collects all rows before it ends, and an accepted model can
 /// have 4 to the 20th of them, so it is not started without this count. The
 /// rules are restated here for nothing but the count.
-pub fn row_count(sheet: &Sheet) -> u64 {
+pub fn row_count(sheet: &Sheet, limit: u64) -> u64 {
     let mut chains = Chains {
         sheet,
+        limit,
         known: HashMap::new(),
     };
     let connections = sheet.connections.iter();
@@ -111,7 +149,8 @@ fn rows_of_connection(chains: &mut Chains, row: &[Field]) -> u64 {
     let owner = row[connection::OWNER].expect("an owner");
     let component = &chains.sheet.components[owner as usize];
     let (parent, pattern) = (component[component::PARENT], component[component::PATTERN]);
-    let mut of = |side, child, feature| chains.of_children(side, owner, child, feature, 20);
+    let limit = chains.limit;
+    let mut of = |side, child, feature| chains.of_children(side, owner, child, feature, limit);
     match (src, dst) {
         (Some(_), Some(_)) => {
             let sources = of(Side::Source, src, src_feature);
@@ -152,7 +191,8 @@ enum Side {
 /// name, steps left.
 struct Chains<'a> {
     sheet: &'a Sheet,
-    known: HashMap<(Side, u32, &'a str, u32), u64>,
+    limit: u64,
+    known: HashMap<(Side, u32, &'a str, u64), u64>,
 }
 
 impl Chains<'_> {
@@ -163,7 +203,7 @@ impl Chains<'_> {
         owner: u32,
         child: Field,
         feature: Field,
-        steps: u32,
+        steps: u64,
     ) -> Vec<u64> {
         let children = children_by_name(self.sheet, owner, self.sheet.name(child)).into_iter();
         children
@@ -171,7 +211,7 @@ impl Chains<'_> {
             .collect()
     }
 
-    fn of(&mut self, side: Side, component: u32, feature: Field, steps: u32) -> u64 {
+    fn of(&mut self, side: Side, component: u32, feature: Field, steps: u64) -> u64 {
         if steps == 0 {
             return 1;
         }

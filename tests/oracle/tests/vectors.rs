@@ -11,6 +11,7 @@ use oracle::{NoAnswer, Options, conlist};
 const EXACT: Options = Options {
     renames: Renames::Exact,
     unlimited: false,
+    lifted: false,
 };
 
 fn cases(name: &str) -> Vec<Case> {

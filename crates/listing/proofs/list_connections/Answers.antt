@@ -12,5 +12,5 @@ lent s = outputs s.args.links.now s.args.rows.now s.args.diagnostics.now s.args.
 pub returns-else-is_err : goal.returns-else-is_err
 returns-else-is_err c =
     let z = c.clear.ensures in
-    given-call _ _ (lent (goal.at.returns-else-is_err c).Start) _ _ _ _ _ z.rows_after z.diagnostics_after z.group_rows_after z.names_after z.group_diagnostics_after _ _
+    given-call _ _ _ (lent (goal.at.returns-else-is_err c).Start) _ _ _ _ _ z.rows_after z.diagnostics_after z.group_rows_after z.names_after z.group_diagnostics_after _ _
     c.list-answer.ensures c.list-answer.auto.links (sym c.is_err.ensures.value ∙ c.if-is_err.false)

@@ -17,12 +17,12 @@ lent s = outputs s.args.links.now s.args.rows.now s.args.diagnostics.now s.args.
 
 pub returns-in_err-traced : goal.returns-in_err-traced
 returns-in_err-traced c =
-    traced-refuses _ _ (lent (goal.at.returns-in_err-traced c).Start) _ _ _ c.list_accepted.ensures _ c.in_err-traced.was _ c.from_residual.ensures.1 _
+    traced-refuses _ _ _ (lent (goal.at.returns-in_err-traced c).Start) _ _ _ c.list_accepted.ensures _ c.in_err-traced.was _ c.from_residual.ensures.1 _
 
 pub returns-in_err-group : goal.returns-in_err-group
 returns-in_err-group c =
-    group-refuses _ _ (lent (goal.at.returns-in_err-group c).Start) _ _ _ c.list_accepted.ensures _ c.in_ok-traced.was _ _ _ _ c.list_accepted-2.ensures _ c.in_err-group.was _ c.from_residual-in_err-group.ensures.1 _
+    group-refuses _ _ _ (lent (goal.at.returns-in_err-group c).Start) _ _ _ c.list_accepted.ensures _ c.in_ok-traced.was _ _ _ _ c.list_accepted-2.ensures _ c.in_err-group.was _ c.from_residual-in_err-group.ensures.1 _
 
 pub returns : goal.returns
 returns c =
-    both-give _ _ (lent (goal.at.returns c).Start) _ _ _ c.list_accepted.ensures _ c.in_ok-traced.was _ _ _ _ c.list_accepted-2.ensures _ c.in_ok-group.was _
+    both-give _ _ _ (lent (goal.at.returns c).Start) _ _ _ c.list_accepted.ensures _ c.in_ok-traced.was _ _ _ _ c.list_accepted-2.ensures _ c.in_ok-group.was _

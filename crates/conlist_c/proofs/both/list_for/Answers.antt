@@ -5,6 +5,6 @@ use Rattle.conlist_c.proofs.both.list_for.Goals as goal
 
 pub returns : goal.returns
 returns c =
-    both-laid _ _ _ _ _ _ _ _ _ _ _ _ _ _ _ _ _ _ _ _ _ _ _
+    both-laid _ _ _ _ _ _ _ _ _ _ _ _ _ _ _ _ _ _ _ _ _ _ _ _
     (front _ _ _ _ _ c.numbers_for-end.ensures (c.fill.ensures.after (search rules)) c.list.auto.diagnostics)
     (front _ _ _ _ _ c.numbers_for-group_end.ensures (c.fill-2.ensures.after (search rules)) c.list.auto.group_diagnostics) c.list.ensures

@@ -6,4 +6,4 @@ use Rattle.conlist_c.proofs.ignoring_case.conlist_list_connections_ignoring_case
 
 pub returns : goal.returns
 unfolding comparison
-returns c = both-records _ _ _ _ _ _ _ _ _ c.list_for.ensures c.fill_records.ensures c.fill_records-2.ensures
+returns c = both-records _ _ _ _ _ _ _ _ _ _ c.list_for.ensures c.fill_records.ensures c.fill_records-2.ensures

@@ -5,4 +5,4 @@ use Rattle.conlist_c.proofs.traced.trace_for.Goals as goal
 
 pub returns : goal.returns
 returns c =
-    traced-laid _ _ _ _ _ _ _ _ _ _ _ _ (front _ _ _ _ _ c.numbers_for-end.ensures (c.fill.ensures.after (search rules)) c.trace.auto.diagnostics) c.trace.ensures
+    traced-laid _ _ _ _ _ _ _ _ _ _ _ _ _ (front _ _ _ _ _ c.numbers_for-end.ensures (c.fill.ensures.after (search rules)) c.trace.auto.diagnostics) c.trace.ensures

@@ -6,7 +6,7 @@ use Rattle.semantic.proofs.PairLaws.{all_barren}
 use Rattle.semantic.proofs.Connection.trace_all_to_all.Goals as goal
 
 pub returns-then-is_none : goal.returns-then-is_none
-returns-then-is_none c = wrote_none _ (all_barren _ _ _ (children_left c.args.sources) (children_left c.args.destinations) c.first.ensures c.if-is_none.ensures)
+returns-then-is_none c = wrote_none _ (all_barren _ _ _ _ (children_left c.args.sources) (children_left c.args.destinations) c.first.ensures c.if-is_none.ensures)
 
 pub returns-in_err-trace_beside : goal.returns-in_err-trace_beside
 returns-in_err-trace_beside c = each_full _ c.loop-i.invariant.rows c.in-Some.ensures.steps.0 c.trace_beside.ensures c.in_err-trace_beside.was c.from_residual.ensures

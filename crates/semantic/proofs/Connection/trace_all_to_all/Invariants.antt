@@ -13,6 +13,6 @@ invariant-loop-i l =
     let same = same_in l.self.tree.now in
     record {
       tables : tables_of l.i-iterator ≡ m;
-      rows : Writing (traced_block m) (rows_all same m l.self.row (children_left l.fn.sources) (children_left l.fn.destinations)) l.initial.out l.out
-          (rows_all same m l.self.row (children_left l.i-iterator) (children_left l.fn.destinations));
+      rows : Writing (traced_block m) (rows_all same l.self.limit.steps m l.self.row (children_left l.fn.sources) (children_left l.fn.destinations)) l.initial.out l.out
+          (rows_all same l.self.limit.steps m l.self.row (children_left l.i-iterator) (children_left l.fn.destinations));
     }

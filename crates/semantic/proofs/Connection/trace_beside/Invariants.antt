@@ -14,6 +14,6 @@ invariant-loop-i l =
     let same = same_in l.self.tree.now in
     record {
       tables : tables_of l.i-iterator ≡ m;
-      rows : Writing (traced_block m) (rows_beside same m l.self.row (side_of l.side) l.far (children_left l.initial.children)) l.initial.out l.out
-          (rows_beside same m l.self.row (side_of l.side) l.far (children_left l.i-iterator));
+      rows : Writing (traced_block m) (rows_beside same l.self.limit.steps m l.self.row (side_of l.side) l.far (children_left l.initial.children)) l.initial.out l.out
+          (rows_beside same l.self.limit.steps m l.self.row (side_of l.side) l.far (children_left l.i-iterator));
     }

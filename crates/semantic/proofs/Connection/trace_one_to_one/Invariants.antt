@@ -15,6 +15,6 @@ invariant-loop-a l =
     record {
       sources : tables_of (zip_first l.a-iterator) ≡ m;
       destinations : tables_of (zip_second l.a-iterator) ≡ m;
-      rows : Writing (traced_block m) (rows_zip same m l.self.row (children_left l.initial.sources) (children_left l.initial.destinations)) l.initial.out l.out
-          (rows_zip same m l.self.row (children_left (zip_first l.a-iterator)) (children_left (zip_second l.a-iterator)));
+      rows : Writing (traced_block m) (rows_zip same l.self.limit.steps m l.self.row (children_left l.initial.sources) (children_left l.initial.destinations)) l.initial.out l.out
+          (rows_zip same l.self.limit.steps m l.self.row (children_left (zip_first l.a-iterator)) (children_left (zip_second l.a-iterator)));
     }
