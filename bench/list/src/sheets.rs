@@ -269,8 +269,8 @@ pub fn two_arrays(falling: bool) -> Vec<u8> {
     draft.sheet.bytes()
 }
 
-/// A name of the longest that there are, all of which are alike but for what stands before the last byte: two are compared by their last bytes, and then
-/// from their fronts, so almost to their ends.
+/// A name of the longest that there are, all of which are alike but for what stands before the last byte, so that neither their first bytes nor their last
+/// tell them apart.
 fn alike(own: &str) -> String {
     let rest = NAME_BYTES - 1 - own.len();
     format!("{}{own}x", "x".repeat(rest))

@@ -1,12 +1,12 @@
 -- The children of a component, in the order of the drawing. Assumes nothing.
 use mathlib.Core.Bool.{Bool, true, false, ◌&&◌}
 use mathlib.Core.Logic.{inl, inr}
-use mathlib.Core.Path.{◌≡◌, sym, ◌∙◌}
+use mathlib.Core.Path.{◌≡◌, sym, ap, ◌∙◌}
 use mathlib.Core.List.{List, [], ◌∷◌}
 use Prim.Native.Nat.{ℕ, ◌<◌}
 use native.Mathlib.Omega.{arith}
 use lib.Dec.{T, eqb, eqb→eq, eqb_refl}
-use Rattle.as5506.specs.Lists.{up_to, keep, has}
+use Rattle.as5506.specs.Lists.{up_to, keep, sort_by, has}
 use Rattle.as5506.specs.Tables.{Tables, letter_c, rows_naming, c_count, c_parent, c_place, children_of}
 use Rattle.as5506.specs.Names.{Comparison, bracket}
 use Rattle.as5506.specs.Tracing.{is_named, is_element, or_elements, found_children}
@@ -14,9 +14,10 @@ use Rattle.as5506.specs.Followed.{In}
 use Rattle.as5506.specs.Drawing.{PlacesRise, InDrawingOrder}
 use Rattle.as5506.specs.Refusals.{place_key, faults16, accepted}
 use Rattle.as5506.proofs.Laws.{all_in, in_all}
+use Rattle.as5506.proofs.Scans.{keep-both}
 use Rattle.as5506.proofs.Accepted.{no-16}
 use Rattle.as5506.proofs.Keys.{keys-unique}
-use Rattle.as5506.proofs.Sorted.{kept_in, in_kept, up_to-in, in-up_to, Ordered, ordered-with, ordered-keep, ordered_same, up_to-ordered, sorted-in, in-sorted, Before, sorted-ordered, sorted-same}
+use Rattle.as5506.proofs.Sorted.{kept_in, in_kept, up_to-in, in-up_to, Ordered, ordered-with, ordered-keep, ordered_same, up_to-ordered, sorted-in, in-sorted, Before, sorted-ordered, sorted-keep, sorted-same}
 
 -- ---- THE SAME CHILDREN as the rows that name the parent, whatever the tables
 
@@ -38,6 +39,12 @@ rows-ordered m c = ordered-keep ◌<◌ (λ i. eqb (c_parent m i) c) (up_to (c_c
 -- in the order of their places, of equal places by row, whatever the tables
 pub children-ordered : (m : Tables) (c : ℕ) → Ordered (Before (c_place m)) (children_of m c)
 children-ordered m c = sorted-ordered (c_place m) (rows_naming m letter_c (c_parent m) c) (rows-ordered m c)
+
+-- those that pass a test, as a scan of all rows finds them
+pub children-kept : (m : Tables) (c : ℕ) (p : ℕ → Bool) → keep p (children_of m c) ≡ sort_by (c_place m) (keep (λ i. eqb (c_parent m i) c && p i) (up_to (c_count m)))
+unfolding rows_naming
+children-kept m c p =
+    sorted-keep (c_place m) p (rows_naming m letter_c (c_parent m) c) (rows-ordered m c) ∙ ap (sort_by (c_place m)) (keep-both p (λ i. eqb (c_parent m i) c) (up_to (c_count m)))
 
 -- WHAT A NAME FINDS are those of the children that pass a test, whatever the tables
 pub found-kept : (same : Comparison) (m : Tables) (c : ℕ) (w : List ℕ) (P : List ℕ → Type 0) → ((p : ℕ → Bool) → P (keep p (children_of m c))) → P (found_children same m c w)

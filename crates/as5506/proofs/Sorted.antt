@@ -217,6 +217,14 @@ module _ (key : ℕ → ℕ) where
   sorted-ordered [] o = tt
   sorted-ordered (i ∷ is) o = insert-ordered i (sort_by key is) (all-sorted (λ j. i < j) is o.0) (sorted-ordered is o.1)
 
+  -- a test may come before or after
+  pub sorted-keep : (p : ℕ → Bool) (l : List ℕ) → Ordered ◌<◌ l → keep p (sort_by key l) ≡ sort_by key (keep p l)
+  sorted-keep p l o =
+      ordered_same Before before-once (keep p (sort_by key l)) (sort_by key (keep p l)) (ordered-keep Before p (sort_by key l) (sorted-ordered l o))
+      (sorted-ordered (keep p l) (ordered-keep ◌<◌ p l o))
+      (λ a h. let k = kept_in p (sort_by key l) a h in in-sorted (keep p l) a (in_kept p l a (sorted-in l a k.0) k.1))
+      (λ a h. let k = kept_in p l a (sorted-in (keep p l) a h) in in_kept p (sort_by key l) a (in-sorted l a k.0) k.1)
+
   -- what is in order stays as it is
   pub sorted-same : (l : List ℕ) → Ordered ◌<◌ l → Ordered (λ i j. key i < key j) l → sort_by key l ≡ l
   sorted-same l o r =

@@ -30,12 +30,12 @@ pub fn begins<R: Read>(input: &mut R) -> bool
     byte(input) == b'V'
 }
 
-// Hands the reader to `replay` behind the `V` of each case, until none begins. Where none begins at entry, it takes a byte at most.
-pub fn replay_all<R: Read, F: Fn(&mut R)>(input: &mut R, replay: F)
+// Hands the reader to `replay` behind the `V` of each case, until none begins, or so many were replayed. Where none begins at entry, it takes a byte at most.
+pub fn replay_all<R: Read, F: Fn(&mut R)>(input: &mut R, most: usize, replay: F)
     requires { F.IsAlwaysCallable replay }
     ensures { Begins (R.remaining input.old) ⊎ Lost (R.remaining input.old) (R.remaining input.new) 1 }
 {
-    for _ in 0..u64::MAX {
+    for _ in 0..most {
         if !begins(input) {
             return;
         }

@@ -16,12 +16,12 @@ use Rattle.conlist_c.specs.Records.{record_at, records_from, record_of, blank}
 
 -- ---- as many as are asked for, each in its place
 
-records-length : (ns : List ℕ) (i n : ℕ) → length (records_from ns i n) ≡ n
+pub records-length : (ns : List ℕ) (i n : ℕ) → length (records_from ns i n) ≡ n
 unfolding records_from
 records-length ns i zero = refl
 records-length ns i (suc n) = ap suc (records-length ns (suc i) n)
 
-records-at : (ns : List ℕ) (i n k : ℕ) (d : Diagnostic) → k < n → get_or (records_from ns i n) k d ≡ record_at ns (i + k)
+pub records-at : (ns : List ℕ) (i n k : ℕ) (d : Diagnostic) → k < n → get_or (records_from ns i n) k d ≡ record_at ns (i + k)
 unfolding records_from
 records-at ns i zero k d h = absurd (omega arith)
 records-at ns i (suc n) zero d h = ap (record_at ns) (omega arith)
@@ -35,7 +35,7 @@ records_are ns ys n i e past h =
 -- ---- one record
 
 -- a record whose four numbers stand in its places
-record_is : (ns : List ℕ) (i a b c d : ℕ) → a ≡ get_or ns (i * 4) 0 → b ≡ get_or ns (i * 4 + 1) 0 → c ≡ get_or ns (i * 4 + 2) 0 → d ≡ get_or ns (i * 4 + 3) 0
+pub record_is : (ns : List ℕ) (i a b c d : ℕ) → a ≡ get_or ns (i * 4) 0 → b ≡ get_or ns (i * 4 + 1) 0 → c ≡ get_or ns (i * 4 + 2) 0 → d ≡ get_or ns (i * 4 + 3) 0
     → record { code = a; connection = b; first = c; second = d } ≡ record_at ns i
 unfolding record_at
 record_is ns i a b c d p q r s = λ j. record { code = p j; connection = q j; first = r j; second = s j }

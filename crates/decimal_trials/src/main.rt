@@ -6,6 +6,9 @@
 use output::Output;
 use std::io::Read;
 
+// The most cases of a file.
+const CASES: usize = 1000000;
+
 // The number of these parts.
 fn number_of(parts: [u32; 4]) -> usize {
     let [a, b, c, d] = parts.map(|part| part as usize);
@@ -38,5 +41,5 @@ fn replay_case(rt: &impl Print, input: &mut impl Read) {
 }
 
 fn main(rt: HostRuntime) {
-    cases::replay_all(&mut rt.stdin(), |input| replay_case(&rt, input));
+    cases::replay_all(&mut rt.stdin(), CASES, |input| replay_case(&rt, input));
 }

@@ -3,10 +3,10 @@
 #![tactic(auto)]
 
 ghost use Rattle.std.specs.Prelude.{◌≡◌, ◌<◌, Some, option_map};
-ghost use Rattle.as5506.specs.Tables.{x_count};
+ghost use Rattle.as5506.specs.Tables.{Tables as TheTables, x_count};
 ghost use Rattle.as5506.specs.Names.{key};
 ghost use Rattle.as5506.specs.GroupList.{is_group_connection, is_group_feature, declared_group, declared_by, end_component, endpoint as the_endpoint};
-ghost use Rattle.lent.specs.Model.{model};
+ghost use Rattle.lent.specs.Model.{model, with_components};
 ghost use Rattle.child_links.specs.Trees.{of_tree, same_in};
 ghost use Rattle.columns.specs.Side.{side_of};
 ghost use Rattle.endpoint.specs.Ends.{expanded, is_group, is_declared};
@@ -119,10 +119,13 @@ fn classifier(m: &Tables, i: usize, component: u32) -> Option<Group>
 }
 
 // The group that a feature of a component stands for. The component must have a group of that name, and its type must declare one: the classifier there
-// names the group type.
+// names the group type. The same of every model that has these components, packages and E rows, whatever its other tables hold.
 #[tactic(auto, using(crate::proofs::Steps::endpoint_steps))]
 pub fn endpoint(m: &Tables, component: u32, feature: u32) -> Option<Group>
-    ensures { option_map (expanded (model m.now)) result ≡ the_endpoint (model m.now) component feature }
+    ensures value { option_map (expanded (model m.now)) result ≡ the_endpoint (model m.now) component feature }
+    ensures others { (o : TheTables) →
+        let w : TheTables = with_components (model m.now) o in
+        option_map (expanded w) result ≡ the_endpoint w component feature }
 {
     if !has_group_feature(m, component, feature) {
         return None;

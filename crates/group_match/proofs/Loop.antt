@@ -40,7 +40,7 @@ module _ (m : Tables) where
 
 module _ (same : Comparison) (m : Tables) where
   -- those of the X rows from row i on
-  abbrev connections_from : ℕ → List GroupConnection
+  abbrev pub connections_from : ℕ → List GroupConnection
   connections_from i = each (connection_at same m) (keep (is_group_connection m) (span i (x_count m - i)))
 
   put_first : (b : Bool) (x : ℕ) (xs : List ℕ) → each (connection_at same m) (put_if b x xs) ≡ each (connection_at same m) (when b x) ++ each (connection_at same m) xs

@@ -1,11 +1,11 @@
 -- Matches as they lie in the output of rows before their names are composed, read back from there, and the numbers of their rows. Assumes nothing.
 use mathlib.Core.Path.{◌≡◌, refl, sym, ap, ap₂, ◌∙◌}
 use mathlib.Core.List.{List, [], ◌∷◌, ◌++◌, append_assoc}
-use Prim.Native.Nat.{ℕ, ◌+◌, ◌-◌, ◌≤◌, min}
-use native.Mathlib.Nat.{min-eq_right}
+use Prim.Native.Nat.{ℕ, ◌+◌, ◌-◌, ◌≤◌, ◌<◌, min}
+use native.Mathlib.Nat.{add-zero, min-le_left, min-eq_left, min-eq_right}
 use native.Mathlib.Omega.{arith}
-use lib.ListN.{length, take, drop, get_or, length-append, length-replicate}
-use lib.Seq.{sets, take-append_seam, take_at, drop_at, get_or-drop}
+use lib.ListN.{length, take, drop, get_or, length-append, length-replicate, length-take, length-drop}
+use lib.Seq.{sets, take-append_seam, take_at, drop_at, length-take-le, get_or-take, get_or-drop}
 use Rattle.as5506.specs.Lists.{each, zeros, padded}
 use Rattle.as5506.specs.Groups.{Feature, depth_limit}
 use Rattle.as5506.specs.GroupList.{connection_kind}
@@ -14,7 +14,7 @@ use Rattle.as5506.proofs.Laws.{All}
 use Rattle.sink.specs.Take.{spare_numbers, match_block}
 use Rattle.sink.proofs.Blocks.{block-length}
 use Rattle.group_names.specs.Pairs.{Pair}
-use Rattle.group_names.specs.Pieces.{feature_back, pair_back, pairs_back, block_with}
+use Rattle.group_names.specs.Pieces.{prefix_length, feature_back, pair_back, pairs_back, block_with}
 
 unfoldable pub pair_block : Pair → List ℕ
 pair_block p = match_block p.conn p.src p.dst (feature_block p.feature) (feature_block p.partner)
@@ -65,6 +65,41 @@ pairs-back (p ∷ ps) h rest =
     ap (λ (l : List ℕ). pair_back (take row_numbers l) ∷ pairs_back (length ps) (drop row_numbers l)) (append_assoc (pair_block p) (each pair_block ps) rest)
     ∙ ap₂ (λ (l r : List ℕ). pair_back l ∷ pairs_back (length ps) r) (take_at (pair_block p) behind row_numbers (pair-length p h.0)) (drop_at (pair_block p) behind row_numbers (pair-length p h.0))
     ∙ ap₂ ◌∷◌ (pair-back p h.0) (pairs-back ps h.1 rest)
+
+-- ---- a feature's names in the rows
+
+module _ (rows : List ℕ) (place : ℕ) where
+  pub prefix-short : length (feature_back (drop place rows)).prefix ≤ 10
+  unfolding feature_back
+  prefix-short =
+      let b : List ℕ = drop place rows in
+      omega (arith, length-take (min 10 (get_or b 3 0)) (drop 4 b), min-le_left (min 10 (get_or b 3 0)) (length (drop 4 b)), min-le_left 10 (get_or b 3 0))
+
+  pub prefix-length : place + feature_numbers ≤ length rows → length (feature_back (drop place rows)).prefix ≡ prefix_length (drop place rows)
+  unfolding feature_back
+  prefix-length h =
+      let b : List ℕ = drop place rows in
+      length-take-le (min 10 (get_or b 3 0)) (drop 4 b) (omega (arith, h, length-drop 4 b, length-drop place rows, min-le_left 10 (get_or b 3 0)))
+
+  pub prefix-at : (k : ℕ) → k < prefix_length (drop place rows) → get_or (feature_back (drop place rows)).prefix k 0 ≡ get_or rows (place + 4 + k) 0
+  unfolding feature_back
+  prefix-at k h =
+      let e : place + (4 + k) ≡ place + 4 + k = omega arith in
+      get_or-take (prefix_length (drop place rows)) (drop 4 (drop place rows)) k 0 h
+      ∙ get_or-drop 4 (drop place rows) k 0
+      ∙ get_or-drop place rows (4 + k) 0
+      ∙ ap (λ (j : ℕ). get_or rows j 0) e
+
+  pub name-at : get_or rows place 0 ≡ (feature_back (drop place rows)).name
+  unfolding feature_back
+  name-at = ap (λ (j : ℕ). get_or rows j 0) (sym (add-zero place)) ∙ sym (get_or-drop place rows 0 0)
+
+  -- how many names it has, by its number
+  pub prefix-few : (v : ℕ) → v ≡ get_or rows (place + 3) 0 → v < 10 → v ≡ prefix_length (drop place rows)
+  prefix-few v e h = sym (ap (min 10) (get_or-drop place rows 3 0 ∙ sym e) ∙ min-eq_right (omega (arith, h)))
+
+  pub prefix-many : (v : ℕ) → v ≡ get_or rows (place + 3) 0 → 10 ≤ v → 10 ≡ prefix_length (drop place rows)
+  prefix-many v e h = sym (ap (min 10) (get_or-drop place rows 3 0 ∙ sym e) ∙ min-eq_left h)
 
 -- ---- the row in place of the match
 

@@ -5,12 +5,12 @@ use mathlib.Core.List.{List, [], ◌∷◌, ◌++◌, map, append-nil}
 use Prim.Native.Nat.{ℕ, zero, suc, ◌+◌, ◌-◌, ◌/◌, ◌≤◌, ◌<◌}
 use native.Mathlib.Nat.{add-zero, add_assoc, sub-zero}
 use native.Mathlib.Omega.{arith}
-use borrow.Author.Tests.{le-leb, lt-leb, leb-true, leb-false, lt-ltb, le-ltb}
+use borrow.Author.Tests.{le-leb, lt-leb, leb-true, leb-false, lt-ltb, le-ltb, not-true, not-false}
 use lib.Dec.{eqb, leb, ltb}
 use lib.ListN.{length, get_or}
 use Rattle.as5506.specs.Lists.{span, keep}
 use Rattle.as5506.specs.Tables.{missing, present, width, letter_e, e_holder, e_holder_kind, e_name, rows_naming}
-use Rattle.as5506.specs.Groups.{Feature, Expansion, joined, one_visit, one_feature}
+use Rattle.as5506.specs.Groups.{Feature, Expansion, joined, one_visit, one_feature, turned}
 use Rattle.as5506.proofs.Laws.{missing-is, present-is}
 use Rattle.as5506.proofs.Scans.{keep-hit, keep-miss, keep-done, keep-both}
 use Rattle.lent.proofs.Pieces.{stays_then}
@@ -20,6 +20,31 @@ use Rattle.sink.specs.Take.{Held}
 use Rattle.sink.proofs.Dull.{Grown, grown-nothing, grown-then}
 use Rattle.std.specs.Prelude.{Option, Some, None}
 use Rattle.group_walk.specs.Run.{Take, take_all, visit_limit, State, over, going, going_by, run, state_of, Behind}
+
+-- ---- a direction
+
+turned-other : (d : ℕ) → (d ≡ 0 → ⊥) → (d ≡ 1 → ⊥) → d ≡ turned true d
+unfolding turned
+turned-other zero p q = absurd (p refl)
+turned-other (suc zero) p q = absurd (q refl)
+turned-other (suc (suc d)) p q = refl
+
+module _ (inverse : Bool) (d : ℕ) where
+  pub turn-none : not inverse ≡ true → d ≡ turned inverse d
+  unfolding turned
+  turn-none e = rw (not-true inverse e)
+
+  module _ (e : not inverse ≡ false) where
+    pub turn_in : d ≡ 0 → 1 ≡ turned inverse d
+    unfolding turned
+    turn_in p = rw (not-false inverse e, p)
+
+    pub turn-out : d ≡ 1 → 0 ≡ turned inverse d
+    unfolding turned
+    turn-out p = rw (not-false inverse e, p)
+
+    pub turn-other : (d ≡ 0 → ⊥) → (d ≡ 1 → ⊥) → d ≡ turned inverse d
+    turn-other p q = rw (not-false inverse e) (turned-other d p q)
 
 -- ---- what a state tells
 
@@ -150,6 +175,10 @@ module _ (does : Take) where
     done-then v q y = rw (← e, q)
 
 -- ---- what stood in the outputs
+
+pub behind-nothing : (h : Held) → Behind h h
+behind-nothing h =
+    record { in-out = refl; in-notes = refl; within-out = λ w. w; within-notes = λ w. w; length-memo = refl; length-out = refl; length-notes = refl }
 
 -- what is written behind what was added is behind what stood there
 pub behind-then : (h t u : Held) → Grown h t → Behind t u → Behind h u

@@ -161,6 +161,21 @@ module _ {A : Type 0} where
       full-behind (no f) behind =
           ap (λ (o : Filled A). (append_all ps o).used) (append_full p l k (omega (arith, f))) ∙ ap (λ (o : Filled A). o.used) (all_past ps l)
 
+  -- which of both it was, by what is told of the use behind them
+  pub all-kept : (ps : List (List A)) (l : List A) (k : ℕ) → k ≤ length l → (n : ℕ) → (append_all ps (filled l (Some k))).used ≡ Some n → k + length (together ps) ≤ length l
+  all-kept ps l k b n e = go (dec_le (k + length (together ps)) (length l))
+    where
+      go : Dec (k + length (together ps) ≤ length l) → k + length (together ps) ≤ length l
+      go (yes h) = h
+      go (no h) = absurd (none-some n (sym (all-full ps l k b (omega (arith, h))) ∙ e))
+
+  pub all-spilt : (ps : List (List A)) (l : List A) (k : ℕ) → (append_all ps (filled l (Some k))).used ≡ None → length l < k + length (together ps)
+  all-spilt ps l k e = go (dec_le (k + length (together ps)) (length l))
+    where
+      go : Dec (k + length (together ps) ≤ length l) → length l < k + length (together ps)
+      go (yes h) = absurd (none-some (k + length (together ps)) (sym e ∙ ap (λ (o : Filled A). o.used) (all_fit ps l k h)))
+      go (no h) = omega (arith, h)
+
 -- pieces from the front of an output are printed as one
 pub printed-by : (ps : List (List ℕ)) (l l₁ : List ℕ) (z : Option ℕ) (t : List ℕ) → together ps ≡ t → filled l₁ z ≡ append_all ps (filled l (Some 0)) → Printed t l z l₁
 printed-by ps l l₁ z t one e =

@@ -4,13 +4,14 @@ use mathlib.Core.Path.{◌≡◌, refl, sym, ap, ◌∙◌}
 use mathlib.Core.List.{List, [], ◌∷◌, ◌++◌, append-nil, append_assoc}
 use Prim.Native.Nat.{min, ℕ, zero, suc, ◌+◌, ◌-◌, ◌≤◌, ◌<◌}
 use native.Mathlib.Nat.{add-zero, add-suc, suc-add, sub-zero, zero-sub, suc-sub-suc}
+use native.Mathlib.Numerals.{add-one}
 use native.Mathlib.Omega.{arith}
 use lib.ListN.{length, take, drop, get_or, set, length-set, drop_of_length-le}
 use borrow.Rule.Slice.PartMut.{put_mid}
 use native.Mathlib.Decide.{dec_le}
 use Rattle.std.proofs.Math.Nat.{min-le_left, min-le_right, min-eq_left, min-eq_right}
 use Rattle.std.proofs.lemmas.List.{length-take-le}
-use lib.Seq.{drop-drop, take-length}
+use lib.Seq.{drop-cons, drop-drop, length-sets, take-length}
 use lib.Seq.{sets, sets-eq, set_out, get_or-set_other, take-set-le, drop-set-lt, take-nil}
 use Rattle.as5506.specs.Lists.{zeros}
 
@@ -22,10 +23,44 @@ sets-append [] ws l i = ap (λ (k : ℕ). sets l k ws) (sym (add-zero i))
 sets-append (v ∷ vs) ws l i =
     sets-append vs ws (set l i v) (suc i) ∙ ap (λ (k : ℕ). sets (sets (set l i v) (suc i) vs) k ws) (suc-add i (length vs) ∙ sym (add-suc i (length vs)))
 
+-- one place of the block is written, and the rest of it is left to write: the turn of a loop
+pub sets-step : {A : Type 0} (vs l : List A) (i j : ℕ) (none : A) → j < length vs → sets l i (drop j vs) ≡ sets (set l i (get_or vs j none)) (i + 1) (drop (j + 1) vs)
+sets-step vs l i j none h = rw (add-one i, add-one j, drop-cons vs j none h) refl
+
 -- past the end nothing is written
 pub sets-past : {A : Type 0} (vs l : List A) (i : ℕ) → length l ≤ i → sets l i vs ≡ l
 sets-past [] l i h = refl
 sets-past (v ∷ vs) l i h = rw (set_out l i v h) (sets-past vs l (suc i) (omega arith))
+
+-- the loop that writes a block from place `at` on: the rest of it, from value k on, is left to write
+pub record Putting {A : Type 0} (start : List A) (at : ℕ) (block l : List A) (k : ℕ) : Type 0 where
+  pub size : length l ≡ length start
+  pub rest : sets start at block ≡ sets l (at + k) (drop k block)
+
+module _ {A : Type 0} {start : List A} {at : ℕ} {block : List A} where
+  pub putting-start : Putting start at block start 0
+  putting-start = record { size = refl; rest = ap (λ (i : ℕ). sets start i block) (sym (add-zero at)) }
+
+  module _ {l : List A} {k : ℕ} (p : Putting start at block l k) where
+    pub putting-turn : (none : A) → k < length block → Putting start at block (set l (at + k) (get_or block k none)) (k + 1)
+    putting-turn none h =
+        let next : at + k + 1 ≡ at + (k + 1) = omega arith in
+        record {
+          size = length-set l (at + k) (get_or block k none) ∙ p.size;
+          rest = p.rest ∙ sets-step block l (at + k) k none h ∙ ap (λ (i : ℕ). sets (set l (at + k) (get_or block k none)) i (drop (k + 1) block)) next;
+        }
+
+    -- the block is written, or the end is met
+    pub putting-end : min (length block) (length start - at) ≤ k → sets start at block ≡ l
+    putting-end h = go (dec_le (length block) (length start - at))
+      where
+        go : Dec (length block ≤ length start - at) → sets start at block ≡ l
+        go (yes g) =
+            let m : min (length block) (length start - at) ≡ length block = min-eq_left g in
+            p.rest ∙ ap (λ (b : List A). sets l (at + k) b) (drop_of_length-le block (omega (arith, h, m)))
+        go (no g) =
+            let m : min (length block) (length start - at) ≡ length start - at = min-eq_right (omega (arith, g)) in
+            p.rest ∙ sets-past (drop k block) l (at + k) (omega (arith, p.size, h, m))
 
 -- no more of a block is written than there is room for
 pub sets-cut : {A : Type 0} (vs l : List A) (i k : ℕ) → k ≡ length l - i → sets l i (take k vs) ≡ sets l i vs
@@ -75,6 +110,13 @@ sets-before (v ∷ vs) l n i h = sets-before vs (set l i v) n (suc i) (omega ari
 pub sets_behind : (vs l : List ℕ) (n i : ℕ) → i + length vs ≤ n → drop n (sets l i vs) ≡ drop n l
 sets_behind [] l n i h = refl
 sets_behind (v ∷ vs) l n i h = sets_behind vs (set l i v) n (suc i) (omega arith) ∙ drop-set-lt n l i v (omega arith)
+
+-- a block written over another of its length
+pub sets-again : (vs ws l : List ℕ) → length vs ≡ length ws → length ws ≤ length l → sets (sets l 0 vs) 0 ws ≡ sets l 0 ws
+sets-again vs ws l e h =
+    sets-eq ws (sets l 0 vs) 0 (omega (arith, h, length-sets l 0 vs))
+    ∙ ap (λ (r : List ℕ). ws ++ r) (sets_behind vs l (0 + length ws) 0 (omega (arith, e)))
+    ∙ sym (sets-eq ws l 0 (omega (arith, h)))
 
 -- ---- zeros
 

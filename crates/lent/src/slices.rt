@@ -35,8 +35,9 @@ pub fn put_all<T: Copy>(out: &mut [T], at: usize, block: &[T])
     ensures { out.new ≡ sets out.old at block.now }
 {
     if at < out.len() {
-        let len = block.len().min(out.len() - at);
-        out[at..at + len].copy_from_slice(&block[..len]);
+        for k in 0..block.len().min(out.len() - at) {
+            out[at + k] = block[k];
+        }
     }
 }
 

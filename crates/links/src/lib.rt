@@ -5,8 +5,8 @@
 
 ghost use Rattle.std.specs.Prelude.{◌≡◌, ◌≤◌};
 ghost use Rattle.std.proofs.lemmas.List.Edits.{sets};
-ghost use Rattle.as5506.specs.Tables.{letter_u, letter_e, count, present};
-ghost use Rattle.lent.specs.Model.{model};
+ghost use Rattle.as5506.specs.Tables.{Tables as TheTables, letter_u, letter_e, count, present};
+ghost use Rattle.lent.specs.Model.{model, with_packages, with_groups};
 ghost use Rattle.columns.specs.Reference.{ref_of};
 ghost use Rattle.links.specs.Links.{link_of, link_in, extends_link, inverse_link, nested_link, links_to, LinkedInto};
 
@@ -99,18 +99,21 @@ impl Linker<'_, '_> {
     }
 }
 
-// The link of a reference that is asked from the package named `from`; `UNFOUND` where it names no group type.
+// The link of a reference that is asked from the package named `from`; `UNFOUND` where it names no group type. The same of every model that has these
+// packages, whatever its other tables hold.
 pub fn link(m: &Tables, from: u32, reference: Reference) -> u32
     requires { count (model m.now) letter_u ≤ 4096 }
-    ensures { result ≡ link_of (model m.now) from (ref_of reference) }
+    ensures value { result ≡ link_of (model m.now) from (ref_of reference) }
+    ensures others { (o : TheTables) → result ≡ link_of (with_packages (model m.now) o) from (ref_of reference) }
 {
     Linker { m }.link(from, reference)
 }
 
-// Writes the links of all group types and their features.
+// Writes the links of all group types and their features: the same of every model that has these packages and E rows, whatever its other tables hold.
 pub fn link_groups(m: &Tables, nested: &mut [u32], extends: &mut [u32], inverse: &mut [u32])
     requires { count (model m.now) letter_u ≤ 4096 }
-    ensures { LinkedInto (model m.now) nested.old extends.old inverse.old nested.new extends.new inverse.new }
+    ensures linked { LinkedInto (model m.now) nested.old extends.old inverse.old nested.new extends.new inverse.new }
+    ensures others { (o : TheTables) → LinkedInto (with_groups (model m.now) o) nested.old extends.old inverse.old nested.new extends.new inverse.new }
 {
     let linker = Linker { m };
     linker.link_types(extends, inverse);

@@ -3,8 +3,9 @@
 use mathlib.Core.Bool.{Bool, false}
 use mathlib.Core.Path.{◌≡◌, subst}
 use mathlib.Core.List.{List, [], ◌∷◌, ◌++◌}
-use Rattle.std.specs.Prelude.{Option, None, Some}
-use Prim.Native.Nat.{ℕ, ◌*◌, ◌≤◌}
+use Rattle.std.specs.Prelude.{Option, None, Some, Result, Ok}
+use Prim.Native.Nat.{ℕ, ◌*◌, ◌/◌, ◌≤◌}
+use native.Mathlib.Nat.{div-mul-le_self, mul-le-mul_right, le_trans}
 use native.Mathlib.Omega.{arith}
 use lib.Dec.{T, ltb, nltb→le}
 use lib.ListN.{length, length-replicate}
@@ -12,6 +13,7 @@ use Rattle.as5506.specs.Lists.{is_nil, zeros}
 use Rattle.as5506.specs.Tables.{Tables}
 use Rattle.as5506.specs.Names.{Comparison}
 use Rattle.as5506.specs.Answers.{Refusal, refusal, nowhere, Answer, given, refused, fault, unless_faults}
+use Rattle.as5506.specs.declared.Refusal.{Refusal as Told}
 use Rattle.as5506.specs.Groups.{Feature}
 use Rattle.as5506.specs.GroupList.{GroupConnection, group_connections, overrun, Match, matches, match_row, rows_matched}
 use Rattle.as5506.specs.Tracing.{largest_limit}
@@ -21,9 +23,11 @@ use Rattle.as5506.specs.Layout.{links_in, row_numbers, diag_numbers, room_in}
 use Rattle.as5506.specs.Program.{rows_lent, names_lent, room as room_lent}
 use Rattle.as5506.proofs.Laws.{All, all-each-of, nil-left, nil-right, nil-when}
 use Rattle.as5506.proofs.Back.{ShortPath, ShortRow}
+use Rattle.as5506.proofs.Answers.{handed-ok}
 use Rattle.as5506.proofs.Allowed.{allowed}
 use Rattle.as5506.proofs.Output.{list-short}
-use Rattle.listing.specs.Answer.{Outputs, outputs, answer_for}
+use Rattle.listing.specs.declared.Both.{Both}
+use Rattle.listing.specs.Answer.{listed, Outputs, outputs, answer_for, BothInto}
 
 -- ---- what holds of an answer that is given
 
@@ -141,6 +145,27 @@ group_room o = room_in (length o.group-rows) (length o.group-diags)
 
 pub fit : (same : Comparison) (k : ℕ) (m : Tables) (o : Outputs) → Holds (BothFit (traced_room o) (group_room o)) (answer_for same k m o)
 fit same k m o = both-fit same k (links_in (length o.links)) (traced_room o) (group_room o) (length o.names) m
+
+within : (n w k : ℕ) → k ≤ n / w → k * w ≤ n
+within n w k h = le_trans (mul-le-mul_right w h) (div-mul-le_self n w)
+
+-- rows and diagnostics, as many as the answer counts, lie within their outputs
+pub record Within (o : Outputs) (b : Both) : Type 0 where
+  pub rows : b.traced.rows * row_numbers ≤ length o.rows
+  pub diags : b.traced.diagnostics * diag_numbers ≤ length o.diags
+  pub group-rows : b.group.rows * row_numbers ≤ length o.group-rows
+  pub group-diags : b.group.diagnostics * diag_numbers ≤ length o.group-diags
+
+pub counts-within : (same : Comparison) (k : ℕ) (m : Tables) (o : Outputs) (z : Result Both Told) (p : Outputs) → BothInto same k m o z p → (b : Both) → z ≡ Ok b → Within o b
+counts-within same k m o z p h b e =
+    let l = handed-ok listed z (answer_for same k m o) h.answer b e in
+    let f = holds (BothFit (traced_room o) (group_room o)) (answer_for same k m o) (fit same k m o) l.0 l.1 in
+    record {
+      rows = within (length o.rows) row_numbers b.traced.rows (rw l.2 f.traced.rows);
+      diags = within (length o.diags) diag_numbers b.traced.diagnostics (rw l.2 f.traced.diags);
+      group-rows = within (length o.group-rows) row_numbers b.group.rows (rw l.2 f.group.rows);
+      group-diags = within (length o.group-diags) diag_numbers b.group.diagnostics (rw l.2 f.group.diags);
+    }
 
 -- ---- the outputs that a program lends
 

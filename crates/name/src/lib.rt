@@ -2,7 +2,7 @@
 // Definitions: specs/Names.antt, Lists.antt and Tables.antt of as5506, and specs/Pattern.antt and Reading.antt.
 #![tactic(auto)]
 
-ghost use Rattle.std.specs.Prelude.{◌≡◌, ◌&&◌, ◌-◌, length, get_or};
+ghost use Rattle.std.specs.Prelude.{◌≡◌, ◌&&◌, ◌-◌, ◌==◌, length, get_or};
 ghost use Rattle.std.proofs.lemmas.List.Edits.{sets};
 ghost use Rattle.as5506.specs.Lists.{keep, same_bytes, has};
 ghost use Rattle.as5506.specs.Tables.{name_in, name_of, present};
@@ -53,12 +53,38 @@ pub fn same_bytes(a: &[u8], b: &[u8]) -> bool
     a.len() == b.len() && last_byte(a) == last_byte(b) && a == b
 }
 
-// Whether two names are equal folded, in the same order.
+// Whether two bytes are equal folded. Most that are, are equal as they stand.
+fn same_byte(a: u8, b: u8) -> bool
+    ensures { result ≡ (fold_byte a == fold_byte b) }
+{
+    a == b || fold(a) == fold(b)
+}
+
+// Whether two names of one length are equal folded: from both ends at once to the middle, since names that differ often begin alike, and often end alike.
+fn same_to_the_middle(s: &[u8], t: &[u8]) -> bool
+    requires { length s.now ≡ length t.now }
+    ensures { result ≡ same_folded s.now t.now }
+{
+    let len = s.len();
+    for i in 0..len - len / 2 {
+        let back = len - 1 - i;
+        if !same_byte(s[back], t[back]) {
+            return false;
+        }
+        if !same_byte(s[i], t[i]) {
+            return false;
+        }
+    }
+    true
+}
+
+// Whether two names are equal folded. Lengths first, then the last byte, which tells most names apart; so much stands where it is called.
+#[inline(always)]
 #[tactic(auto, using(crate::proofs::Compare::folded_lengths_differ, crate::proofs::Compare::folded_lasts_differ))]
 pub fn same_folded(s: &[u8], t: &[u8]) -> bool
     ensures { result ≡ same_folded s.now t.now }
 {
-    s.len() == t.len() && fold(last_byte(s)) == fold(last_byte(t)) && s.eq_ignore_ascii_case(t)
+    s.len() == t.len() && same_byte(last_byte(s), last_byte(t)) && same_to_the_middle(s, t)
 }
 
 // Whether a byte may stand in a name: a tab, or 20 to 7E hexadecimal.
@@ -169,6 +195,7 @@ pub fn same_names(m: &Tables, j: u32, k: u32) -> bool
 }
 
 // Whether names j and k are equal folded. A name is compared with itself at once.
+#[inline(always)]
 #[tactic(auto, using(crate::proofs::Compare::folded_equal))]
 pub fn same_folded_names(m: &Tables, j: u32, k: u32) -> bool
     ensures { result ≡ same_folded (name_of (model m.now) j) (name_of (model m.now) k) }

@@ -7,6 +7,8 @@ use lent::Tables;
 use name::ConnectionPattern;
 use std::io::Read;
 
+// The most cases of a file.
+const CASES: usize = 100000;
 // How long a text may be.
 const BYTES: usize = 100;
 // How long an output is.
@@ -147,5 +149,5 @@ fn replay_case(rt: &impl Print, input: &mut impl Read) {
 }
 
 fn main(rt: HostRuntime) {
-    cases::replay_all(&mut rt.stdin(), |input| replay_case(&rt, input));
+    cases::replay_all(&mut rt.stdin(), CASES, |input| replay_case(&rt, input));
 }

@@ -40,13 +40,18 @@ read-enough l s = go (dec_le (length s) 16385)
         too_long l (take 16385 s) (omega (arith, n)) ∙ sym (too_long l s (omega (arith, h)))
 
 -- THE FIRST 16,385 BYTES DECIDE what a program writes
-enough : (task : Task) (n : ℕ) (s : List ℕ) → program task n (take 16385 s) ≡ program task n s
+pub enough : (task : Task) (n : ℕ) (s : List ℕ) → program task n (take 16385 s) ≡ program task n s
 unfolding program on_sheet
 enough task n s = ap (λ (a : Answer Tables). what_fits n (of_reading (task_text task n) a)) (read-enough lent s)
 
 -- ---- each program is that of its task, with 8,192 bytes of text
 
-conlist-is : (limit : Option ℕ) (k : ℕ) → k ≡ limit_or limit → (s : List ℕ) → program (Conlist Ported k) text_lent s ≡ conlist limit s
+pub list-is : (k n : ℕ) (s : List ℕ) → what_fits n (on_sheet (Conlist Ported k) n s) ≡ conlist_within k n s
+unfolding on_sheet conlist_within comparison
+list-is k n s = refl
+
+-- CONLIST is the program of its task
+pub conlist-is : (limit : Option ℕ) (k : ℕ) → k ≡ limit_or limit → (s : List ℕ) → program (Conlist Ported k) text_lent s ≡ conlist limit s
 unfolding program on_sheet conlist_within conlist comparison
 conlist-is limit k e s = rw e
 
@@ -65,7 +70,7 @@ mode-is k s = refl
 -- ---- what is written
 
 -- the text of a sheet in an output of n bytes: the sheet is the first `got` of an array of 16,385 bytes
-writes : (task : Task) (n : ℕ) (read : List ℕ) (got : ℕ) (sheet text : List ℕ) (z : ℕ) (text' : List ℕ) → length read ≡ 16385 → sheet ≡ take got read
+pub writes : (task : Task) (n : ℕ) (read : List ℕ) (got : ℕ) (sheet text : List ℕ) (z : ℕ) (text' : List ℕ) → length read ≡ 16385 → sheet ≡ take got read
     → length text ≡ n → length text' ≡ length text → Shown (on_sheet task (length text) sheet) text z text' → Writes (program task n) read got z text'
 unfolding program
 writes task n read got sheet text z text' r w e k h =

@@ -26,7 +26,7 @@ module _ {A : Type 0} {w : ℕ} {f : A → List ℕ} where
   -- ---- what a call that wrote all says
 
   module _ {l : List A} {out : List ℕ} {count r : ℕ} where
-    written_all : {out' : List ℕ} → r ≡ count + length l → r ≤ length out / w → length (each f l) ≡ length l * w → out' ≡ sets out (count * w) (each f l)
+    pub written_all : {out' : List ℕ} → r ≡ count + length l → r ≤ length out / w → length (each f l) ≡ length l * w → out' ≡ sets out (count * w) (each f l)
         → Written w f l out count (Some r) out'
     unfolding Tells
     written_all e h s u = record { tells = (e, h); whole = rw (all_fit w l out count r e h) s; holds = rw (all_fit w l out count r e h) u }
@@ -42,7 +42,7 @@ module _ {A : Type 0} {w : ℕ} {f : A → List ℕ} where
       pub holds-all : out' ≡ sets out (count * w) (each f l)
       holds-all = v.holds ∙ ap (λ (t : List A). sets out (count * w) (each f t)) (all_fit w l out count r counts.0 counts.1)
 
-      same-room : length out' / w ≡ length out / w
+      pub same-room : length out' / w ≡ length out / w
       same-room = ap (λ (n : ℕ). n / w) (ap length holds-all ∙ length-sets out (count * w) (each f l))
 
   -- what a call that found no room says
@@ -52,11 +52,11 @@ module _ {A : Type 0} {w : ℕ} {f : A → List ℕ} where
 
   -- ---- nothing, and one block
 
-  written_none : (out : List ℕ) (count : ℕ) → count ≤ length out / w → Written w f [] out count (Some count) out
+  pub written_none : (out : List ℕ) (count : ℕ) → count ≤ length out / w → Written w f [] out count (Some count) out
   written_none out count h = written_all (sym (add-zero count)) h (sym (zero-mul w)) refl
 
   -- there is no room for a single one
-  written_over : (a : A) (out : List ℕ) (count : ℕ) → length out / w ≤ count → Written w f (a ∷ []) out count None out
+  pub written_over : (a : A) (out : List ℕ) (count : ℕ) → length out / w ≤ count → Written w f (a ∷ []) out count None out
   unfolding Tells fitting
   written_over a out count h =
       let z : length out / w - count ≡ 0 = omega (arith, h) in

@@ -1,11 +1,13 @@
 // `resolve_classifier` (resolver.rs) over lent tables of any contents: past a table 0 is read, and a name past the names is empty, as in the definition.
+// Its contract holds whatever stands in the tables that it does not read.
 #![tactic(auto)]
 
 ghost use Rattle.std.specs.Prelude.{◌||◌, cond, ◌≡◌, ◌+◌, ◌*◌, ◌/◌, ◌<◌, ◌≤◌, Some, None, eqb, length, get_or};
 ghost use Rattle.as5506.specs.Lists.{first_of};
+ghost use Rattle.as5506.specs.Tables.{Tables as TheTables};
 ghost use Rattle.as5506.specs.Names.{key};
 ghost use Rattle.as5506.specs.Resolve.{package_named, type_named, impl_named, group_named, renames_named, in_package, in_found, replaced_by, with_package, from_imports, renames_for, without_package, resolve};
-ghost use Rattle.lent.specs.Model.{model};
+ghost use Rattle.lent.specs.Model.{model, with_packages};
 ghost use Rattle.columns.specs.Reference.{ref_of};
 ghost use Rattle.resolver.specs.Keys.{has_part, has_key, rows_with_key};
 ghost use Rattle.resolver.specs.Found.{found, renamed_number};
@@ -276,10 +278,13 @@ fn without_package(m: &Tables, asking: usize, from: u32, reference: Reference) -
     with_package(m, Some(asking), from, target)
 }
 
-// What a reference names, asked from the package named `from`.
+// What a reference names, asked from the package named `from`; the same of every model that has these packages, whatever its other tables hold.
 #[tactic(auto, using(crate::proofs::Steps::resolve_steps))]
 pub fn resolve_classifier(m: &Tables, from: u32, reference: Reference) -> Option<Classifier>
-    ensures { result ≡ found (model m.now) (resolve (model m.now) from (ref_of reference)) }
+    ensures value { result ≡ found (model m.now) (resolve (model m.now) from (ref_of reference)) }
+    ensures others { (o : TheTables) →
+        let w : TheTables = with_packages (model m.now) o in
+        result ≡ found w (resolve w from (ref_of reference)) }
 {
     let asking = find_package(m, from);
     if reference.package != MISSING {

@@ -3,8 +3,8 @@
 --     PairLaws   the rows of pairs
 --     DiagLaws   diagnostics
 --     EndLaws    what the ends of a connection say of it
---     Noting     diagnostics that are written until one finds no room
+--     Fronts     what is written of the first X rows, and of one more
 mod PairLaws
 mod DiagLaws
 mod EndLaws
-mod Noting
+mod Fronts

@@ -51,11 +51,17 @@ module _ (k : ℕ) (h : k < letter_count) where
   pub code-byte : get_or letters k 0 ≡ letter_byte (letter_at k)
   code-byte = entry letter_byte k h
 
+pub width_small : (l : Letter) → width l < 10
+width_small = each-letter (λ l. width l < 10) (omega arith) (omega arith) (omega arith) (omega arith) (omega arith) (omega arith) (omega arith) (omega arith) (omega arith) (omega arith) (omega arith) (omega arith)
+
 -- a line of a letter other than N has more bytes than its row has numbers
 pub width-bytes : (l : Letter) → (rank l ≡ 0 → ⊥) → width l ≤ line_bytes (columns l)
 width-bytes =
     each-letter (λ l. (rank l ≡ 0 → ⊥) → width l ≤ line_bytes (columns l))
     (λ z. absurd (z refl)) (λ z. omega arith) (λ z. omega arith) (λ z. omega arith) (λ z. omega arith) (λ z. omega arith) (λ z. omega arith) (λ z. omega arith) (λ z. omega arith) (λ z. omega arith) (λ z. omega arith) (λ z. omega arith)
+
+pub bytes-few : (l : Letter) → line_bytes (columns l) < 100
+bytes-few = each-letter (λ l. line_bytes (columns l) < 100) (omega arith) (omega arith) (omega arith) (omega arith) (omega arith) (omega arith) (omega arith) (omega arith) (omega arith) (omega arith) (omega arith) (omega arith)
 
 -- of every letter but N the row has the numbers of its fields
 pub cell-count : (k : ℕ) → 0 < k → k < letter_count → row_cells (columns (letter_at k)) ≡ get_or widths k 0

@@ -106,7 +106,7 @@ module _ (s : List ℕ) (stop : ℕ) (turn : Turn letter_n s stop) where
   unfolding placed
   placed_split used = ap (λ (ls : List (List ℕ)). placed used (map line_name ls)) (lines_left letter_n s stop turn) ∙ rw name-bytes
 
-none-placed : (used : ℕ) → placed used [] ≡ []
+pub none-placed : (used : ℕ) → placed used [] ≡ []
 unfolding placed
 none-placed used = refl
 

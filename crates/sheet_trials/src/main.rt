@@ -7,6 +7,9 @@ use as5506::Refusal;
 use sheet::Counts;
 use std::io::Read;
 
+// The most cases of a file.
+const CASES: usize = 100000;
+
 // How long the slices are of which parts are lent.
 const BYTES: usize = 16400;
 
@@ -103,5 +106,5 @@ fn replay_case(rt: &impl Print, input: &mut impl Read) {
 }
 
 fn main(rt: HostRuntime) {
-    cases::replay_all(&mut rt.stdin(), |input| replay_case(&rt, input));
+    cases::replay_all(&mut rt.stdin(), CASES, |input| replay_case(&rt, input));
 }

@@ -7,6 +7,8 @@ use as5506::{LETTER_COUNT, Refusal};
 use lent::Tables;
 use std::io::Read;
 
+// The most cases of a file.
+const CASES: usize = 100000;
 // How long a byte table may be, and all tables of numbers together.
 const BYTES: usize = 1000;
 
@@ -36,32 +38,45 @@ fn read_sizes(input: &mut impl Read) -> [Size; LETTER_COUNT] {
     sizes
 }
 
-// Reads the given numbers of a table, with the letter in front and the end of the line, into its part of the store.
-fn read_table(input: &mut impl Read, table: &mut [u32], given: u32) {
+// Reads the given numbers of a table, with the letter in front and the end of the line, into the store from a place on; one that finds no place there is lost.
+fn read_table(input: &mut impl Read, store: &mut [u32], from: usize, given: u32) {
     cases::byte(input);
-    for place in table.iter_mut().take(given as usize) {
-        *place = cases::number(input);
+    for k in 0..given as usize {
+        lent::put(store, from.saturating_add(k), cases::number(input));
     }
     cases::byte(input);
 }
 
+// Where a table ends that begins at a place.
+fn end_of(from: usize, size: Size) -> usize {
+    from.saturating_add(size.all as usize)
+}
+
 // Reads all tables, one behind the other.
 fn read_tables(input: &mut impl Read, store: &mut [u32], sizes: &[Size; LETTER_COUNT]) {
-    let mut rest = store;
+    let mut from = 0;
     for size in sizes {
-        let end = rest.len().min(size.all as usize);
-        let (table, behind) = rest.split_at_mut(end);
-        read_table(input, table, size.given);
-        rest = behind;
+        read_table(input, store, from, size.given);
+        from = end_of(from, *size);
     }
+}
+
+// The numbers of the store from one place to another; none where it does not hold them all.
+fn table_from(store: &[u32], from: usize, to: usize) -> &[u32] {
+    if store.len() < to || to < from {
+        return &store[..0];
+    }
+    &store[from..to]
 }
 
 // The answer for the byte table and the tables in the store.
 fn answer_for(bytes: &[u8], store: &[u32], sizes: &[Size; LETTER_COUNT]) -> Result<(), Refusal> {
     let mut tables: [&[u32]; LETTER_COUNT] = [&[]; LETTER_COUNT];
-    let mut rest = store;
+    let mut from = 0;
     for (k, size) in sizes.iter().enumerate() {
-        (tables[k], rest) = rest.split_at(rest.len().min(size.all as usize));
+        let to = end_of(from, *size);
+        tables[k] = table_from(store, from, to);
+        from = to;
     }
     let [n, c, f, x, p, i, t, q, u, e, r, m] = tables;
     tables::check_tables(&Tables {
@@ -94,5 +109,5 @@ fn replay_case(rt: &impl Print, input: &mut impl Read) {
 }
 
 fn main(rt: HostRuntime) {
-    cases::replay_all(&mut rt.stdin(), |input| replay_case(&rt, input));
+    cases::replay_all(&mut rt.stdin(), CASES, |input| replay_case(&rt, input));
 }

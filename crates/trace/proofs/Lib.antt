@@ -1,6 +1,6 @@
--- Laws of tracing.
+-- Laws of tracing. For callers: Scan.
 --
 --     Scan   the steps that are left, row by row, and how chains begin by them
 --     Rows   the rows of chains behind a path
-mod Scan
+pub mod Scan
 mod Rows

@@ -56,7 +56,7 @@ module _ (q : Steps) where
 
   -- ---- THE STEPS FROM THE FIRST ROW ON ARE THE DEFINITION'S
 
-  steps-from-start : steps_from q 0 ≡ steps (same_in q.tree.now) (tables_in q) (side_in q) q.component q.feature
+  pub steps-from-start : steps_from q 0 ≡ steps (same_in q.tree.now) (tables_in q) (side_in q) q.component q.feature
   unfolding steps_from is_step steps rows_naming
   steps-from-start =
       rw (sub-zero (x_count (tables_in q)))

@@ -12,4 +12,4 @@ pub link-requires : goal.link-requires
 link-requires c = few_types _ _ c.check_tables.ensures c.in_ok-check_tables.was
 
 pub returns : goal.returns
-returns c = expands _ _ _ _ _ _ c.check_tables.ensures c.in_ok-check_tables.was _ _ _ c.link_groups.ensures _ c.link.ensures _ _ c.write_features.ensures
+returns c = expands _ _ _ _ _ _ c.check_tables.ensures c.in_ok-check_tables.was _ _ _ c.link_groups.ensures.linked _ c.link.ensures.value _ _ c.write_features.ensures

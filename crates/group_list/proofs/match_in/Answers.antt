@@ -18,7 +18,7 @@ match_connections-requires g c =
     let links = length-replicate {A = ℕ} g.row.ROWS 0 in
     let names : _ ≡ count (of_tree c.args.tree.now) letter_n = front (count (of_tree c.args.tree.now) letter_n) g.row.NAMES k.names in
     record {
-      linked = into-linked (of_tree c.args.tree.now) _ _ _ _ _ _ (record { fits-nested = rw links k.declared; fits-extends = rw links k.types; fits-inverse = rw links k.types }) c.link_groups.ensures;
+      linked = into-linked (of_tree c.args.tree.now) _ _ _ _ _ _ (record { fits-nested = rw links k.declared; fits-extends = rw links k.types; fits-inverse = rw links k.types }) c.link_groups.ensures.linked;
       names = omega (arith, names);
       few = omega (arith, names, k.names, k.few-places);
       room = omega (arith, names, k.names, k.features, length-replicate {A = ℕ} g.row.KEPT 0);

@@ -1,38 +1,41 @@
 -- `semantic::list::list_all` meets its contract. Assumes nothing.
 use mathlib.Core.Path.{refl, sym}
-use Rattle.std.proofs.Common.{rules}
+use Rattle.std.specs.Prelude.{◌+◌, ◌<◌}
 use native.Mathlib.Omega.{arith}
 use Rattle.as5506.specs.Tables.{x_count}
 use Rattle.as5506.specs.Tracing.{traced, traced_diags}
-use Rattle.as5506.proofs.Scans.{span-next, span-done}
 use Rattle.child_links.specs.Trees.{of_tree}
-use Rattle.output.proofs.Writing.{writing_start, wrote_as, each_turn, each_full, each_end}
-use Rattle.semantic.proofs.Noting.{noting_start, noting_end, noting_turn, noting_rest}
+use Rattle.output.proofs.Writing.{wrote_none, wrote_as}
+use Rattle.semantic.proofs.Fronts.{front_then, front_full, front_whole, front_end, ends_rows}
 use Rattle.semantic.proofs.list.list_all.Goals.{then-is_some, else-is_some}
 use Rattle.semantic.proofs.list.list_all.Goals as goal
 
 pub loop-row-init : goal.loop-row-init
-unfolding traced traced_diags
-loop-row-init c = record { rows = writing_start (search rules); diagnostics = noting_start (search rules) }
+loop-row-init c = record { rows = wrote_none _ refl; diagnostics = wrote_none _ refl }
 
 pub returns-in_err-trace : goal.returns-in_err-trace
+unfolding traced
 returns-in_err-trace c =
-    rw c.from_residual.ensures
-    (each_full _ c.loop-row.invariant.rows (span-next c.loop-row.row (x_count (of_tree c.args.tree.now)) (omega arith)) (wrote_as c.trace.ensures c.ends-ends.ensures.rows) c.in_err-trace.was refl)
+    let is_row : c.loop-row.row < x_count (of_tree c.args.tree.now) = omega arith in
+    let over = front_then _ c.loop-row.row c.loop-row.invariant.rows refl (wrote_as c.trace.ensures c.ends-ends.ensures.rows) c.in_err-trace.was in
+    rw c.from_residual.ensures (
+      front_whole _ (c.loop-row.row + 1) over refl (x_count (of_tree c.args.tree.now)) (omega arith),
+      record { row = c.loop-row.row; ends = ends_rows is_row c.loop-row.invariant.rows over; told = c.loop-row.noted; wrote = c.loop-row.invariant.diagnostics },
+    )
 
 pub loop-row-preserved : goal.loop-row-preserved
 loop-row-preserved c =
-    let next = span-next c.loop-row.row (x_count (of_tree c.args.tree.now)) (omega arith) in
     record {
-      rows = each_turn _ c.loop-row.invariant.rows next (wrote_as c.trace.ensures c.ends-ends.ensures.rows) c.in_ok-trace.was;
+      rows = front_then _ c.loop-row.row c.loop-row.invariant.rows refl (wrote_as c.trace.ensures c.ends-ends.ensures.rows) c.in_ok-trace.was;
       diagnostics = elim c.if-is_some.branch [
         | then-is_some w ↦ rw (w.diagnostics-is, w.noted-is)
-            (noting_turn _ c.loop-row.invariant.diagnostics next (sym w.if-is_some.ensures) (wrote_as w.diagnose-noted.ensures c.ends-ends.ensures.diagnostics))
-        | else-is_some w ↦ rw (w.diagnostics-is, w.noted-is) (noting_rest _ c.loop-row.invariant.diagnostics next (sym w.if-is_some.ensures))
+            (front_then _ c.loop-row.row c.loop-row.invariant.diagnostics (sym w.if-is_some.ensures) (wrote_as w.diagnose-noted.ensures c.ends-ends.ensures.diagnostics) refl)
+        | else-is_some w ↦ rw (w.diagnostics-is, w.noted-is) (front_full _ c.loop-row.row c.loop-row.invariant.diagnostics (sym w.if-is_some.ensures))
       ];
     }
 
 pub returns : goal.returns
+unfolding traced traced_diags
 returns c =
-    let done = span-done c.loop-row.row (x_count (of_tree c.args.tree.now)) (omega arith) in
-    (each_end _ c.loop-row.invariant.rows done, noting_end _ _ c.loop-row.invariant.diagnostics done)
+    let n = x_count (of_tree c.args.tree.now) in
+    (front_end _ c.loop-row.row c.loop-row.invariant.rows n (omega arith), front_end _ c.loop-row.row c.loop-row.invariant.diagnostics n (omega arith))
