@@ -56,7 +56,9 @@ impl Renamed {
 
 // ---- rows and keys
 
-// Whether a field is what a key asks for. "Keys are folded". By cases: each kind of part asks something else.
+// Whether a field is what a key asks for. "Keys are folded". By cases: each kind of part asks something else. (It stands where it is called: once for
+// each field of each row that is searched.)
+#[inline(always)]
 #[tactic(auto, unfolding(crate::specs::Keys::has_part))]
 fn has_part(m: &Tables, field: u32, part: Part) -> bool
     ensures { result ≡ has_part (model m.now) field part }
